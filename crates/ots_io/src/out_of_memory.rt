@@ -1,0 +1,18 @@
+use std::alloc::{AllocError, AllocFailed};
+
+/// Memory ran out. It is the one answer without a stated cause: a call that takes memory may give
+/// it in place of any other.
+#[derive(Clone, Copy, Debug, PartialEq, Eq)]
+pub struct OutOfMemory;
+
+impl From<AllocError> for OutOfMemory {
+    fn from(_: AllocError) -> Self {
+        OutOfMemory
+    }
+}
+
+impl<T: Drop> From<AllocFailed<T>> for OutOfMemory {
+    fn from(_: AllocFailed<T>) -> Self {
+        OutOfMemory
+    }
+}

@@ -1,0 +1,5 @@
+pub mod OneNumber
+pub mod ReadBack
+pub mod Fed
+pub mod Written
+pub mod Settled
