@@ -3,3 +3,5 @@ pub mod ReadBack
 pub mod Fed
 pub mod Written
 pub mod Settled
+pub mod Behind
+pub mod Parts

@@ -117,6 +117,15 @@ unfolding varuint
 varuint-nonempty n = in_bytes-nonempty 9 n
 
 -- at most ten bytes
-pub varuint-len : (n : ℕ) → length (varuint n) ≤ 10
+pub varuint_at_most_ten : (n : ℕ) → length (varuint n) ≤ 10
 unfolding varuint
-varuint-len n = in_bytes-len 9 n
+varuint_at_most_ten n = in_bytes-len 9 n
+
+-- a number below 128 * 128 has one or two
+pub varuint_at_most_two : (n : ℕ) → n < 16384 → length (varuint n) ≤ 2
+unfolding varuint
+varuint_at_most_two n small =
+    elim (cases_lt n 128) [
+      | inl low ↦ rw (in_bytes-low 8 n low) (omega arith)
+      | inr high ↦ rw (in_bytes-high 8 n high, in_bytes-low 7 (n / 128) (omega arith)) (omega arith)
+    ]

@@ -133,7 +133,7 @@ read_is (suc k) i (b ∷ bs) n used at fits e =
           high_is k i b a.0 a.1 bs n used a.3 a.4 h.0 fits.0 (read_is k (suc i) bs a.0 a.1 (omega arith) fits.1 a.2)
     ]
 
-reading_is : (bytes : List ℕ) (n used : ℕ) → AllByRecursion (λ b. b < 256) bytes → reading bytes ≡ Value n used → IsSpelledAt bytes n used
+pub reading_is : (bytes : List ℕ) (n used : ℕ) → AllByRecursion (λ b. b < 256) bytes → reading bytes ≡ Value n used → IsSpelledAt bytes n used
 unfolding reading varuint
 reading_is bytes n used fits e =
     let s = read_is 9 0 bytes n used refl fits e in

@@ -1,0 +1,7 @@
+pub mod Kind
+pub mod Uri
+pub mod NewUri
+pub mod Payload
+pub mod Attestation
+pub mod PayloadFault
+pub mod PayloadRead

@@ -1,0 +1,89 @@
+//! An attestation of a kind that is not known.
+ghost use Rattle.std.specs.Prelude.{◌≡◌, ◌<◌, ◌≤◌, length, IfOk};
+ghost use Rattle.std.specs.List.{AllByRecursion};
+ghost use Rattle.ots_attest.specs.Kind.{IsUnknown};
+ghost use Rattle.ots_attest.specs.Payload.{IsPayload};
+
+use ots_io::OutOfMemory;
+use std::alloc::{AllocError, Global};
+use std::marker::Model;
+
+/// The payload of an attestation of an unknown kind: 0 to 8192 bytes, kept unread.
+///
+/// Contracts see the list of these bytes.
+#[derive(Debug, Drop)]
+pub struct Payload {
+    bytes: Vec<u8>,
+}
+
+impl Model for Payload {
+    ghost use Rattle.std.specs.Prelude.{ℕ, List};
+    ghost use Rattle.ots_attest.specs.Payload.{IsPayload};
+
+    ghost Value = { List ℕ };
+
+    ghost view = { λ p. p.bytes.items };
+
+    ghost invariant = { λ p. IsPayload p.bytes.items };
+}
+
+impl Payload {
+    /// The bytes, 0 to 8192 of them.
+    pub fn bytes(&self) -> &[u8]
+        ensures bytes { result.now ≡ self.now }
+        ensures limits { IsPayload self.now }
+    {
+        self.bytes.as_slice()
+    }
+
+    /// The payload of these bytes.
+    pub(crate) fn new(alloc: Global, bytes: &[u8]) -> Result<Payload, AllocError>
+        requires { length bytes.now ≤ 8192 }
+        ensures { IfOk result (λ p. (p ≡ bytes.now) × IsPayload p) }
+    {
+        let bytes = Vec::from_slice(alloc, bytes)?;
+        Ok(Payload { bytes })
+    }
+
+    /// An equal payload.
+    pub fn copy(&self) -> Result<Payload, OutOfMemory>
+        ensures { IfOk result (λ copied. copied ≡ self.now) }
+    {
+        let bytes = self.bytes.clone()?;
+        Ok(Payload { bytes })
+    }
+}
+
+/// An attestation whose kind is neither Pending nor Bitcoin nor Litecoin. Its kind and payload are
+/// kept and written back unread.
+#[derive(Debug, Drop)]
+pub struct Other {
+    /// The eight bytes that name the kind.
+    pub kind: [u8; 8],
+    /// What stands behind the kind.
+    pub payload: Payload,
+    ghost unknown: { IsUnknown kind },
+}
+
+impl Other {
+    /// An equal attestation.
+    pub fn copy(&self) -> Result<Other, OutOfMemory>
+        ensures { IfOk result (λ copied. copied ≡ self.now) }
+    {
+        Ok(Other {
+            kind: self.kind,
+            payload: self.payload.copy()?,
+        })
+    }
+}
+
+/// The eight bytes of a kind.
+pub(crate) fn copy_kind(kind: &[u8; 8]) -> [u8; 8]
+    ensures copied { result ≡ kind.now }
+    ensures eight { length kind.now ≡ 8 }
+    ensures bytes { AllByRecursion (λ b. b < 256) kind.now }
+{
+    let mut copied = [0; 8];
+    copied.copy_from_slice(kind);
+    copied
+}

@@ -1,0 +1,143 @@
+//! Reading an attestation from its kind and payload.
+ghost use Rattle.std.specs.Prelude.{◌≡◌, ◌≤◌, length, Some, Ok, Err, IfOk, IfErr};
+ghost use Rattle.std.specs.List.{list_all};
+ghost use Rattle.ots_io.specs.Memory.{UnlessShort};
+ghost use Rattle.ots_varint.specs.Reading.{reading, IsSpelledAt};
+ghost use Rattle.ots_varint.specs.declared.reading.VaruintRead.TheVariants.{Value};
+ghost use Rattle.ots_attest.specs.Kind.{IsUnknown};
+ghost use Rattle.ots_attest.specs.Uri.{is_uri_byte};
+ghost use Rattle.ots_attest.specs.PayloadFault.{payload_fault, IsOf};
+ghost use Rattle.ots_attest.specs.PayloadRead.{UriGives, HeightGives, IsFault};
+ghost use Rattle.ots_attest.specs.declared.attestation.Attestation.{Attestation};
+
+use crate::attestation::{Attestation, BITCOIN, LITECOIN, PENDING};
+use crate::other::{Other, Payload, copy_kind};
+use crate::uri::{Uri, UriError};
+use ots_varint::{VaruintRead, read_varuint};
+use std::alloc::Global;
+use thiserror::Error;
+
+/// Why a payload is none of its kind.
+#[derive(Clone, Copy, Debug, PartialEq, Eq, Error)]
+pub enum PayloadError {
+    /// A URI is longer than 1000 bytes, or has a byte that is not allowed.
+    #[error("the URI is too long or has a byte that is not allowed")]
+    BadUri,
+    /// Bytes follow the URI or the height.
+    #[error("bytes follow the payload")]
+    PayloadRest,
+    /// The payload ends within its number or its URI.
+    #[error("the payload ends too early")]
+    PayloadShort,
+    /// The payload's number is not in its shortest form, or is 2^64 or more.
+    #[error("the payload's number is not in its shortest form or too large")]
+    PayloadVaruint,
+    /// Memory ran out.
+    #[error("out of memory")]
+    OutOfMemory,
+}
+
+/// The attestation of this kind and payload, which has at most 8192 bytes. It is answered exactly
+/// where there is one, and otherwise what is wrong with the payload, of which the first fault is
+/// named: first its number, then the URI's length, the bytes that are there, the URI's characters,
+/// and bytes that follow. A payload of an unknown kind has no fault.
+pub fn from_payload(
+    alloc: Global,
+    kind: [u8; 8],
+    payload: &[u8],
+) -> Result<Attestation, PayloadError>
+    requires { length payload.now ≤ 8192 }
+    ensures ok { IfOk result (λ a. IsOf kind payload.now a) }
+    ensures err { IfErr result (λ e. IsFault (payload_fault kind payload.now) e) }
+    ensures accepts { (a : Attestation) → IsOf kind payload.now a → UnlessShort PayloadError.OutOfMemory result (Ok a) }
+    ensures refuses { (e : PayloadError) → payload_fault kind payload.now ≡ Some e → UnlessShort PayloadError.OutOfMemory result (Err e) }
+{
+    read_payload(alloc, kind, payload)
+}
+
+/// The attestation of this kind and payload, or what is wrong.
+#[tactic(auto, using(crate::proofs::PayloadOrFault::not_kind), unfolding(crate::specs::PayloadFault::payload_fault))]
+fn read_payload(alloc: Global, kind: [u8; 8], payload: &[u8]) -> Result<Attestation, PayloadError>
+    requires { length payload.now ≤ 8192 }
+    ensures ok { IfOk result (λ a. IsOf kind payload.now a) }
+    ensures err { IfErr result (λ e. IsFault (payload_fault kind payload.now) e) }
+{
+    if kind == PENDING {
+        return Ok(Attestation::Pending(read_uri(alloc, payload)?));
+    }
+    if kind == BITCOIN {
+        return Ok(Attestation::Bitcoin(read_height(payload)?));
+    }
+    if kind == LITECOIN {
+        return Ok(Attestation::Litecoin(read_height(payload)?));
+    }
+    read_other(alloc, kind, payload)
+}
+
+/// The attestation of this unknown kind.
+fn read_other(alloc: Global, kind: [u8; 8], payload: &[u8]) -> Result<Attestation, PayloadError>
+    requires unknown { IsUnknown kind }
+    requires few { length payload.now ≤ 8192 }
+    ensures ok { IfOk result (λ a. IsOf kind payload.now a) }
+    ensures err { IfErr result (λ e. e ≡ PayloadError.OutOfMemory) }
+{
+    let kind = copy_kind(&kind);
+    match Payload::new(alloc, payload) {
+        Ok(payload) => Ok(Attestation::Unknown(Other { kind, payload })),
+        Err(_) => Err(PayloadError::OutOfMemory),
+    }
+}
+
+/// The URI behind its length.
+fn read_uri(alloc: Global, payload: &[u8]) -> Result<Uri, PayloadError>
+    ensures { UriGives payload.now (reading payload.now) result }
+{
+    match read_varuint(payload) {
+        VaruintRead::Value(length, used) => uri_behind(alloc, payload, length, used),
+        VaruintRead::Short => Err(PayloadError::PayloadShort),
+        VaruintRead::NonMinimal | VaruintRead::TooLarge => Err(PayloadError::PayloadVaruint),
+    }
+}
+
+/// The URI of this length, behind the `used` bytes that spell the length.
+fn uri_behind(alloc: Global, payload: &[u8], length: u64, used: usize) -> Result<Uri, PayloadError>
+    requires { IsSpelledAt payload.now length used }
+    ensures { UriGives payload.now (Value length used) result }
+{
+    if length > 1000 {
+        return Err(PayloadError::BadUri);
+    }
+    let end = used + length as usize;
+    if payload.len() < end {
+        return Err(PayloadError::PayloadShort);
+    }
+    let Ok(text) = str::from_utf8(&payload[used..end]) else {
+        return Err(PayloadError::BadUri);
+    };
+    if Uri::check(text.as_bytes()).is_err() {
+        return Err(PayloadError::BadUri);
+    }
+    if end < payload.len() {
+        return Err(PayloadError::PayloadRest);
+    }
+    match Uri::new(alloc, text) {
+        Ok(uri) => Ok(uri),
+        Err(_) => Err(PayloadError::OutOfMemory),
+    }
+}
+
+/// The height, which is the whole payload.
+fn read_height(payload: &[u8]) -> Result<u64, PayloadError>
+    ensures { HeightGives payload.now (reading payload.now) result }
+{
+    match read_varuint(payload) {
+        VaruintRead::Value(height, used) => {
+            if used < payload.len() {
+                return Err(PayloadError::PayloadRest);
+            }
+            Ok(height)
+        }
+        VaruintRead::Short => Err(PayloadError::PayloadShort),
+        VaruintRead::NonMinimal | VaruintRead::TooLarge => Err(PayloadError::PayloadVaruint),
+    }
+}

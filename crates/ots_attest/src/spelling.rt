@@ -1,0 +1,56 @@
+//! How an attestation is spelled.
+ghost use Rattle.std.specs.Prelude.{◌≡◌, ◌≤◌, ◌++◌, length, drop};
+ghost use Rattle.ots_varint.specs.Varuint.{varuint, varbytes};
+ghost use Rattle.ots_attest.specs.Attestation.{spell, payload, kind, IsAttestation};
+
+use crate::attestation::Attestation;
+use ots_varint::{put_number, put_varbytes};
+
+/// Writes the spelling of an attestation at the front, leaves the bytes behind it as they are, and
+/// answers how many bytes it has: 10 to 8203. It takes no memory.
+pub fn spell_attestation(attestation: &Attestation, out: &mut [u8; 8203]) -> usize
+    ensures length { result ≡ length (spell attestation.now) }
+    ensures spelled { out.new ≡ spell attestation.now ++ drop (length (spell attestation.now)) out.old }
+{
+    let length = attestation.spelled_length();
+    out[0] = 0x00;
+    put_behind_tag(attestation, &mut out[1..]);
+    length
+}
+
+/// Writes the kind and the payload behind its length at the front, and leaves the bytes behind them
+/// as they are.
+#[tactic(auto, using(crate::proofs::Lengths::spelled_length))]
+fn put_behind_tag(attestation: &Attestation, out: &mut [u8])
+    requires limits { IsAttestation attestation.now }
+    requires room { length out.old ≡ 8202 }
+    ensures { out.new ≡ (kind attestation.now ++ varbytes (payload attestation.now))
+        ++ drop (length (kind attestation.now ++ varbytes (payload attestation.now))) out.old }
+{
+    let kind = attestation.kind();
+    out[..8].copy_from_slice(&kind);
+    put_payload(attestation, &mut out[8..]);
+}
+
+/// Writes the payload behind its length at the front, and leaves the bytes behind it as they are.
+#[tactic(auto, using(crate::proofs::Lengths::lengths))]
+fn put_payload(attestation: &Attestation, out: &mut [u8])
+    requires { length (varbytes (payload attestation.now)) ≤ length out.old }
+    ensures { out.new ≡ varbytes (payload attestation.now) ++ drop (length (varbytes (payload attestation.now))) out.old }
+{
+    match attestation {
+        Attestation::Pending(uri) => {
+            let mut spelled = [0; 1010];
+            let length = put_varbytes(uri.text().as_bytes(), &mut spelled);
+            put_varbytes(&spelled[..length], out);
+        }
+        Attestation::Bitcoin(height) | Attestation::Litecoin(height) => {
+            let mut spelled = [0; 10];
+            let length = put_number(*height, &mut spelled);
+            put_varbytes(&spelled[..length], out);
+        }
+        Attestation::Unknown(other) => {
+            put_varbytes(other.payload.bytes(), out);
+        }
+    }
+}
