@@ -1,0 +1,2 @@
+pub mod OneOperation
+pub mod Spelling

@@ -1,0 +1,79 @@
+//! The argument of an append or a prepend.
+ghost use Rattle.std.specs.Prelude.{◌≡◌, IfOk};
+ghost use Rattle.ots_io.specs.Memory.{UnlessShort};
+ghost use Rattle.ots_ops.specs.Arg.{IsArg};
+ghost use Rattle.ots_ops.specs.NewArg.{new_arg};
+
+use ots_io::OutOfMemory;
+use std::alloc::Global;
+use std::marker::Model;
+use thiserror::Error;
+
+/// The bytes that an append or a prepend adds to a message: 1 to 4096 of them.
+///
+/// Contracts see the list of these bytes.
+#[derive(Debug, Drop)]
+pub struct Arg {
+    bytes: Vec<u8>,
+}
+
+impl Model for Arg {
+    ghost use Rattle.std.specs.Prelude.{ℕ, List};
+    ghost use Rattle.ots_ops.specs.Arg.{IsArg};
+
+    ghost Value = { List ℕ };
+
+    ghost view = { λ a. a.bytes.items };
+
+    ghost invariant = { λ a. IsArg a.bytes.items };
+}
+
+/// Why bytes are no argument.
+#[derive(Clone, Copy, Debug, PartialEq, Eq, Error)]
+pub enum ArgError {
+    /// There are no bytes.
+    #[error("an argument has at least 1 byte")]
+    Empty,
+    /// There are more than 4096 bytes, namely so many.
+    #[error("an argument of {0} bytes is longer than 4096")]
+    TooLong(u64),
+    /// Memory ran out.
+    #[error("out of memory")]
+    OutOfMemory,
+}
+
+impl Arg {
+    /// The argument of these bytes, in memory of `alloc`, which it keeps.
+    ///
+    /// `Empty` exactly for no bytes, `TooLong` with their number exactly for more than 4096.
+    pub fn new(alloc: Global, bytes: &[u8]) -> Result<Arg, ArgError>
+        ensures { UnlessShort ArgError.OutOfMemory result (new_arg bytes.now) }
+    {
+        if bytes.is_empty() {
+            return Err(ArgError::Empty);
+        }
+        if bytes.len() > 4096 {
+            return Err(ArgError::TooLong(bytes.len() as u64));
+        }
+        match Vec::from_slice(alloc, bytes) {
+            Ok(bytes) => Ok(Arg { bytes }),
+            Err(_) => Err(ArgError::OutOfMemory),
+        }
+    }
+
+    /// The bytes, 1 to 4096 of them.
+    pub fn bytes(&self) -> &[u8]
+        ensures bytes { result.now ≡ self.now }
+        ensures limits { IsArg self.now }
+    {
+        self.bytes.as_slice()
+    }
+
+    /// An argument of the same bytes, in memory of this one's allocator.
+    pub fn copy(&self) -> Result<Arg, OutOfMemory>
+        ensures { IfOk result (λ copied. copied ≡ self.now) }
+    {
+        let bytes = self.bytes.clone()?;
+        Ok(Arg { bytes })
+    }
+}

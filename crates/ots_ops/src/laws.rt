@@ -1,0 +1,34 @@
+//! Laws of the definitions that stand in this crate's `specs/`.
+ghost use Rattle.std.specs.Prelude.{◌≡◌, ◌≢◌, ◌++◌, ◌↔◌, ℕ, List, IsTrue, bytes_eq};
+ghost use Rattle.ots_ops.specs.declared.op.Op.{Op};
+ghost use Rattle.ots_ops.specs.Operation.{tag, spell, key, IsOp};
+
+use crate::op::Op;
+
+/// A spelling determines its operation, and begins no other's.
+pub fn one_operation()
+    ensures { (o p : Op) (x y : List ℕ) → spell o ++ x ≡ spell p ++ y → (o ≡ p) × (x ≡ y) }
+{}
+
+/// Operations are equal, as `==` and the order say it, exactly where they are the same.
+pub fn equal_operations()
+    ensures { (o p : Op) → IsTrue (bytes_eq (key o) (key p)) ↔ (o ≡ p) }
+{}
+
+/// No operation's tag is that of an attestation, `00`, or of a fork, `ff`.
+pub fn tags_of_operations()
+    ensures attestation { (o : Op) → tag o ≢ 0x00 }
+    ensures fork { (o : Op) → tag o ≢ 0xff }
+{}
+
+/// The argument of any operation is 1 to 4096 bytes.
+pub fn limits_of_operation(op: &Op)
+    ensures { IsOp op.now }
+{
+    match op {
+        Op::Append(argument) | Op::Prepend(argument) => {
+            let _ = argument.bytes();
+        }
+        _ => {}
+    }
+}

@@ -1,0 +1,76 @@
+//! How long the result of an operation is.
+ghost use Rattle.std.specs.Prelude.{◌≡◌, ◌≤◌, nat_lt, if◌then◌else◌, IfOk};
+ghost use Rattle.std.specs.Result.{result_ok, result_err};
+ghost use Rattle.ots_ops.specs.ResultLength.{len, refusal};
+
+use crate::hash_op::HashOp;
+use crate::op::Op;
+use thiserror::Error;
+
+/// Why an operation has no result on a message.
+#[derive(Clone, Copy, Debug, PartialEq, Eq, Error)]
+pub enum OpError {
+    /// The message or the result is longer than it may be.
+    #[error("{have} bytes are more than {limit}")]
+    TooLong {
+        /// How many bytes it has.
+        have: usize,
+        /// How many it may have: 2048 where it is to be hexlified, else 4096.
+        limit: usize,
+    },
+    /// A message of no bytes is to be reversed or hexlified.
+    #[error("an empty message is not reversed or hexlified")]
+    Empty,
+    /// Memory ran out.
+    #[error("out of memory")]
+    OutOfMemory,
+}
+
+/// The most bytes of a message, and so of a result.
+const LONGEST: usize = 4096;
+
+/// The most bytes of which hexadecimal digits are made.
+const LONGEST_HEXLIFIED: usize = 2048;
+
+/// How many bytes an operation makes of a message of `length` bytes: at most 4096.
+///
+/// `TooLong` exactly where the message has more than 4096 bytes, where it is to be hexlified and
+/// has more than 2048, or where the result has more than 4096, tested in this order. `Empty`
+/// exactly where a message of no bytes is to be reversed or hexlified. It takes no memory, and
+/// never answers `OutOfMemory`.
+pub fn result_length(op: &Op, length: usize) -> Result<usize, OpError>
+    ensures length { result_ok result ≡ len op.now length }
+    ensures refusal { result_err result ≡ refusal op.now length }
+    ensures limit { IfOk result (λ made. made ≤ 4096) }
+{
+    at_most(length, LONGEST)?;
+    match op {
+        Op::Sha1 => Ok(HashOp::Sha1.digest_length()),
+        Op::Ripemd160 => Ok(HashOp::Ripemd160.digest_length()),
+        Op::Sha256 => Ok(HashOp::Sha256.digest_length()),
+        Op::Append(argument) => at_most(length + argument.bytes().len(), LONGEST),
+        Op::Prepend(argument) => at_most(argument.bytes().len() + length, LONGEST),
+        Op::Reverse => at_least_one(length),
+        Op::Hexlify => Ok(2 * at_least_one(at_most(length, LONGEST_HEXLIFIED)?)?),
+    }
+}
+
+/// So many bytes, where they are no more than the limit.
+fn at_most(have: usize, limit: usize) -> Result<usize, OpError>
+    ensures { result ≡ (if nat_lt limit have then Err (OpError.TooLong have limit) else Ok have) }
+{
+    if have > limit {
+        return Err(OpError::TooLong { have, limit });
+    }
+    Ok(have)
+}
+
+/// So many bytes, where there are any.
+fn at_least_one(have: usize) -> Result<usize, OpError>
+    ensures { result ≡ (if nat_lt have 1 then Err OpError.Empty else Ok have) }
+{
+    if have == 0 {
+        return Err(OpError::Empty);
+    }
+    Ok(have)
+}

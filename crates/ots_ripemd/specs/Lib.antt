@@ -1,0 +1,3 @@
+pub mod Hasher
+pub mod Ripemd160
+pub mod Rounds
