@@ -1,4 +1,13 @@
+pub mod Calls
 pub mod Cause
+pub mod Entries
+pub mod Input
+pub mod MapShelf
+pub mod MapShelfTold
 pub mod Memory
+pub mod MemoryForms
+pub mod RealForms
+pub mod Shelf
+pub mod SlotTable
 pub mod Table
 pub mod Told
