@@ -1,0 +1,6 @@
+pub mod Status
+pub mod Words
+pub mod Text
+pub mod Found
+pub mod Refusal
+pub mod Answer

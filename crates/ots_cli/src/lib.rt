@@ -1,0 +1,14 @@
+//! The client `ots`: what its words, the shelf and the sink make it do, proved, so that the
+//! program only makes the real objects and calls it.
+#![tactic(auto)]
+
+mod answer;
+mod proof;
+mod refusal;
+mod run;
+mod status;
+mod text;
+mod words;
+
+pub use run::run_client;
+pub use status::Status;

@@ -1,0 +1,44 @@
+//! The top call.
+ghost use Rattle.std.specs.Prelude.{◌≡◌, ◌≤◌, ℕ, map, string_bytes};
+ghost use Rattle.ots_io.specs.Cause.{Rose};
+ghost use Rattle.ots_cli.specs.Answer.{ComesTo, Ends, Prints};
+ghost use Rattle.ots_cli.specs.Words.{command_of};
+
+use crate::answer::{Answer, carry_out};
+use crate::status::Status;
+use crate::words::read_words;
+use ots_io::{Failed, OutOfMemory, Shelf, Sink, write_all};
+use std::alloc::Global;
+
+/// Does what the words ask for, prints on the sink, and answers how it ended.
+pub fn run_client<S: Shelf, K: Sink>(
+    alloc: Global,
+    words: &[String],
+    shelf: &mut S,
+    out: &mut K,
+) -> Status
+    ensures names { (S.told shelf.new).names ≡ (S.told shelf.old).names }
+    ensures slots { (k : ℕ) → (S.told shelf.new).slots k ≡ (S.told shelf.old).slots k }
+    ensures faults { S.faults shelf.old ≤ S.faults shelf.new }
+    ensures out_faults { K.faults out.old ≤ K.faults out.new }
+    ensures same { K.same out.old out.new }
+    ensures ends { Ends (ComesTo (S.told shelf.old).names (command_of (map string_bytes words.now)) (Rose (S.faults shelf.old) (S.faults shelf.new)))
+        (Rose (K.faults out.old) (K.faults out.new)) (K.taken out.old) (K.taken out.new) result }
+{
+    match carry_out(alloc, read_words(words), shelf) {
+        Ok(answer) => print(&answer, out),
+        Err(OutOfMemory) => Status::OutOfMemory,
+    }
+}
+
+/// Prints the text of an answer. Its status comes only where all of it was taken.
+fn print<K: Sink>(answer: &Answer, out: &mut K) -> Status
+    ensures out_faults { K.faults out.old ≤ K.faults out.new }
+    ensures same { K.same out.old out.new }
+    ensures printed { Prints answer.now.status (string_bytes answer.now.text) (Rose (K.faults out.old) (K.faults out.new)) (K.taken out.old) (K.taken out.new) result }
+{
+    match write_all(out, answer.text.as_bytes()) {
+        Ok(()) => answer.status,
+        Err(Failed) => Status::WriteFault,
+    }
+}

@@ -1,0 +1,43 @@
+ghost use Rattle.std.specs.Prelude.{◌≡◌};
+ghost use Rattle.ots_cli.specs.Status.{number};
+
+use ots_reader::Fault;
+
+/// How a run of the client ended. A program ends with the status's number.
+#[derive(Clone, Copy, Debug, PartialEq, Eq)]
+pub enum Status {
+    /// The command did its work.
+    Done,
+    /// The words are not of a command's form.
+    Usage,
+    /// The input is no proof file: where and why.
+    BadProof(Fault),
+    /// The shelf has no such name.
+    NoFile,
+    /// The shelf counted a fault while a file was opened or read.
+    ReadFault,
+    /// The sink counted a fault.
+    WriteFault,
+    /// The input has more than 4,194,304 bytes.
+    TooBig,
+    /// Memory ran out.
+    OutOfMemory,
+}
+
+impl Status {
+    /// The number that a program with this status ends with.
+    pub fn number(self) -> u8
+        ensures { result ≡ number self }
+    {
+        match self {
+            Status::Done => 0,
+            Status::Usage => 2,
+            Status::BadProof(_) => 3,
+            Status::NoFile => 4,
+            Status::ReadFault => 6,
+            Status::WriteFault => 7,
+            Status::TooBig => 8,
+            Status::OutOfMemory => 20,
+        }
+    }
+}

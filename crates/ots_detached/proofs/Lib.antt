@@ -1,0 +1,4 @@
+pub mod Headers
+pub mod Files
+pub mod BothWays
+pub mod FaultOrFile

@@ -1,0 +1,4 @@
+pub mod File
+pub mod FileFault
+pub mod FileRead
+pub mod OneAnswer

@@ -1,0 +1,11 @@
+pub mod ByteLists
+pub mod Tags
+pub mod TokenReadLemmas
+pub mod NoTokenFault
+pub mod TokenOrFault
+pub mod OneFault
+pub mod Places
+pub mod Walk
+pub mod FaultOrTree
+pub mod Stays
+pub mod TreeReasons

@@ -1,0 +1,138 @@
+//! What is wrong with bytes that are no proof, and where.
+use ots_io::OutOfMemory;
+use std::alloc::AllocFailed;
+use std::fmt;
+
+/// Why bytes are no proof.
+#[derive(Clone, Copy, Debug, PartialEq, Eq)]
+pub enum Reason {
+    /// The bytes end within a token, or before the tree does.
+    Truncated,
+    /// No operation, attestation or fork has this tag.
+    UnknownOp,
+    /// The tag of KECCAK-256, `67`, which the reference library knows and this one doesn't.
+    Keccak,
+    /// A fork directly after a fork.
+    ForkFork,
+    /// A length is not in its shortest form.
+    NonMinimal,
+    /// A length is 2^64 or more.
+    VaruintTooLarge,
+    /// An argument has no bytes.
+    ArgEmpty,
+    /// An argument has more than 4096 bytes.
+    ArgTooLong,
+    /// A payload has more than 8192 bytes.
+    PayloadTooLong,
+    /// A URI has more than 1000 bytes, or a character that isn't allowed.
+    BadUri,
+    /// Bytes follow the URI or the height in a payload.
+    PayloadRest,
+    /// A payload ends within its number or its URI.
+    PayloadShort,
+    /// A payload's number is not in its shortest form, or is 2^64 or more.
+    PayloadVaruint,
+    /// The result of an operation has more than 4096 bytes, or more than 2048 are hexlified.
+    ResultTooLong,
+    /// An operation on a path that has 255 operations already.
+    TooDeep,
+    /// A file's first 31 bytes are others.
+    BadMagic,
+    /// A file's version isn't 1.
+    BadVersion,
+    /// A file's digest is of no hash that is known.
+    BadHashOp,
+    /// Bytes follow the tree.
+    TrailingBytes,
+}
+
+impl fmt::Display for Reason {
+    ghost use Rattle.std.specs.Prelude.{Some};
+    ghost use Rattle.ots_reader.specs.Printed.{printed};
+
+    ghost output = { λ reason. Some (printed reason) };
+
+    fn fmt<W: fmt::Write>(&self, f: &mut fmt::Formatter<W>) -> fmt::Result {
+        match self {
+            Reason::Truncated => f.write_str("truncated"),
+            Reason::UnknownOp => f.write_str("unknown operation"),
+            Reason::Keccak => f.write_str("keccak"),
+            Reason::ForkFork => f.write_str("fork after fork"),
+            Reason::NonMinimal => f.write_str("non-minimal number"),
+            Reason::VaruintTooLarge => f.write_str("number too large"),
+            Reason::ArgEmpty => f.write_str("empty argument"),
+            Reason::ArgTooLong => f.write_str("argument too long"),
+            Reason::PayloadTooLong => f.write_str("payload too long"),
+            Reason::BadUri => f.write_str("bad uri"),
+            Reason::PayloadRest => f.write_str("payload rest"),
+            Reason::PayloadShort => f.write_str("payload short"),
+            Reason::PayloadVaruint => f.write_str("payload number"),
+            Reason::ResultTooLong => f.write_str("result too long"),
+            Reason::TooDeep => f.write_str("too deep"),
+            Reason::BadMagic => f.write_str("bad magic"),
+            Reason::BadVersion => f.write_str("bad version"),
+            Reason::BadHashOp => f.write_str("bad hash operation"),
+            Reason::TrailingBytes => f.write_str("trailing bytes"),
+        }
+    }
+}
+
+/// Where bytes are no proof, and why.
+#[derive(Clone, Copy, Debug, PartialEq, Eq)]
+pub struct Fault {
+    /// The first byte of the token that is wrong, counted from 0.
+    pub place: u64,
+    /// What is wrong with it.
+    pub reason: Reason,
+}
+
+/// Why no tree was read.
+#[derive(Clone, Copy, Debug, PartialEq, Eq)]
+pub enum ReadError {
+    /// The bytes begin with no tree.
+    Fault(Fault),
+    /// Memory ran out.
+    OutOfMemory,
+}
+
+impl From<OutOfMemory> for ReadError {
+    ghost use Rattle.std.specs.Prelude.{◌≡◌};
+    ghost use Rattle.ots_reader.specs.declared.fault.ReadError.TheVariants.{OutOfMemory};
+
+    ghost from_gives = { λ _ e. e ≡ OutOfMemory };
+
+    fn from(_: OutOfMemory) -> ReadError {
+        ReadError::OutOfMemory
+    }
+}
+
+impl<T: Drop> From<AllocFailed<T>> for ReadError {
+    ghost use Rattle.std.specs.Prelude.{◌≡◌};
+    ghost use Rattle.ots_reader.specs.declared.fault.ReadError.TheVariants.{OutOfMemory};
+
+    ghost from_gives = { λ _ e. e ≡ OutOfMemory };
+
+    fn from(_: AllocFailed<T>) -> ReadError {
+        ReadError::OutOfMemory
+    }
+}
+
+/// Why no token was read, or why it can't stand where it is.
+#[derive(Clone, Copy)]
+pub(crate) enum TokenError {
+    /// The bytes begin with no token, or with one that can't stand there.
+    Fault(Reason),
+    /// Memory ran out.
+    OutOfMemory,
+}
+
+impl<T: Drop> From<AllocFailed<T>> for TokenError {
+    ghost use Rattle.std.specs.Prelude.{◌≡◌};
+    ghost use Rattle.ots_reader.specs.declared.fault.TokenError.TheVariants.{OutOfMemory};
+
+    ghost from_gives = { λ _ e. e ≡ OutOfMemory };
+
+    fn from(_: AllocFailed<T>) -> TokenError {
+        TokenError::OutOfMemory
+    }
+}

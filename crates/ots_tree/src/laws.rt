@@ -1,0 +1,50 @@
+//! Laws of trees.
+ghost use Rattle.std.specs.Prelude.{◌≡◌, ◌≢◌, ℕ, ◌≤◌, List, [], ◌++◌, ◌↔◌, length, map, filter};
+ghost use Rattle.std.specs.List.{AllByRecursion};
+ghost use Rattle.ots_tree.specs.Wire.{Node, pre, bytes, spell, paths, IsToken};
+ghost use Rattle.ots_tree.specs.declared.token.Token.{Token};
+ghost use Rattle.ots_tree.specs.Front.{opened, start, IsClosed};
+ghost use Rattle.ots_tree.specs.Sound.{IsSoundPre};
+ghost use Rattle.ots_tree.specs.Listed.{listed, token_of, is_attestation, end_below};
+ghost use Rattle.ots_ops.specs.HashOp.{digest_length};
+
+use crate::detached::Detached;
+
+/// Tokens close every node that they open exactly where they are those of a sound tree.
+pub fn fronts()
+    ensures { (n k : ℕ) (ts : List Token) → k ≤ 255 → IsClosed (opened (start n k) ts) ↔ IsSoundPre n k ts }
+{}
+
+/// A token's spelling determines it, and begins no other token's.
+pub fn one_token()
+    ensures { (a b : Token) (x y : List ℕ) → IsToken a → IsToken b → spell a ++ x ≡ spell b ++ y → (a ≡ b) × (x ≡ y) }
+{}
+
+/// Every tree has a path.
+pub fn some_path()
+    ensures { (t : Node) → paths t ≢ [] }
+{}
+
+/// The tokens of a tree determine it, and no tree's tokens begin another's.
+pub fn one_tree()
+    ensures { (t u : Node) (x y : List Token) → pre t ++ x ≡ pre u ++ y → (t ≡ u) × (x ≡ y) }
+{}
+
+/// A listing has the tokens of its tree in their order. Beside each attestation it has the number of
+/// the operations on its path.
+pub fn one_listing()
+    ensures tokens { (k : ℕ) (t : Node) → map token_of (listed k t) ≡ pre t }
+    ensures paths { (k : ℕ) (t : Node) → filter (λ l. is_attestation l.token) (listed k t) ≡ map (end_below k) (paths t) }
+{}
+
+/// The spelling of a tree determines it, and no tree's spelling begins another's.
+pub fn one_spelling()
+    ensures { (t u : Node) (x y : List ℕ) → AllByRecursion IsToken (pre t) → AllByRecursion IsToken (pre u)
+        → bytes t ++ x ≡ bytes u ++ y → (t ≡ u) × (x ≡ y) }
+{}
+
+/// The digest of a proof has its hash's length, and the tree is sound for it.
+pub fn limits_of_detached(proof: &Detached)
+    ensures digest { length proof.now.digest ≡ digest_length proof.now.hash }
+    ensures sound { IsSoundPre (length proof.now.digest) 0 proof.now.tree }
+{}

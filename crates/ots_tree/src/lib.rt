@@ -1,0 +1,25 @@
+//! Timestamp trees: the tokens of an OpenTimestamps proof in preorder, their spelling, and which
+//! trees are sound for a message.
+#![tactic(auto)]
+
+mod detached;
+mod laws;
+mod length;
+mod listing;
+mod shape;
+mod sound;
+mod spelling;
+mod token;
+mod tree;
+
+pub use detached::Detached;
+pub use laws::{
+    fronts, limits_of_detached, one_listing, one_spelling, one_token, one_tree, some_path,
+};
+pub use length::spelled_length;
+pub use listing::listed;
+pub use shape::Shape;
+pub use sound::is_sound;
+pub use spelling::{WriteFault, spell_to};
+pub use token::{Token, TokenAt, limits_of_token};
+pub use tree::{Tree, from_tokens};

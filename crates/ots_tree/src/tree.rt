@@ -1,0 +1,116 @@
+//! A tree, kept as its tokens.
+ghost use Rattle.std.specs.Prelude.{◌≡◌, IfOk, [], reverse};
+ghost use Rattle.std.specs.List.{AllByRecursion};
+ghost use Rattle.ots_tree.specs.Wire.{IsPre, IsToken};
+ghost use Rattle.ots_tree.specs.Kept.{IsKept};
+ghost use Rattle.ots_tree.specs.OpenDepths.{after};
+
+use crate::token::{Token, limits_of_token};
+use ots_io::OutOfMemory;
+use std::alloc::Global;
+use std::marker::Model;
+
+/// The tree of a timestamp: a node of one or more items, each an attestation, or an operation with
+/// the node of its result.
+///
+/// Contracts see it as the list of its tokens in preorder, which determines it.
+#[derive(Debug, Drop)]
+pub struct Tree {
+    /// The tokens in preorder.
+    tokens: Vec<Token>,
+    /// Beside each token the number of operations before it on its path, 2^32 - 1 for a larger one.
+    depths: Vec<u32>,
+}
+
+impl Model for Tree {
+    ghost use Rattle.std.specs.Prelude.{List};
+    ghost use Rattle.ots_tree.specs.declared.token.Token.{Token};
+    ghost use Rattle.ots_tree.specs.Kept.{IsKept};
+
+    ghost Value = { List Token };
+
+    ghost view = { λ a. a.tokens.items };
+
+    ghost invariant = { λ a. IsKept a.tokens.items a.depths.items };
+}
+
+/// The tree with these tokens, which are those of some tree in preorder. Beside them it keeps four
+/// bytes a token in memory of `alloc`, and while it counts it takes as much again for each fork whose
+/// node is open.
+pub fn from_tokens(alloc: Global, tokens: Vec<Token>) -> Result<Tree, OutOfMemory>
+    requires { IsPre tokens.items }
+    ensures { IfOk result (λ tree. tree ≡ tokens.items) }
+{
+    let depths = depths_of(alloc, &tokens)?;
+    Ok(Tree { tokens, depths })
+}
+
+impl Tree {
+    /// The tokens in preorder, at least one. It takes no memory.
+    pub fn tokens(&self) -> &[Token]
+        ensures tokens { result.now ≡ self.now }
+        ensures pre { IsPre self.now }
+        ensures limits { AllByRecursion IsToken self.now }
+    {
+        self.tokens.as_slice()
+    }
+
+    /// The number of operations before each token.
+    pub(crate) fn depths(&self) -> &[u32]
+        ensures { IsKept self.now result.now }
+    {
+        self.depths.as_slice()
+    }
+
+    /// An equal tree, in memory of this one's allocator.
+    pub fn copy(&self) -> Result<Tree, OutOfMemory>
+        ensures { IfOk result (λ copied. copied ≡ self.now) }
+    {
+        let tokens = copy_tokens(*self.tokens.allocator(), &self.tokens)?;
+        let depths = self.depths.clone()?;
+        Ok(Tree { tokens, depths })
+    }
+}
+
+/// Equal tokens in the same order.
+fn copy_tokens(alloc: Global, tokens: &[Token]) -> Result<Vec<Token>, OutOfMemory>
+    ensures { IfOk result (λ copied. copied.items ≡ tokens.now) }
+{
+    let mut copied = Vec::with_capacity(alloc, tokens.len())?;
+    for token in tokens {
+        copied.push(token.copy()?)?;
+    }
+    Ok(copied)
+}
+
+/// The number of operations before each token.
+fn depths_of(alloc: Global, tokens: &[Token]) -> Result<Vec<u32>, OutOfMemory>
+    requires { IsPre tokens.now }
+    ensures { IfOk result (λ depths. IsKept tokens.now depths.items) }
+{
+    let mut depths = Vec::with_capacity(alloc, tokens.len())?;
+    let mut forks = Vec::new(alloc);
+    let mut depth = 0;
+    for token in tokens {
+        limits_of_token(token);
+        depths.push(depth)?;
+        depth = depth_behind(token, depth, &mut forks)?;
+    }
+    Ok(depths)
+}
+
+/// The number of operations before the next token: behind a fork as many as before it, behind an
+/// operation one more, and behind an attestation as many as before the last fork whose node is
+/// still open, which none is behind the last token.
+fn depth_behind(token: &Token, depth: u32, forks: &mut Vec<u32>) -> Result<u32, OutOfMemory>
+    ensures { IfOk result (λ next. (next, reverse forks.new.items) ≡ after token.now (depth, reverse forks.old.items)) }
+{
+    match token {
+        Token::Fork => {
+            forks.push(depth)?;
+            Ok(depth)
+        }
+        Token::Op(_) => Ok(depth.saturating_add(1)),
+        Token::Attestation(_) => Ok(forks.pop().unwrap_or(0)),
+    }
+}
