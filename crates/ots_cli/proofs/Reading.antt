@@ -1,16 +1,15 @@
 -- What was read of a name is what is under it.
-use Rattle.std.proofs.Common.{◌≡◌, ◌<◌, ◌≤◌, ℕ, List, [], ◌++◌, length, Option, Some, None, refl, sym, ap, subst, ◌∙◌, arith, append-nil, length-append}
-use Rattle.std.specs.Prelude.{Result, Ok, Err, IsSome}
+use Rattle.std.proofs.Common.{◌≡◌, ◌≤◌, ℕ, List, ◌++◌, length, Option, Some, None, refl, sym, ap, ◌∙◌, arith, append-nil, length-append}
+use Rattle.std.specs.Prelude.{Ok, Err, IsSome}
 use Rattle.std.specs.FinMap as map
 use Rattle.std.specs.Io.KnownBytes.{Consumes, IsAtEnd}
 use Rattle.ots_io.specs.Told.{IfTold}
-use Rattle.ots_io.specs.Shelf.{Names, OpensWhere}
+use Rattle.ots_io.specs.Shelf.{Names}
 use Rattle.ots_tree.specs.declared.detached.Detached.{Detached}
 use Rattle.ots_detached.specs.declared.reading.FileError.{FileError}
 use Rattle.ots_detached.specs.declared.reading.FileError.TheVariants as reading
 use Rattle.ots_detached.specs.FileRead.{ReadsFile}
-use Rattle.ots_detached.specs.File.{IsFileOf}
-use Rattle.ots_cli.specs.Found.{IsUnder, HasUnder, ReadsProof, refused_read}
+use Rattle.ots_cli.specs.Found.{IsUnder, ReadsProof, refused_read}
 
 -- The bytes that came begin what is under the name, and are all of it where the end was reached.
 record IsFront (told : Option Names) (name came : List ℕ) (whole : Type 0) : Type 0 where

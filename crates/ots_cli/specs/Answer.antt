@@ -76,3 +76,14 @@ refused_proof proof_error.OutOfMemory = None
 abbrev pub Prints : Status → List ℕ → Type 0 → Option (List ℕ) → Option (List ℕ) → Status → Type 0
 Prints status text rose old new result =
     ((result ≡ status) × Appends old new text) ⊎ ((result ≡ WriteFault) × rose × AppendsFront old new text)
+
+-- The answer is this one, unless something of the outside failed or memory ran out.
+abbrev pub UnlessFailed : Status → Status → Type 0
+UnlessFailed status ReadFault = Unit {0}
+UnlessFailed status WriteFault = Unit {0}
+UnlessFailed status OutOfMemory = Unit {0}
+UnlessFailed status Done = Done ≡ status
+UnlessFailed status Usage = Usage ≡ status
+UnlessFailed status (BadProof f) = BadProof f ≡ status
+UnlessFailed status NoFile = NoFile ≡ status
+UnlessFailed status TooBig = TooBig ≡ status

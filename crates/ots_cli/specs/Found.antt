@@ -6,7 +6,6 @@ use Rattle.ots_io.specs.Shelf.{Names}
 use Rattle.ots_io.specs.declared.shelf.OpenError.{OpenError}
 use Rattle.ots_io.specs.declared.shelf.OpenError.TheVariants as opening
 use Rattle.ots_tree.specs.declared.detached.Detached.{Detached}
-use Rattle.ots_reader.specs.declared.fault.Fault.{Fault}
 use Rattle.ots_detached.specs.File.{IsFileOf}
 use Rattle.ots_detached.specs.FileFault.{HasFault}
 use Rattle.ots_detached.specs.declared.reading.FileError.{FileError}

@@ -37,7 +37,11 @@ impl From<OpenError> for ProofError {
 }
 
 /// The proof that a name's whole input is. All that the shelf tells of names and slots stays.
-pub fn read_proof<S: Shelf>(alloc: Global, name: &str, shelf: &mut S) -> Result<Detached, ProofError>
+pub fn read_proof<S: Shelf>(
+    alloc: Global,
+    name: &str,
+    shelf: &mut S,
+) -> Result<Detached, ProofError>
     ensures names { (S.told shelf.new).names ≡ (S.told shelf.old).names }
     ensures slots { (k : ℕ) → (S.told shelf.new).slots k ≡ (S.told shelf.old).slots k }
     ensures answer { ReadsProof (S.told shelf.old).names name.now result }

@@ -54,10 +54,7 @@ pub fn refusal_text(alloc: Global, name: &str, status: Status) -> Result<String,
 fn usage_text(alloc: Global) -> Result<String, OutOfMemory>
     ensures { IfOk result (λ text. string_bytes text ≡ line usage_words) }
 {
-    Ok(format!(
-        in alloc;
-        "usage: ots info, canon, merge, prune, verify, stamp, upgrade, sample\n"
-    )?)
+    Ok(format!(in alloc; "usage: ots info, canon, merge, prune, verify, stamp, upgrade, sample\n")?)
 }
 
 /// The line for an input that is no proof file.

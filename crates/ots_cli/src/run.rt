@@ -1,8 +1,9 @@
 //! The top call.
-ghost use Rattle.std.specs.Prelude.{◌≡◌, ◌≤◌, ℕ, map, string_bytes};
+ghost use Rattle.std.specs.Prelude.{◌≡◌, ◌≤◌, ℕ, List, map, string_bytes, IsSome};
 ghost use Rattle.ots_io.specs.Cause.{Rose};
-ghost use Rattle.ots_cli.specs.Answer.{ComesTo, Ends, Prints};
+ghost use Rattle.ots_cli.specs.Answer.{Answers, ComesTo, Ends, Prints, UnlessFailed};
 ghost use Rattle.ots_cli.specs.Words.{command_of};
+ghost use Rattle.ots_cli.specs.declared.status.Status.{Status};
 
 use crate::answer::{Answer, carry_out};
 use crate::status::Status;
@@ -24,6 +25,8 @@ pub fn run_client<S: Shelf, K: Sink>(
     ensures same { K.same out.old out.new }
     ensures ends { Ends (ComesTo (S.told shelf.old).names (command_of (map string_bytes words.now)) (Rose (S.faults shelf.old) (S.faults shelf.new)))
         (Rose (K.faults out.old) (K.faults out.new)) (K.taken out.old) (K.taken out.new) result }
+    ensures exact { (status : Status) (text : List ℕ) → IsSome (S.told shelf.old).names
+        → Answers (S.told shelf.old).names (command_of (map string_bytes words.now)) status text → UnlessFailed status result }
 {
     match carry_out(alloc, read_words(words), shelf) {
         Ok(answer) => print(&answer, out),

@@ -36,7 +36,7 @@ one_file b p q f g =
 pub no_fault : (b : List ℕ) (p : Detached) (f : Fault) → IsFileOf b p → HasFault b f → ⊥
 no_fault b p f is fault = never_both b p.hash p.digest is.tree f is.has_file is.spelled fault
 
-file_size : (b : List ℕ) (p : Detached) → IsFileOf b p → length b ≤ 4194304
+pub file_size : (b : List ℕ) (p : Detached) → IsFileOf b p → length b ≤ 4194304
 file_size b p is = rw is.spelled is.has_file.size
 
 pub accepted : (b : List ℕ) (r : Result Detached FileError) → IfOk r (IsFileOf b) → IfErr r (IsFileError b) → (p : Detached) → IsFileOf b p → (r ≡ Err OutOfMemory → ⊥) → r ≡ Ok p

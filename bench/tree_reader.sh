@@ -1,0 +1,16 @@
+#!/bin/sh
+# Measures read_tree on this machine: a tree of 100,000 paths and 1.9 MB, read five times.
+# It needs rt. The program is built in a folder of its own, outside the repository, and isn't proved.
+set -eu
+here=$(cd "$(dirname "$0")" && pwd)
+work=$(mktemp -d)
+trap 'rm -rf "$work"' EXIT
+mkdir -p "$work/crates/tree_speed/src" "$work/crates/tree_speed/specs"
+for name in ots_io ots_varint ots_ops ots_attest ots_tree ots_reader; do
+    cp -r "$here/../crates/$name" "$work/crates/$name"
+    grep "^$name:" "$here/../crates.txt" >> "$work/crates.txt"
+done
+echo 'tree_speed: ots_reader ots_tree ots_attest ots_ops ots_io anyhow' >> "$work/crates.txt"
+cp "$here/tree_reader/main.rt.in" "$work/crates/tree_speed/src/main.rt"
+: > "$work/crates/tree_speed/specs/Lib.antt"
+(cd "$work/crates/tree_speed" && rt try)
