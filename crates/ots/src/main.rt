@@ -5,11 +5,10 @@
 use ots_cli::{Status, run_client};
 use ots_io::{DirShelf, StdSink};
 use std::alloc::{AllocError, Global};
-use std::env;
-use std::io;
 use std::io::ErrorKind;
 use std::process::ExitCode;
 use std::rt::Env;
+use std::{env, io};
 
 fn main(rt: HostRuntime) -> ExitCode {
     let alloc = rt.alloc();
