@@ -8,8 +8,6 @@ use Rattle.ots_detached.specs.File.{IsFileOf}
 use Rattle.ots_detached.specs.FileFault.{HasFault}
 use Rattle.ots_cli.specs.declared.status.Status.{Status}
 use Rattle.ots_cli.specs.declared.status.Status.TheVariants.{Done, Usage, BadProof, NoFile, ReadFault, WriteFault, TooBig, OutOfMemory}
-use Rattle.ots_cli.specs.declared.proof.ProofError.{ProofError}
-use Rattle.ots_cli.specs.declared.proof.ProofError.TheVariants as proof_error
 use Rattle.ots_cli.specs.Found.{IsUnder, HasUnder}
 use Rattle.ots_cli.specs.Refusal.{refusal_text}
 use Rattle.ots_cli.specs.Text.{IsInfoText}
@@ -63,14 +61,6 @@ Ends comes rose old new (BadProof f) = (text : List ℕ) × comes (BadProof f) t
 Ends comes rose old new NoFile = (text : List ℕ) × comes NoFile text × Appends old new text
 Ends comes rose old new ReadFault = (text : List ℕ) × comes ReadFault text × Appends old new text
 Ends comes rose old new TooBig = (text : List ℕ) × comes TooBig text × Appends old new text
-
--- The refusal of a proof that was not read; none for want of memory, which prints nothing.
-abbrev pub refused_proof : ProofError → Option Status
-refused_proof proof_error.NoFile = Some NoFile
-refused_proof proof_error.ReadFault = Some ReadFault
-refused_proof proof_error.TooBig = Some TooBig
-refused_proof (proof_error.BadProof f) = Some (BadProof f)
-refused_proof proof_error.OutOfMemory = None
 
 -- Printing a text: all of it was taken, or a front of it at a fault of the sink.
 abbrev pub Prints : Status → List ℕ → Type 0 → Option (List ℕ) → Option (List ℕ) → Status → Type 0

@@ -13,8 +13,8 @@ use Rattle.ots_detached.specs.declared.reading.FileError.TheVariants as reading
 use Rattle.ots_cli.specs.declared.proof.ProofError.{ProofError}
 use Rattle.ots_cli.specs.declared.proof.ProofError.TheVariants.{NoFile, ReadFault, TooBig, BadProof, OutOfMemory}
 
--- What is under the name: nothing, or these bytes. Where the shelf tells its names it is what they
--- say; where it does not, as for a real file, the bytes are what the reads gave.
+-- What is under the name: nothing, or these bytes, as the names say that the shelf tells. Of a shelf
+-- that tells none, as of real files, nothing is said.
 abbrev pub IsUnder : Option Names → List ℕ → Option (List ℕ) → Type 0
 IsUnder told name found = IfTold told (λ names. map.get names name ≡ found)
 

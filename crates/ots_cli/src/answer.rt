@@ -2,7 +2,7 @@
 ghost use Rattle.std.specs.Prelude.{◌≡◌, ◌≤◌, ℕ, string_bytes, None, Some, IfOk};
 ghost use Rattle.std.specs.Option.{option_map};
 ghost use Rattle.ots_io.specs.Cause.{Rose};
-ghost use Rattle.ots_cli.specs.Answer.{ComesTo, InfoAnswers, refused_proof};
+ghost use Rattle.ots_cli.specs.Answer.{ComesTo};
 ghost use Rattle.ots_cli.specs.Refusal.{refusal_text};
 ghost use Rattle.ots_cli.specs.Words.{info, read_as};
 

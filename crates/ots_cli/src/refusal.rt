@@ -1,40 +1,13 @@
 //! The line of a refusal.
 ghost use Rattle.std.specs.Prelude.{◌≡◌, string_bytes, IfOk};
-ghost use Rattle.ots_cli.specs.Refusal.{reason_words, refusal_text, usage_words};
+ghost use Rattle.ots_cli.specs.Refusal.{refusal_text, usage_words};
 ghost use Rattle.ots_cli.specs.Text.{line};
 ghost use Rattle.ots_cli.specs.declared.status.Status.TheVariants.{BadProof};
 
 use crate::status::Status;
 use ots_io::OutOfMemory;
-use ots_reader::{Fault, Reason};
+use ots_reader::Fault;
 use std::alloc::Global;
-
-/// The words for the reason of a fault.
-fn reason_words(reason: Reason) -> &'static str
-    ensures { result.now ≡ reason_words reason }
-{
-    match reason {
-        Reason::Truncated => "truncated",
-        Reason::UnknownOp => "unknown operation",
-        Reason::Keccak => "keccak",
-        Reason::ForkFork => "fork after fork",
-        Reason::NonMinimal => "non-minimal number",
-        Reason::VaruintTooLarge => "number too large",
-        Reason::ArgEmpty => "empty argument",
-        Reason::ArgTooLong => "argument too long",
-        Reason::PayloadTooLong => "payload too long",
-        Reason::BadUri => "bad uri",
-        Reason::PayloadRest => "payload rest",
-        Reason::PayloadShort => "payload short",
-        Reason::PayloadVaruint => "payload number",
-        Reason::ResultTooLong => "result too long",
-        Reason::TooDeep => "too deep",
-        Reason::BadMagic => "bad magic",
-        Reason::BadVersion => "bad version",
-        Reason::BadHashOp => "bad hash operation",
-        Reason::TrailingBytes => "trailing bytes",
-    }
-}
 
 /// The text of a refusal over a name: one line, or nothing where the status has none.
 pub fn refusal_text(alloc: Global, name: &str, status: Status) -> Result<String, OutOfMemory>
@@ -62,6 +35,6 @@ fn bad_proof_text(alloc: Global, name: &str, fault: Fault) -> Result<String, Out
     ensures { IfOk result (λ text. string_bytes text ≡ refusal_text name.now (BadProof fault)) }
 {
     let place = fault.place;
-    let reason = reason_words(fault.reason);
+    let reason = fault.reason;
     Ok(format!(in alloc; "bad proof {name} at {place}: {reason}\n")?)
 }
