@@ -5,7 +5,7 @@ use Rattle.std.specs.List.{AllByRecursion}
 use Rattle.ots_ops.specs.declared.hash_op.HashOp.{HashOp}
 use Rattle.ots_ops.specs.HashOp.{tag, digest_length}
 use Rattle.ots_tree.specs.declared.detached.Detached.{Detached}
-use Rattle.ots_tree.specs.Wire.{Node, pre, bytes, IsToken}
+use Rattle.ots_tree.specs.Wire.{Node, pre, bytes, spelled, IsToken}
 use Rattle.ots_tree.specs.Sound.{IsSound}
 
 abbrev pub magic : List ℕ
@@ -28,6 +28,10 @@ pub record HasFile (h : HashOp) (d : List ℕ) (t : Node) : Type 0 where
   pub tokens : AllByRecursion IsToken (pre t)
   pub sound : IsSound (length d) 0 t
   pub size : length (file h d t) ≤ 4194304
+
+-- what a proof is written as
+abbrev pub file_of : Detached → List ℕ
+file_of p = header p.hash p.digest ++ spelled p.tree
 
 -- these bytes are the file of this proof
 pub record IsFileOf (b : List ℕ) (p : Detached) : Type 0 where

@@ -1,4 +1,4 @@
-//! Detached proof files: read, with each fault named.
+//! Detached proof files: read, with each fault named, and written.
 //!
 //! The format is that of the reference library python-opentimestamps
 //! (`opentimestamps/core/timestamp.py`, `DetachedTimestampFile`).
@@ -7,6 +7,8 @@
 mod header;
 mod laws;
 mod reading;
+mod writing;
 
-pub use laws::{fault_or_file, one_fault, one_file};
+pub use laws::{fault_or_file, one_fault, one_file, written_file};
 pub use reading::{FileError, read_bytes, read_file};
+pub use writing::{file_length, write_file};

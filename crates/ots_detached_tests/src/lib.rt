@@ -1,0 +1,10 @@
+//! What no clause of `ots_detached` says: that its calls succeed with ample memory, and that the
+//! definitions give the worked rows of the format.
+#![tactic(auto)]
+
+#[cfg(test)]
+mod faults;
+#[cfg(test)]
+mod parts;
+#[cfg(test)]
+mod taken;
