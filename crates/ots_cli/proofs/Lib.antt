@@ -1,2 +1,4 @@
 pub mod Reading
 pub mod OneAnswer
+pub mod Arguments
+pub mod Endings

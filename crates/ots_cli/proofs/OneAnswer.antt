@@ -1,7 +1,6 @@
 -- A command has one answer.
-use Rattle.std.proofs.Common.{◌≡◌, ℕ, ◌<◌, ◌≤◌, List, length, Option, Some, None, refl, sym, ap, subst, ◌∙◌, arith, inl, inr}
+use Rattle.std.proofs.Common.{◌≡◌, ℕ, List, length, Option, Some, None, sym, ap, subst, ◌∙◌, arith}
 use Rattle.std.specs.Prelude.{IsSome}
-use Rattle.std.specs.Option.{MatchOption, option_map}
 use Rattle.std.specs.FinMap as map
 use Rattle.ots_io.specs.Shelf.{Names}
 use Rattle.ots_tree.specs.declared.detached.Detached.{Detached}
@@ -9,77 +8,79 @@ use Rattle.ots_reader.specs.declared.fault.Fault.{Fault}
 use Rattle.ots_detached.specs.File.{IsFileOf}
 use Rattle.ots_detached.specs.FileFault.{HasFault}
 use Rattle.ots_detached.proofs.Files.{one_fault}
-use Rattle.ots_detached.proofs.BothWays.{no_fault, file_size}
+use Rattle.ots_detached.proofs.BothWays.{no_fault, file_size, one_file}
 use Rattle.ots_cli.specs.declared.status.Status.{Status}
 use Rattle.ots_cli.specs.declared.status.Status.TheVariants.{Done, Usage, BadProof, NoFile, ReadFault, WriteFault, TooBig, OutOfMemory}
+use Rattle.ots_cli.specs.Ending.{Ending}
 use Rattle.ots_cli.specs.Words.{Command, info}
-use Rattle.ots_cli.specs.Answer.{InfoAnswers, Answers, ComesTo, Prints, UnlessFailed}
+use Rattle.ots_cli.specs.Answer.{Answers, ComesTo, ends, reads_no_more, writes_no_more, Ends, prints_nothing, prints_a_front, prints, PrintsInfo, UnlessFailed, RefusesProof, no_file, too_big, bad_proof, WithProof, is_proof, is_refused}
 
--- what bytes that are found come to
-data IsOf (b : List ℕ) (s : Status) : Type 0 where
-  whole : (proof : Detached) → IsFileOf b proof → s ≡ Done → IsOf b s
-  long : 4194304 < length b → s ≡ TooBig → IsOf b s
-  bad : (f : Fault) → length b ≤ 4194304 → HasFault b f → s ≡ BadProof f → IsOf b s
+-- the bytes under a name are the only ones
+one_under : (names : Names) (name b c : List ℕ) → map.get names name ≡ Some b → map.get names name ≡ Some c → b ≡ c
+one_under names name b c e f = let both : Some b ≡ Some c = sym e ∙ f in cc
 
-abbrev IsFound : Option (List ℕ) → Status → Type 0
-IsFound None s = s ≡ NoFile
-IsFound (Some b) s = IsOf b s
+none_under : (names : Names) (name b : List ℕ) → map.get names name ≡ None → map.get names name ≡ Some b → ⊥
+none_under names name b e f = let clash : None ≡ Some b = sym e ∙ f in cc
 
-one_of : (b : List ℕ) (r s : Status) → IsOf b r → IsOf b s → r ≡ s
-one_of b r s (whole p is e) (whole q at f) = e ∙ sym f
-one_of b r s (whole p is e) (long size f) = absurd (let fits = file_size b p is in omega arith)
-one_of b r s (whole p is e) (bad g fits at f) = absurd (no_fault b p g is at)
-one_of b r s (long size e) (whole q at f) = absurd (let fits = file_size b q at in omega arith)
-one_of b r s (long size e) (long more f) = e ∙ sym f
-one_of b r s (long size e) (bad g fits at f) = absurd (omega arith)
-one_of b r s (bad g fits at e) (whole q is f) = absurd (no_fault b q g is at)
-one_of b r s (bad g fits at e) (long size f) = absurd (omega arith)
-one_of b r s (bad g fits at e) (bad h too is f) = e ∙ ap (λ (z : Fault). BadProof z) (one_fault b g h at is) ∙ sym f
+-- a name is refused in one way
+one_refusal : (names : Names) (name : List ℕ) (d e : Ending) → RefusesProof (Some names) name d → RefusesProof (Some names) name e → d.status ≡ e.status
+one_refusal names name d e (no_file none f) (no_file none' g) = ap (λ (z : Ending). z.status) (f ∙ sym g)
+one_refusal names name d e (no_file none f) (too_big h g) = absurd (none_under names name h.0 none h.1)
+one_refusal names name d e (no_file none f) (bad_proof k h g) = absurd (none_under names name h.0 none h.1)
+one_refusal names name d e (too_big h f) (no_file none g) = absurd (none_under names name h.0 none h.1)
+one_refusal names name d e (too_big h f) (too_big h' g) = ap (λ (z : Ending). z.status) (f ∙ sym g)
+one_refusal names name d e (too_big h f) (bad_proof k h' g) =
+    absurd (let same = ap length (one_under names name h.0 h'.0 h.1 h'.1) in let long = h.2 in let fits = h'.2.0 in omega arith)
+one_refusal names name d e (bad_proof k h f) (no_file none g) = absurd (none_under names name h.0 none h.1)
+one_refusal names name d e (bad_proof k h f) (too_big h' g) =
+    absurd (let same = ap length (one_under names name h.0 h'.0 h.1 h'.1) in let long = h'.2 in let fits = h.2.0 in omega arith)
+one_refusal names name d e (bad_proof k h f) (bad_proof k' h' g) =
+    let fault : k ≡ k' = one_fault h.0 k k' h.2.1 (subst (λ (z : List ℕ). HasFault z k') (one_under names name h'.0 h.0 h'.1 h.1) h'.2.1) in
+    ap (λ (z : Ending). z.status) f ∙ ap (λ (z : Fault). BadProof z) fault ∙ ap (λ (z : Ending). z.status) (sym g)
 
-one_found : (o : Option (List ℕ)) (r s : Status) → IsFound o r → IsFound o s → r ≡ s
-one_found None r s e f = e ∙ sym f
-one_found (Some b) r s e f = one_of b r s e f
+-- and never where it is a proof
+not_refused : (names : Names) (name b : List ℕ) (p : Detached) (e : Ending) → map.get names name ≡ Some b → IsFileOf b p → RefusesProof (Some names) name e → ⊥
+not_refused names name b p e at is (no_file none f) = none_under names name b none at
+not_refused names name b p e at is (too_big h f) =
+    let fits = file_size b p is in let same = ap length (one_under names name b h.0 at h.1) in let long = h.2 in omega arith
+not_refused names name b p e at is (bad_proof k h f) = no_fault b p k is (subst (λ (z : List ℕ). HasFault z k) (one_under names name h.0 b h.1 at) h.2.1)
 
-found : (o : Option (List ℕ)) (b : List ℕ) (s : Status) → o ≡ Some b → IsOf b s → IsFound o s
-found o b s e is = subst (λ (z : Option (List ℕ)). IsFound z s) (sym e) is
+-- a proof that is read ends in one status where each proof does
+with_proof : (names : Names) (name : List ℕ) (P : Detached → Ending → Type 0) (d e : Ending) → ((p : Detached) → P p d → P p e → d.status ≡ e.status)
+    → WithProof (Some names) name P d → WithProof (Some names) name P e → d.status ≡ e.status
+with_proof names name P d e one (is_proof p (b, at, is) h) (is_proof q (c, too, as_well) k) =
+    let same : p ≡ q = one_file b p q is (subst (λ (z : List ℕ). IsFileOf z q) (one_under names name c b too at) as_well) in
+    one q (subst (λ (z : Detached). P z d) same h) k
+with_proof names name P d e one (is_proof p (b, at, is) h) (is_refused r) = absurd (not_refused names name b p e at is r)
+with_proof names name P d e one (is_refused r) (is_proof q (b, at, is) h) = absurd (not_refused names name b q d at is r)
+with_proof names name P d e one (is_refused r) (is_refused r') = one_refusal names name d e r r'
 
-info_found : (names : Names) (name : List ℕ) (s : Status) (text : List ℕ) → InfoAnswers (Some names) name s text → IsFound (map.get names name) s
-info_found names name Done text (b, at, (p, is, printed)) = found (map.get names name) b Done at (whole p is refl)
-info_found names name NoFile text (at, printed) = subst (λ (z : Option (List ℕ)). IsFound z NoFile) (sym at) refl
-info_found names name TooBig text ((b, at, size), printed) = found (map.get names name) b TooBig at (long size refl)
-info_found names name (BadProof f) text ((b, at, (fits, has)), printed) = found (map.get names name) b (BadProof f) at (bad f fits has refl)
-info_found names name Usage text h = absurd h
-info_found names name ReadFault text h = absurd h
-info_found names name WriteFault text h = absurd h
-info_found names name OutOfMemory text h = absurd h
+pub one_status : (told : Option Names) (command : Option Command) (d e : Ending) → IsSome told → Answers told command d → Answers told command e → d.status ≡ e.status
+one_status told None d e known f g = ap (λ (z : Ending). z.status) (f ∙ sym g)
+one_status None (Some (info name)) d e known f g = absurd cc
+one_status (Some names) (Some (info name)) d e known f g = with_proof names name PrintsInfo d e (λ p h k. h.status ∙ sym k.status) f g
 
-one_status : (told : Option Names) (command : Option Command) (r s : Status) (t u : List ℕ) → IsSome told → Answers told command r t → Answers told command s u → r ≡ s
-one_status told None r s t u known e f = e.0 ∙ sym f.0
-one_status None (Some (info name)) r s t u known e f = absurd cc
-one_status (Some names) (Some (info name)) r s t u known e f =
-    one_found (map.get names name) r s (info_found names name r t e) (info_found names name s u f)
+-- ---- the status that is answered
 
-comes_exact : (told : Option Names) (command : Option Command) (rose : Type 0) (r s : Status) (t u : List ℕ) → ComesTo told command rose r t
-    → IsSome told → Answers told command s u → UnlessFailed s r
-comes_exact told command rose Done s t u comes known is = one_status told command Done s t u known comes is
-comes_exact told command rose Usage s t u comes known is = one_status told command Usage s t u known comes is
-comes_exact told command rose (BadProof f) s t u comes known is = one_status told command (BadProof f) s t u known comes is
-comes_exact told command rose NoFile s t u comes known is = one_status told command NoFile s t u known comes is
-comes_exact told command rose TooBig s t u comes known is = one_status told command TooBig s t u known comes is
-comes_exact told command rose ReadFault s t u comes known is = tt
-comes_exact told command rose WriteFault s t u comes known is = tt
-comes_exact told command rose OutOfMemory s t u comes known is = tt
+-- a status, unless it is that of a fault
+unless : (s r : Status) → r ≡ s → UnlessFailed s r
+unless s Done e = e
+unless s Usage e = e
+unless s (BadProof f) e = e
+unless s NoFile e = e
+unless s TooBig e = e
+unless s ReadFault e = tt
+unless s WriteFault e = tt
+unless s OutOfMemory e = tt
 
--- what was read of the words is their command
-pub same_command : {A : Type 0} (f : A → Command) (o : Option A) (d : Option Command) → MatchOption o (d ≡ None) (λ c. d ≡ Some (f c)) → option_map f o ≡ d
-same_command f None d e = sym e
-same_command f (Some c) d e = sym e
+comes_exact : (old new : Option Names) (command : Option Command) (rose : Type 0) (r : Status) (t : List ℕ) (e : Ending) → ComesTo old new command rose r t
+    → IsSome old → Answers old command e → UnlessFailed e.status r
+comes_exact old new command rose r t e (ends d h status text files) known is = unless e.status r (status ∙ one_status old command d e known h is)
+comes_exact old new command rose r t e (reads_no_more name read fault status text names) known is = subst (UnlessFailed e.status) (sym status) tt
+comes_exact old new command rose r t e (writes_no_more d name made h broken fault status text names) known is = subst (UnlessFailed e.status) (sym status) tt
 
--- what is printed, of a command that was read in another form
-pub exact : (told : Option Names) (c d : Option Command) (rose lost : Type 0) (old new : Option (List ℕ)) (a r s : Status) (t u : List ℕ) → c ≡ d
-    → ComesTo told c rose a t → Prints a t lost old new r → IsSome told → Answers told d s u → UnlessFailed s r
-exact told c d rose lost old new a r s t u same comes printed known is =
-    elim printed [
-      | inl p ↦ subst (UnlessFailed s) (sym p.0) (comes_exact told d rose a s t u (subst (λ (z : Option Command). ComesTo told z rose a t) same comes) known is)
-      | inr p ↦ subst (UnlessFailed s) (sym p.0) tt
-    ]
+pub exact : (old new : Option Names) (command : Option Command) (rose lost : Type 0) (before after : Option (List ℕ)) (r : Status) (e : Ending)
+    → Ends (ComesTo old new command rose) lost before after r → IsSome old → Answers old command e → UnlessFailed e.status r
+exact old new command rose lost before after r e (prints_nothing status kept) known is = subst (UnlessFailed e.status) (sym status) tt
+exact old new command rose lost before after r e (prints_a_front other text status fault comes front) known is = subst (UnlessFailed e.status) (sym status) tt
+exact old new command rose lost before after r e (prints text comes whole) known is = comes_exact old new command rose r text e comes known is

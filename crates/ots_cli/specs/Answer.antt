@@ -1,66 +1,78 @@
--- What a command answers and prints, and what stands after each status.
+-- What a command answers, prints and writes, and what stands after each status.
 use Rattle.std.specs.Prelude.{◌≡◌, ◌⊎◌, ◌<◌, ◌≤◌, ℕ, List, [], length, Option, Some, None}
 use Rattle.std.specs.Io.KnownBytes.{Appends, Keeps}
 use Rattle.ots_io.specs.Shelf.{Names}
 use Rattle.ots_io.specs.Input.{AppendsFront}
 use Rattle.ots_tree.specs.declared.detached.Detached.{Detached}
+use Rattle.ots_reader.specs.declared.fault.Fault.{Fault}
 use Rattle.ots_detached.specs.File.{IsFileOf}
 use Rattle.ots_detached.specs.FileFault.{HasFault}
 use Rattle.ots_cli.specs.declared.status.Status.{Status}
 use Rattle.ots_cli.specs.declared.status.Status.TheVariants.{Done, Usage, BadProof, NoFile, ReadFault, WriteFault, TooBig, OutOfMemory}
+use Rattle.ots_cli.specs.Ending.{Ending, File, refused, AddsFiles, IsBroken}
 use Rattle.ots_cli.specs.Found.{IsUnder, HasUnder}
 use Rattle.ots_cli.specs.Refusal.{refusal_text}
 use Rattle.ots_cli.specs.Text.{IsInfoText}
 use Rattle.ots_cli.specs.Words.{Command, info}
 
--- `info` is done where the name's input is a proof file, and prints what that says. Otherwise it is
--- refused for the name or for its input, and prints the line of the refusal.
-abbrev pub InfoAnswers : Option Names → List ℕ → Status → List ℕ → Type 0
-InfoAnswers told name Done text = HasUnder told name (λ bytes. (proof : Detached) × IsFileOf bytes proof × IsInfoText proof text)
-InfoAnswers told name NoFile text = IsUnder told name None × (text ≡ refusal_text name NoFile)
-InfoAnswers told name TooBig text = HasUnder told name (λ bytes. 4194304 < length bytes) × (text ≡ refusal_text name TooBig)
-InfoAnswers told name (BadProof f) text =
-    HasUnder told name (λ bytes. (length bytes ≤ 4194304) × HasFault bytes f) × (text ≡ refusal_text name (BadProof f))
-InfoAnswers told name Usage text = ⊥
-InfoAnswers told name ReadFault text = ⊥
-InfoAnswers told name WriteFault text = ⊥
-InfoAnswers told name OutOfMemory text = ⊥
+-- ---- what a command comes to where nothing of the outside fails
 
--- What a command answers and prints where nothing of the outside fails. Words of no command's form
--- are refused.
-abbrev pub Answers : Option Names → Option Command → Status → List ℕ → Type 0
-Answers told None status text = (status ≡ Usage) × (text ≡ refusal_text [] Usage)
-Answers told (Some (info name)) status text = InfoAnswers told name status text
+-- The command ends for a name that is not there, or whose input is no proof file.
+pub data RefusesProof (told : Option Names) (name : List ℕ) (e : Ending) : Type 0 where
+  no_file : IsUnder told name None → e ≡ refused name NoFile → RefusesProof told name e
+  too_big : HasUnder told name (λ bytes. 4194304 < length bytes) → e ≡ refused name TooBig → RefusesProof told name e
+  bad_proof : (f : Fault) → HasUnder told name (λ bytes. (length bytes ≤ 4194304) × HasFault bytes f) → e ≡ refused name (BadProof f)
+      → RefusesProof told name e
 
--- the name that a command reads
+-- The input under a name is read: it is a proof file, and the command goes on with the proof; or it ends there.
+pub data WithProof (told : Option Names) (name : List ℕ) (goes_on : Detached → Ending → Type 0) (e : Ending) : Type 0 where
+  is_proof : (proof : Detached) → HasUnder told name (λ bytes. IsFileOf bytes proof) → goes_on proof e → WithProof told name goes_on e
+  is_refused : RefusesProof told name e → WithProof told name goes_on e
+
+-- Its text is printed.
+pub record PrintsInfo (proof : Detached) (e : Ending) : Type 0 where
+  pub status : e.status ≡ Done
+  pub text : IsInfoText proof e.text
+  pub files : e.files ≡ []
+
+-- Words of no command's form are refused.
+abbrev pub Answers : Option Names → Option Command → Ending → Type 0
+Answers told None e = e ≡ refused [] Usage
+Answers told (Some (info proof)) e = WithProof told proof PrintsInfo e
+
+-- a name that a command reads
 abbrev pub IsReadBy : List ℕ → Option Command → Type 0
 IsReadBy name None = ⊥
-IsReadBy name (Some (info read)) = name ≡ read
+IsReadBy name (Some (info proof)) = name ≡ proof
 
--- What it comes to before it is printed: that, or a refusal for a fault of the shelf.
-abbrev pub ComesTo : Option Names → Option Command → Type 0 → Status → List ℕ → Type 0
-ComesTo told command rose ReadFault text = rose × (name : List ℕ) × IsReadBy name command × (text ≡ refusal_text name ReadFault)
-ComesTo told command rose Done text = Answers told command Done text
-ComesTo told command rose Usage text = Answers told command Usage text
-ComesTo told command rose (BadProof f) text = Answers told command (BadProof f) text
-ComesTo told command rose NoFile text = Answers told command NoFile text
-ComesTo told command rose TooBig text = Answers told command TooBig text
-ComesTo told command rose WriteFault text = ⊥
-ComesTo told command rose OutOfMemory text = ⊥
+-- ---- what it comes to where calls of the shelf may fail, before it is printed
 
--- what a sink that held `old` has taken where a command ended with this status
-abbrev pub Ends : (Status → List ℕ → Type 0) → Type 0 → Option (List ℕ) → Option (List ℕ) → Status → Type 0
--- Want of memory prints nothing.
-Ends comes rose old new OutOfMemory = Keeps old new
--- A fault of the sink leaves a front of the text.
-Ends comes rose old new WriteFault = rose × (status : Status) × (text : List ℕ) × comes status text × AppendsFront old new text
--- Any other status comes with its whole text.
-Ends comes rose old new Done = (text : List ℕ) × comes Done text × Appends old new text
-Ends comes rose old new Usage = (text : List ℕ) × comes Usage text × Appends old new text
-Ends comes rose old new (BadProof f) = (text : List ℕ) × comes (BadProof f) text × Appends old new text
-Ends comes rose old new NoFile = (text : List ℕ) × comes NoFile text × Appends old new text
-Ends comes rose old new ReadFault = (text : List ℕ) × comes ReadFault text × Appends old new text
-Ends comes rose old new TooBig = (text : List ℕ) × comes TooBig text × Appends old new text
+pub data ComesTo (old new : Option Names) (command : Option Command) (rose : Type 0) (status : Status) (text : List ℕ) : Type 0 where
+  -- it ends as it is defined
+  ends : (e : Ending) → Answers old command e → status ≡ e.status → text ≡ e.text → AddsFiles e.files old new → ComesTo old new command rose status text
+  -- a read failed, and no file is made
+  reads_no_more : (name : List ℕ) → IsReadBy name command → rose → status ≡ ReadFault → text ≡ refusal_text name ReadFault → new ≡ old
+      → ComesTo old new command rose status text
+  -- a file was to be made, which is not whole
+  writes_no_more : (e : Ending) (name : List ℕ) (made : List File) → Answers old command e → IsBroken name e.files made → rose → status ≡ WriteFault
+      → text ≡ refusal_text name WriteFault → AddsFiles made old new → ComesTo old new command rose status text
+
+-- However it ends, no name changes but for the files that it is to make, and these in order.
+pub data Leaves (old new : Option Names) (command : Option Command) : Type 0 where
+  no_file_made : new ≡ old → Leaves old new command
+  all_made : (e : Ending) → Answers old command e → AddsFiles e.files old new → Leaves old new command
+  some_made : (e : Ending) (name : List ℕ) (made : List File) → Answers old command e → IsBroken name e.files made → AddsFiles made old new
+      → Leaves old new command
+
+-- ---- what is printed
+
+-- What a sink that held `old` has taken where a command ended with this status: nothing where memory ran out, a front
+-- of the text where the sink failed, and otherwise the whole text. A file that is not whole has a line of its own.
+pub data Ends (comes : Status → List ℕ → Type 0) (rose : Type 0) (old new : Option (List ℕ)) (status : Status) : Type 0 where
+  prints_nothing : status ≡ OutOfMemory → Keeps old new → Ends comes rose old new status
+  prints_a_front : (other : Status) (text : List ℕ) → status ≡ WriteFault → rose → comes other text → AppendsFront old new text
+      → Ends comes rose old new status
+  prints : (text : List ℕ) → comes status text → Appends old new text → Ends comes rose old new status
 
 -- Printing a text: all of it was taken, or a front of it at a fault of the sink.
 abbrev pub Prints : Status → List ℕ → Type 0 → Option (List ℕ) → Option (List ℕ) → Status → Type 0

@@ -10,6 +10,8 @@ use Rattle.ots_detached.specs.File.{IsFileOf}
 use Rattle.ots_detached.specs.FileFault.{HasFault}
 use Rattle.ots_detached.specs.declared.reading.FileError.{FileError}
 use Rattle.ots_detached.specs.declared.reading.FileError.TheVariants as reading
+use Rattle.ots_cli.specs.declared.status.Status.{Status}
+use Rattle.ots_cli.specs.declared.status.Status.TheVariants as status
 use Rattle.ots_cli.specs.declared.proof.ProofError.{ProofError}
 use Rattle.ots_cli.specs.declared.proof.ProofError.TheVariants.{NoFile, ReadFault, TooBig, BadProof, OutOfMemory}
 
@@ -40,3 +42,11 @@ refused_read reading.ReadFault = ReadFault
 refused_read reading.TooBig = TooBig
 refused_read (reading.BadProof f) = BadProof f
 refused_read reading.OutOfMemory = OutOfMemory
+
+-- the status of a name that gave no proof, but for want of memory
+abbrev pub status_of : ProofError → Option Status
+status_of NoFile = Some status.NoFile
+status_of ReadFault = Some status.ReadFault
+status_of TooBig = Some status.TooBig
+status_of (BadProof f) = Some (status.BadProof f)
+status_of OutOfMemory = None

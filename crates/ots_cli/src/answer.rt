@@ -1,16 +1,16 @@
 //! What a command answers and prints.
-ghost use Rattle.std.specs.Prelude.{◌≡◌, ◌≤◌, ℕ, string_bytes, None, Some, IfOk};
-ghost use Rattle.std.specs.Option.{option_map};
+ghost use Rattle.std.specs.Prelude.{◌≡◌, ◌≤◌, ℕ, List, map, string_bytes, None, Some, IfOk};
 ghost use Rattle.ots_io.specs.Cause.{Rose};
-ghost use Rattle.ots_cli.specs.Answer.{ComesTo};
+ghost use Rattle.ots_cli.specs.Answer.{ComesTo, Leaves};
+ghost use Rattle.ots_cli.specs.Found.{status_of};
 ghost use Rattle.ots_cli.specs.Refusal.{refusal_text};
-ghost use Rattle.ots_cli.specs.Words.{info, read_as};
+ghost use Rattle.ots_cli.specs.Words.{command_of, info, read_as};
 
 use crate::proof::{ProofError, read_proof};
 use crate::refusal::refusal_text;
 use crate::status::Status;
 use crate::text::info_text;
-use crate::words::Command;
+use crate::words::{Command, WordsError, read_words};
 use ots_io::{OutOfMemory, Shelf};
 use std::alloc::Global;
 
@@ -21,21 +21,40 @@ pub struct Answer {
     pub text: String,
 }
 
-/// What the words come to. All that the shelf tells of names and slots stays.
-pub fn carry_out<S: Shelf>(
+/// What the words come to. Of all that the shelf tells, only the names change, and these only by
+/// the files that the command is to make.
+pub fn answer_to<S: Shelf>(
     alloc: Global,
-    command: Option<Command<'_>>,
+    words: &[String],
     shelf: &mut S,
 ) -> Result<Answer, OutOfMemory>
-    ensures names { (S.told shelf.new).names ≡ (S.told shelf.old).names }
+    ensures leaves { Leaves (S.told shelf.old).names (S.told shelf.new).names (command_of (map string_bytes words.now)) }
     ensures slots { (k : ℕ) → (S.told shelf.new).slots k ≡ (S.told shelf.old).slots k }
     ensures later { S.faults shelf.old ≤ S.faults shelf.new }
-    ensures comes { IfOk result (λ a. ComesTo (S.told shelf.old).names (option_map read_as command.entry)
+    ensures comes { IfOk result (λ a. ComesTo (S.told shelf.old).names (S.told shelf.new).names (command_of (map string_bytes words.now))
+        (Rose (S.faults shelf.old) (S.faults shelf.new)) a.status (string_bytes a.text)) }
+{
+    match read_words(alloc, words) {
+        Ok(command) => carry_out(alloc, command, shelf),
+        Err(WordsError::Usage) => refusal(alloc, "", Status::Usage),
+        Err(WordsError::OutOfMemory) => Err(OutOfMemory),
+    }
+}
+
+/// What a command comes to.
+fn carry_out<S: Shelf>(
+    alloc: Global,
+    command: Command<'_>,
+    shelf: &mut S,
+) -> Result<Answer, OutOfMemory>
+    ensures leaves { Leaves (S.told shelf.old).names (S.told shelf.new).names (Some (read_as command.entry)) }
+    ensures slots { (k : ℕ) → (S.told shelf.new).slots k ≡ (S.told shelf.old).slots k }
+    ensures later { S.faults shelf.old ≤ S.faults shelf.new }
+    ensures comes { IfOk result (λ a. ComesTo (S.told shelf.old).names (S.told shelf.new).names (Some (read_as command.entry))
         (Rose (S.faults shelf.old) (S.faults shelf.new)) a.status (string_bytes a.text)) }
 {
     match command {
-        None => refusal(alloc, "", Status::Usage),
-        Some(Command::Info(name)) => info(alloc, name, shelf),
+        Command::Info(proof) => info(alloc, proof, shelf),
     }
 }
 
@@ -44,7 +63,7 @@ fn info<S: Shelf>(alloc: Global, name: &str, shelf: &mut S) -> Result<Answer, Ou
     ensures names { (S.told shelf.new).names ≡ (S.told shelf.old).names }
     ensures slots { (k : ℕ) → (S.told shelf.new).slots k ≡ (S.told shelf.old).slots k }
     ensures later { S.faults shelf.old ≤ S.faults shelf.new }
-    ensures comes { IfOk result (λ a. ComesTo (S.told shelf.old).names (Some (info name.now))
+    ensures comes { IfOk result (λ a. ComesTo (S.told shelf.old).names (S.told shelf.new).names (Some (info name.now))
         (Rose (S.faults shelf.old) (S.faults shelf.new)) a.status (string_bytes a.text)) }
 {
     match read_proof(alloc, name, shelf) {
@@ -52,11 +71,21 @@ fn info<S: Shelf>(alloc: Global, name: &str, shelf: &mut S) -> Result<Answer, Ou
             status: Status::Done,
             text: info_text(alloc, &proof)?,
         }),
-        Err(ProofError::NoFile) => refusal(alloc, name, Status::NoFile),
-        Err(ProofError::ReadFault) => refusal(alloc, name, Status::ReadFault),
-        Err(ProofError::TooBig) => refusal(alloc, name, Status::TooBig),
-        Err(ProofError::BadProof(fault)) => refusal(alloc, name, Status::BadProof(fault)),
-        Err(ProofError::OutOfMemory) => Err(OutOfMemory),
+        Err(error) => proof_refusal(alloc, name, error),
+    }
+}
+
+/// The refusal of a name that gave no proof.
+fn proof_refusal(alloc: Global, name: &str, error: ProofError) -> Result<Answer, OutOfMemory>
+    ensures status { IfOk result (λ a. Some a.status ≡ status_of error) }
+    ensures text { IfOk result (λ a. string_bytes a.text ≡ refusal_text name.now a.status) }
+{
+    match error {
+        ProofError::NoFile => refusal(alloc, name, Status::NoFile),
+        ProofError::ReadFault => refusal(alloc, name, Status::ReadFault),
+        ProofError::TooBig => refusal(alloc, name, Status::TooBig),
+        ProofError::BadProof(fault) => refusal(alloc, name, Status::BadProof(fault)),
+        ProofError::OutOfMemory => Err(OutOfMemory),
     }
 }
 

@@ -1,13 +1,12 @@
 //! The top call.
-ghost use Rattle.std.specs.Prelude.{◌≡◌, ◌≤◌, ℕ, List, map, string_bytes, IsSome};
+ghost use Rattle.std.specs.Prelude.{◌≡◌, ◌≤◌, ℕ, map, string_bytes, IsSome};
 ghost use Rattle.ots_io.specs.Cause.{Rose};
-ghost use Rattle.ots_cli.specs.Answer.{Answers, ComesTo, Ends, Prints, UnlessFailed};
+ghost use Rattle.ots_cli.specs.Answer.{Answers, ComesTo, Ends, Leaves, Prints, UnlessFailed};
+ghost use Rattle.ots_cli.specs.Ending.{Ending};
 ghost use Rattle.ots_cli.specs.Words.{command_of};
-ghost use Rattle.ots_cli.specs.declared.status.Status.{Status};
 
-use crate::answer::{Answer, carry_out};
+use crate::answer::{Answer, answer_to};
 use crate::status::Status;
-use crate::words::read_words;
 use ots_io::{Failed, OutOfMemory, Shelf, Sink, write_all};
 use std::alloc::Global;
 
@@ -18,17 +17,17 @@ pub fn run_client<S: Shelf, K: Sink>(
     shelf: &mut S,
     out: &mut K,
 ) -> Status
-    ensures names { (S.told shelf.new).names ≡ (S.told shelf.old).names }
+    ensures leaves { Leaves (S.told shelf.old).names (S.told shelf.new).names (command_of (map string_bytes words.now)) }
     ensures slots { (k : ℕ) → (S.told shelf.new).slots k ≡ (S.told shelf.old).slots k }
     ensures faults { S.faults shelf.old ≤ S.faults shelf.new }
     ensures out_faults { K.faults out.old ≤ K.faults out.new }
     ensures same { K.same out.old out.new }
-    ensures ends { Ends (ComesTo (S.told shelf.old).names (command_of (map string_bytes words.now)) (Rose (S.faults shelf.old) (S.faults shelf.new)))
+    ensures ends { Ends (ComesTo (S.told shelf.old).names (S.told shelf.new).names (command_of (map string_bytes words.now)) (Rose (S.faults shelf.old) (S.faults shelf.new)))
         (Rose (K.faults out.old) (K.faults out.new)) (K.taken out.old) (K.taken out.new) result }
-    ensures exact { (status : Status) (text : List ℕ) → IsSome (S.told shelf.old).names
-        → Answers (S.told shelf.old).names (command_of (map string_bytes words.now)) status text → UnlessFailed status result }
+    ensures exact { (e : Ending) → IsSome (S.told shelf.old).names
+        → Answers (S.told shelf.old).names (command_of (map string_bytes words.now)) e → UnlessFailed e.status result }
 {
-    match carry_out(alloc, read_words(words), shelf) {
+    match answer_to(alloc, words, shelf) {
         Ok(answer) => print(&answer, out),
         Err(OutOfMemory) => Status::OutOfMemory,
     }

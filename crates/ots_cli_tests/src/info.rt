@@ -113,13 +113,21 @@ fn a_fault_in_the_tree_is_refused_at_its_token(rt: HostRuntime) -> Result<(), Fa
 #[test]
 fn words_and_names_are_refused(rt: HostRuntime) -> Result<(), Fail> {
     let bytes = proof_of(rt.alloc(), BLOCK_0)?;
-    let rows: [(&[&str], Status, &str); 6] = [
+    let rows: [(&[&str], Status, &str); 13] = [
         (&[], Status::Usage, USAGE),
         (&["frob"], Status::Usage, USAGE),
         (&["info"], Status::Usage, USAGE),
         (&["info", ""], Status::Usage, USAGE),
         (&["info", "p", "p"], Status::Usage, USAGE),
         (&["info", "x"], Status::NoFile, "no file x\n"),
+        // A call for help, and words that begin with a dash.
+        (&["info", "--help"], Status::Usage, USAGE),
+        (&["info", "-h"], Status::Usage, USAGE),
+        (&["info", "-p"], Status::Usage, USAGE),
+        (&["info", "-"], Status::NoFile, "no file -\n"),
+        (&["info", "--", "-p"], Status::NoFile, "no file -p\n"),
+        (&["info", "--", "p", "p"], Status::Usage, USAGE),
+        (&["info", "a name"], Status::NoFile, "no file a name\n"),
     ];
     for (words, want, text) in rows {
         let (status, out) = run_failing(rt.alloc(), words, &bytes, &[], &[])?;

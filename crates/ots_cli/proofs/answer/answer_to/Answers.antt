@@ -1,0 +1,8 @@
+use Rattle.ots_cli.proofs.Endings.{same_leaves, usage_comes}
+use Rattle.ots_cli.proofs.answer.answer_to.Goals as goal
+
+pub returns-in-Ok-clause-leaves : goal.returns-in-Ok-clause-leaves
+returns-in-Ok-clause-leaves g c = same_leaves _ _ _ _ c.in-Ok.ensures c.carry_out.ensures.leaves
+
+pub returns-in-Err-Usage-clause-comes : goal.returns-in-Err-Usage-clause-comes
+returns-in-Err-Usage-clause-comes g c = usage_comes _ _ _ c.refusal.result (c.in-Err-Usage.ensures c.in-Err-Usage.field-0-is) c.refusal.ensures.status c.refusal.ensures.text
