@@ -1,6 +1,6 @@
 #!/bin/sh
 # Measures read_tree on this machine: a tree of 100,000 paths and 1.9 MB, read five times.
-# It needs rt. The program is built in a folder of its own, outside the repository, and isn't proved.
+# It needs rt. The proved program is built in a folder of its own, outside the repository.
 set -eu
 here=$(cd "$(dirname "$0")" && pwd)
 work=$(mktemp -d)
@@ -13,4 +13,5 @@ done
 echo 'tree_speed: ots_reader ots_tree ots_attest ots_ops ots_io anyhow' >> "$work/crates.txt"
 cp "$here/tree_reader/main.rt.in" "$work/crates/tree_speed/src/main.rt"
 : > "$work/crates/tree_speed/specs/Lib.antt"
-(cd "$work/crates/tree_speed" && rt try)
+(cd "$work/crates/tree_speed" && rt run > "$work/log" 2>&1) || { cat "$work/log"; exit 1; }
+"$work/crates/tree_speed/out/tree_speed"

@@ -1,2 +1,3 @@
 pub mod OneOperation
 pub mod Spelling
+pub mod AppliedLength

@@ -1,7 +1,11 @@
+pub mod Apply
 pub mod Arg
 pub mod DigestLength
 pub mod HashOp
+pub mod Hashed
+pub mod Hasher
 pub mod Kept
+pub mod Message
 pub mod NewArg
 pub mod Operation
 pub mod ResultLength

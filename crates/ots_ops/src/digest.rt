@@ -55,6 +55,24 @@ impl Digest {
         }
     }
 
+    /// The digest of these 20 bytes.
+    pub(crate) fn twenty(bytes: [u8; 20]) -> Digest
+        ensures { result ≡ bytes }
+    {
+        Digest {
+            kept: Kept::Twenty(bytes),
+        }
+    }
+
+    /// The digest of these 32 bytes.
+    pub(crate) fn thirty_two(bytes: [u8; 32]) -> Digest
+        ensures { result ≡ bytes }
+    {
+        Digest {
+            kept: Kept::ThirtyTwo(bytes),
+        }
+    }
+
     /// The bytes, 20 or 32.
     pub fn bytes(&self) -> &[u8]
         ensures bytes { result.now ≡ self.now }

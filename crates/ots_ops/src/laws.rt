@@ -1,7 +1,12 @@
 //! Laws of the definitions that stand in this crate's `specs/`.
-ghost use Rattle.std.specs.Prelude.{◌≡◌, ◌≢◌, ◌++◌, ◌↔◌, ℕ, List, IsTrue, bytes_eq};
+ghost use Rattle.std.specs.Prelude.{◌≡◌, ◌≢◌, ◌++◌, ◌↔◌, ℕ, List, IsTrue, bytes_eq, length};
 ghost use Rattle.ots_ops.specs.declared.op.Op.{Op};
+ghost use Rattle.ots_ops.specs.Apply.{applied};
+ghost use Rattle.ots_ops.specs.HashOp.{digest_length};
+ghost use Rattle.ots_ops.specs.Hashed.{hashed};
 ghost use Rattle.ots_ops.specs.Operation.{tag, spell, key, IsOp};
+ghost use Rattle.ots_ops.specs.ResultLength.{made};
+ghost use Rattle.ots_ops.specs.declared.hash_op.HashOp.{HashOp};
 
 use crate::op::Op;
 
@@ -32,3 +37,9 @@ pub fn limits_of_operation(op: &Op)
         _ => {}
     }
 }
+
+/// A digest has its hash's length, and the result of an operation the length that is foretold of it.
+pub fn lengths_of_results()
+    ensures digests { (h : HashOp) (m : List ℕ) → length (hashed h m) ≡ digest_length h }
+    ensures results { (o : Op) (m : List ℕ) → length (applied o m) ≡ made o (length m) }
+{}

@@ -1,20 +1,32 @@
 //! The operations of an OpenTimestamps proof: what they are, how they are spelled, how they are
-//! ordered, and how long their results are.
+//! ordered, and what they make of a message.
 #![tactic(auto)]
 
 mod arg;
 mod digest;
 mod hash_op;
+mod hasher;
+mod in_place;
 mod laws;
 mod length;
+mod message;
 mod op;
+mod ops;
 mod order;
+mod results;
 mod spell;
 
 pub use arg::{Arg, ArgError};
 pub use digest::Digest;
 pub use hash_op::HashOp;
-pub use laws::{equal_operations, limits_of_operation, one_operation, tags_of_operations};
+pub use hasher::Hasher;
+pub use in_place::apply_in_place;
+pub use laws::{
+    equal_operations, lengths_of_results, limits_of_operation, one_operation, tags_of_operations,
+};
 pub use length::{OpError, result_length};
+pub use message::Message;
 pub use op::Op;
+pub use ops::Ops;
+pub use results::apply;
 pub use spell::spell_op;

@@ -2,4 +2,10 @@
 #![tactic(auto)]
 
 #[cfg(test)]
+mod applying;
+#[cfg(test)]
+mod hashing;
+#[cfg(test)]
+mod lists;
+#[cfg(test)]
 mod tests;

@@ -3,7 +3,7 @@
 #![tactic(auto)]
 
 mod block;
-mod fed;
+pub mod fed;
 mod hasher;
 mod once;
 mod rounds;
