@@ -18,7 +18,7 @@ use Rattle.ots_detached.specs.FileRead.{IsFileError, ReadsFile}
 use Rattle.ots_detached.proofs.Files.{file_apart, never_both, one_fault}
 
 -- proofs are the same where their three parts are
-same_detached : (p q : Detached) → p.hash ≡ q.hash → p.digest ≡ q.digest → p.tree ≡ q.tree → p ≡ q
+pub same_detached : (p q : Detached) → p.hash ≡ q.hash → p.digest ≡ q.digest → p.tree ≡ q.tree → p ≡ q
 same_detached p q h d t = λ i. record {
   hash = h i;
   digest = d i;

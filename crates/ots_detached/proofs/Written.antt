@@ -62,6 +62,7 @@ put_behind made m d e rest version tag t n is long room tagged same many =
 
 pub file_is : (p : Detached) → length p.digest ≡ digest_length p.hash → IsSoundPre (length p.digest) 0 p.tree → AllByRecursion IsToken p.tree
     → length (file_of p) ≤ 4194304 → IsFileOf (file_of p) p
+unfolding file_of
 file_is p digest sound tokens size =
     let t = sound.0 in
     let whole : file_of p ≡ file p.hash p.digest t = ap (λ (z : List Token). header p.hash p.digest ++ spelled z) (sym sound.2) in
@@ -78,4 +79,5 @@ file_is p digest sound tokens size =
     }
 
 pub is_written : (b : List ℕ) (p : Detached) → IsFileOf b p → b ≡ file_of p
+unfolding file_of
 is_written b p is = is.spelled ∙ ap (λ (z : List Token). header p.hash p.digest ++ spelled z) is.tokens

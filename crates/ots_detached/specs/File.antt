@@ -30,7 +30,7 @@ pub record HasFile (h : HashOp) (d : List ℕ) (t : Node) : Type 0 where
   pub size : length (file h d t) ≤ 4194304
 
 -- what a proof is written as
-abbrev pub file_of : Detached → List ℕ
+unfoldable pub file_of : Detached → List ℕ
 file_of p = header p.hash p.digest ++ spelled p.tree
 
 -- these bytes are the file of this proof

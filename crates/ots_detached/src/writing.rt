@@ -12,6 +12,7 @@ use ots_tree::{Detached, WriteFault, spell_to, spelled_length};
 
 /// How many bytes the file of a proof has. A number over 2^64 - 1 is given as 2^64 - 1. It takes no
 /// memory.
+#[tactic(auto, unfolding(crate::specs::File::file_of))]
 pub fn file_length(proof: &Detached) -> u64
     ensures { result ≡ min (length (file_of proof.now)) (2 ^ 64 - 1) }
 {
@@ -24,6 +25,7 @@ pub fn file_length(proof: &Detached) -> u64
 /// `WriteFault` comes only where the sink's count of faults rose, and the sink has then taken a
 /// front of the file. It takes no memory. A file of more than 4,194,304 bytes reads back as too
 /// big, so a caller looks at `file_length` first.
+#[tactic(auto, unfolding(crate::specs::File::file_of))]
 pub fn write_file<K: Sink>(proof: &Detached, sink: &mut K) -> Result<(), WriteFault>
     ensures whole { OnOk result (Appends (K.taken sink.old) (K.taken sink.new) (file_of proof.now)) }
     ensures front { AppendsFront (K.taken sink.old) (K.taken sink.new) (file_of proof.now) }

@@ -1,24 +1,24 @@
-ghost use Rattle.std.specs.Prelude.{◌≡◌, ℕ, IsTrue, None};
-ghost use Rattle.std.specs.Io.{ReadsAtMost};
-ghost use Rattle.ots_io.specs.Shelf.{closed, is_reading};
-ghost use Rattle.ots_io.specs.SlotTable.{use_of_file};
+ghost use Rattle.std.specs.Prelude.{◌≡◌, ℕ};
+ghost use Rattle.ots_io.specs.Shelf.{closed};
 
 use crate::count::Count;
+use crate::open_file::OpenFile;
 use crate::{CreateError, Failed, OpenError, Shelf, Slot};
 use std::alloc::Global;
 use std::fs::File;
-use std::io;
-use std::io::{ErrorKind, Read};
+use std::io::ErrorKind;
 use std::rt::Files;
 
 /// The files of the file system by their paths, a relative one from the working folder. It tells
 /// nothing of what they hold, and counts each fault.
 ///
-/// It is its reading half so far: `create` counts a fault and answers `Failed`.
+/// `create` makes a new file and never overwrites one: a name that is there is `Exists`, also where
+/// it came between a test and the call. A write goes to the file at once, and one that takes nothing
+/// of a piece that isn't empty is a fault.
 #[derive(Drop)]
 pub struct DirShelf<R: Files> {
     rt: R,
-    files: Vec<Option<R::File>>,
+    files: Vec<OpenFile<R::File>>,
     faults: Count,
     short: Count,
 }
@@ -54,7 +54,7 @@ impl<R: Files> Shelf for DirShelf<R> {
         };
         match File::open(&self.rt, name) {
             Ok(file) => {
-                if self.files.push(Some(file)).is_err() {
+                if self.files.push(OpenFile::Reading(file)).is_err() {
                     self.short.rise();
                     return Err(OpenError::OutOfMemory);
                 }
@@ -69,7 +69,7 @@ impl<R: Files> Shelf for DirShelf<R> {
     }
 
     fn read(&mut self, slot: Slot, buf: &mut [u8]) -> Result<usize, Failed> {
-        match read_file(&mut self.files[slot.0 as usize], buf) {
+        match self.files[slot.0 as usize].read(buf) {
             Ok(count) => Ok(count),
             Err(_) => {
                 self.faults.rise();
@@ -78,14 +78,37 @@ impl<R: Files> Shelf for DirShelf<R> {
         }
     }
 
-    fn create(&mut self, _name: &str) -> Result<Slot, CreateError> {
-        self.faults.rise();
-        Err(CreateError::Failed)
+    fn create(&mut self, name: &str) -> Result<Slot, CreateError> {
+        let Ok(slot) = u32::try_from(self.files.len()) else {
+            self.faults.rise();
+            return Err(CreateError::Failed);
+        };
+        // The room comes first, so that want of memory leaves no file behind.
+        if self.files.reserve(1).is_err() {
+            self.short.rise();
+            return Err(CreateError::OutOfMemory);
+        }
+        match File::create_new(&self.rt, name) {
+            Ok(file) => {
+                self.files.push(OpenFile::Writing(file)).unwrap();
+                Ok(Slot(slot))
+            }
+            Err(error) if error.kind() == ErrorKind::AlreadyExists => Err(CreateError::Exists),
+            Err(_) => {
+                self.faults.rise();
+                Err(CreateError::Failed)
+            }
+        }
     }
 
-    fn write(&mut self, _slot: Slot, _piece: &[u8]) -> Result<usize, Failed> {
-        self.faults.rise();
-        Err(Failed)
+    fn write(&mut self, slot: Slot, piece: &[u8]) -> Result<usize, Failed> {
+        match self.files[slot.0 as usize].write(piece) {
+            Ok(count) if count > 0 || piece.is_empty() => Ok(count),
+            _ => {
+                self.faults.rise();
+                Err(Failed)
+            }
+        }
     }
 
     fn close(&mut self, slot: Slot) {
@@ -93,19 +116,7 @@ impl<R: Files> Shelf for DirShelf<R> {
         if at + 1 == self.files.len() {
             self.files.pop();
         } else if let Some(file) = self.files.get_mut(at) {
-            *file = None;
+            *file = OpenFile::Closed;
         }
-    }
-}
-
-// Reads an open file.
-fn read_file<F: Read>(file: &mut Option<F>, buf: &mut [u8]) -> io::Result<usize>
-    requires { IsTrue (is_reading (use_of_file file.old)) }
-    ensures bound { ReadsAtMost result buf.new }
-    ensures use_stays { use_of_file file.new ≡ use_of_file file.old }
-{
-    match file {
-        Some(file) => file.read(buf),
-        None => unreachable!(),
     }
 }

@@ -3,10 +3,16 @@
 #![tactic(auto)]
 
 #[cfg(test)]
+mod dialers;
+#[cfg(test)]
 mod memory;
+#[cfg(test)]
+mod nonces;
 #[cfg(test)]
 mod real;
 #[cfg(test)]
 mod shelves;
+#[cfg(test)]
+mod slots;
 #[cfg(test)]
 mod whole;
