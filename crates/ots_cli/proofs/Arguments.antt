@@ -15,7 +15,7 @@ use Rattle.clap.proofs.WalkLemmas.{both, first_value-rows}
 use Rattle.clap.specs.declared.parser.matches.Found.{Found}
 use Rattle.ots_cli.specs.Words.{Command, argument, arguments_of, command_in, is_taken, name_in, nonempty, read_form, simple, with_arguments, word_of}
 use Rattle.ots_cli.specs.declared.words.Form.{Form}
-use Rattle.ots_cli.specs.declared.words.Form.TheVariants.{Info}
+use Rattle.ots_cli.specs.declared.words.Form.TheVariants.{Info, Canon, Merge, Prune}
 
 pub none_added : (app : App) (name : Text) (ids : List (Bor Text)) → app ≡ new_app name → with_arguments app (texts (drop 0 ids)) ≡ simple name (texts ids)
 unfolding simple
@@ -67,6 +67,9 @@ unnamed f id o is none = ap (λ (z : Option (Bor Text)). option_and_then nonempt
 pub are_simple : (form : Form) → is_simple_and_free (simple (word_of form) (arguments_of form)) ≡ true
 unfolding clap_on_literals simple
 are_simple Info = refl
+are_simple Canon = refl
+are_simple Merge = refl
+are_simple Prune = refl
 
 -- what was taken, and not
 pub form_taken : (form : Form) (word : Text) (ids words : List Text) (rows : List Row) (c : Option Command) → word ≡ word_of form → ids ≡ arguments_of form

@@ -1,20 +1,33 @@
 -- How a command comes to its end.
-use Rattle.std.proofs.Common.{◌≡◌, ℕ, List, [], Option, Some, None, refl, sym, ap, subst, ◌∙◌, inl, inr}
+use Rattle.std.proofs.Common.{◌≡◌, ℕ, ◌≤◌, List, [], ◌∷◌, take, arith, Option, Some, None, refl, sym, ap, subst, ◌∙◌, inl, inr}
 use Rattle.std.specs.Prelude.{Result, Ok, Err, IfOk, string_bytes}
+use Rattle.ots_io.specs.Cause.{Rose}
 use Rattle.ots_io.specs.Shelf.{Names}
+use Rattle.ots_io.specs.Written.{with_name}
 use Rattle.ots_io.specs.declared.out_of_memory.OutOfMemory.{OutOfMemory as Short}
 use Rattle.ots_tree.specs.declared.detached.Detached.{Detached}
+use Rattle.ots_detached.specs.File.{file_of}
 use Rattle.ots_cli.specs.declared.answer.Answer.{Answer}
+use Rattle.ots_cli.specs.declared.output.OutputError.TheVariants as output
 use Rattle.ots_cli.specs.declared.proof.ProofError.{ProofError}
 use Rattle.ots_cli.specs.declared.proof.ProofError.TheVariants as proof
 use Rattle.ots_cli.specs.declared.status.Status.{Status}
-use Rattle.ots_cli.specs.declared.status.Status.TheVariants.{Done, Usage, BadProof, NoFile, ReadFault, TooBig}
-use Rattle.ots_cli.specs.Answer.{Answers, ComesTo, ends, reads_no_more, Ends, prints, prints_a_front, IsReadBy, Leaves, Prints, RefusesProof, no_file, too_big, bad_proof, is_proof}
-use Rattle.ots_cli.specs.Ending.{Ending, refused, AddsFiles}
+use Rattle.ots_cli.specs.declared.status.Status.TheVariants.{Done, Usage, BadProof, NoFile, Exists, ReadFault, WriteFault, TooBig, Differs}
+use Rattle.ots_cli.specs.Answer.{Answers, ComesTo, ends, reads_no_more, writes_no_more, Ends, prints, prints_a_front, IsReadBy, Leaves, no_file_made, all_made, some_made, Prints, PrintsInfo, RefusesProof, no_file, too_big, bad_proof, WithProof, is_proof, is_refused, Writes, too_long, exists, is_made, Merges, differ}
+use Rattle.ots_cli.specs.Ending.{Ending, File, refused, AddsFiles, IsBroken, not_created, not_whole}
 use Rattle.ots_cli.specs.Found.{ReadsProof, status_of}
+use Rattle.ots_cli.specs.Output.{Outputs}
 use Rattle.ots_cli.specs.Refusal.{refusal_text}
+use Rattle.ots_cli.specs.Rewritten.{IsTreeOf}
+use Rattle.ots_cli.specs.declared.rewriting.Rewriting.{Rewriting}
+use Rattle.ots_cli.specs.declared.rewriting.Rewriting.TheVariants.{Canon, Prune}
+use Rattle.ots_canon.specs.Canonical.{IsCanonOf}
+use Rattle.ots_canon.specs.Join.{HaveOnePair}
+use Rattle.ots_canon.specs.Prune.{IsPruneOf}
+use Rattle.ots_tree.specs.declared.token.Token.{Token}
+use Rattle.ots_tree.specs.Sound.{IsSoundPre}
 use Rattle.ots_cli.specs.Text.{IsInfoText}
-use Rattle.ots_cli.specs.Words.{Command, info}
+use Rattle.ots_cli.specs.Words.{Command}
 
 -- no file is made
 pub adds_none : (old new : Option Names) → new ≡ old → AddsFiles [] old new
@@ -34,52 +47,149 @@ refuses told name (proof.BadProof f) s other is read = bad_proof f read (ap (ref
 refuses told name proof.ReadFault s other is read = absurd (other refl)
 refuses told name proof.OutOfMemory s other is read = absurd (let clash : Some s ≡ None = is in cc)
 
+-- what is said of more endings
+pub wider : (old new : Option Names) (A B : Ending → Type 0) (R Q : List ℕ → Type 0) (rose risen : Type 0) (s : Status) (text : List ℕ)
+    → ((e : Ending) → A e → B e) → ((name : List ℕ) → R name → Q name) → (rose → risen) → ComesTo old new A R rose s text → ComesTo old new B Q risen s text
+wider old new A B R Q rose risen s text f g h (ends e a status printed files) = ends e (f e a) status printed files
+wider old new A B R Q rose risen s text f g h (reads_no_more name read fault status printed same) = reads_no_more name (g name read) (h fault) status printed same
+wider old new A B R Q rose risen s text f g h (writes_no_more e name made a broken fault status printed files) =
+    writes_no_more e name made (f e a) broken (h fault) status printed files
+
+pub wider_leaves : (old new : Option Names) (A B : Ending → Type 0) → ((e : Ending) → A e → B e) → Leaves old new A → Leaves old new B
+wider_leaves old new A B f (no_file_made same) = no_file_made same
+wider_leaves old new A B f (all_made e a files) = all_made e (f e a) files
+wider_leaves old new A B f (some_made e name made a broken files) = some_made e name made (f e a) broken files
+
+-- a count that rose later, or earlier, rose
+pub rose_later : (a b c : ℕ) → a ≤ b → Rose b c → Rose a c
+rose_later a b c before rose = omega arith
+
+-- what comes behind a read, which leaves the names
+pub later_comes : (old mid new : Option Names) (A : Option Names → Ending → Type 0) (B : Ending → Type 0) (R Q : List ℕ → Type 0) (rose risen : Type 0) (r : Result Answer Short)
+    → mid ≡ old → ((e : Ending) → A old e → B e) → ((name : List ℕ) → R name → Q name) → (rose → risen)
+    → IfOk r (λ a. ComesTo mid new (A mid) R rose a.status (string_bytes a.text)) → IfOk r (λ a. ComesTo old new B Q risen a.status (string_bytes a.text))
+later_comes old mid new A B R Q rose risen (Err x) same f g h comes = tt
+later_comes old mid new A B R Q rose risen (Ok a) same f g h comes =
+    wider old new (A old) B R Q rose risen a.status (string_bytes a.text) f g h
+    (subst (λ (z : Option Names). ComesTo z new (A z) R rose a.status (string_bytes a.text)) same comes)
+
+pub later_leaves : (old mid new : Option Names) (A : Option Names → Ending → Type 0) (B : Ending → Type 0) → mid ≡ old → ((e : Ending) → A old e → B e)
+    → Leaves mid new (A mid) → Leaves old new B
+later_leaves old mid new A B same f h = wider_leaves old new (A old) B f (subst (λ (z : Option Names). Leaves z new (A z)) same h)
+
 -- what a command comes to that ends with the refusal of a name that it reads
-refused_at : (old new : Option Names) (command : Option Command) (rose : Type 0) (name : List ℕ) (e : ProofError) (s : Status) (text : List ℕ)
-    → IsReadBy name command → ((d : Ending) → RefusesProof old name d → Answers old command d) → Some s ≡ status_of e → text ≡ refusal_text name s
-    → ReadsProof old name (Err e) → (e ≡ proof.ReadFault → rose) → new ≡ old → ComesTo old new command rose s text
-refused_at old new command rose name proof.ReadFault s text reads answers is printed read fault same =
+refused_at : (old new : Option Names) (A : Ending → Type 0) (R : List ℕ → Type 0) (rose : Type 0) (name : List ℕ) (e : ProofError) (s : Status) (text : List ℕ)
+    → R name → ((d : Ending) → RefusesProof old name d → A d) → Some s ≡ status_of e → text ≡ refusal_text name s
+    → ReadsProof old name (Err e) → (e ≡ proof.ReadFault → rose) → new ≡ old → ComesTo old new A R rose s text
+refused_at old new A R rose name proof.ReadFault s text reads answers is printed read fault same =
     let status = some_is s ReadFault is in
     reads_no_more name reads (fault refl) status (printed ∙ ap (refusal_text name) status) same
-refused_at old new command rose name proof.NoFile s text reads answers is printed read fault same =
+refused_at old new A R rose name proof.NoFile s text reads answers is printed read fault same =
     ends (refused name s) (answers (refused name s) (refuses old name proof.NoFile s (λ h. cc) is read)) refl printed (adds_none old new same)
-refused_at old new command rose name proof.TooBig s text reads answers is printed read fault same =
+refused_at old new A R rose name proof.TooBig s text reads answers is printed read fault same =
     ends (refused name s) (answers (refused name s) (refuses old name proof.TooBig s (λ h. cc) is read)) refl printed (adds_none old new same)
-refused_at old new command rose name (proof.BadProof f) s text reads answers is printed read fault same =
+refused_at old new A R rose name (proof.BadProof f) s text reads answers is printed read fault same =
     ends (refused name s) (answers (refused name s) (refuses old name (proof.BadProof f) s (λ h. cc) is read)) refl printed (adds_none old new same)
-refused_at old new command rose name proof.OutOfMemory s text reads answers is printed read fault same = absurd (let clash : Some s ≡ None = is in cc)
+refused_at old new A R rose name proof.OutOfMemory s text reads answers is printed read fault same = absurd (let clash : Some s ≡ None = is in cc)
 
-pub refused_comes : (old new : Option Names) (command : Option Command) (rose : Type 0) (name : List ℕ) (e : ProofError) (r : Result Answer Short)
-    → IsReadBy name command → ((d : Ending) → RefusesProof old name d → Answers old command d)
+pub refused_comes : (old new : Option Names) (A : Ending → Type 0) (R : List ℕ → Type 0) (rose : Type 0) (name : List ℕ) (e : ProofError) (r : Result Answer Short)
+    → R name → ((d : Ending) → RefusesProof old name d → A d)
     → IfOk r (λ a. Some a.status ≡ status_of e) → IfOk r (λ a. string_bytes a.text ≡ refusal_text name a.status)
-    → ReadsProof old name (Err e) → (e ≡ proof.ReadFault → rose) → new ≡ old → IfOk r (λ a. ComesTo old new command rose a.status (string_bytes a.text))
-refused_comes old new command rose name e (Ok a) reads answers is printed read fault same =
-    refused_at old new command rose name e a.status (string_bytes a.text) reads answers is printed read fault same
-refused_comes old new command rose name e (Err x) reads answers is printed read fault same = tt
+    → ReadsProof old name (Err e) → (e ≡ proof.ReadFault → rose) → new ≡ old → IfOk r (λ a. ComesTo old new A R rose a.status (string_bytes a.text))
+refused_comes old new A R rose name e (Ok a) reads answers is printed read fault same =
+    refused_at old new A R rose name e a.status (string_bytes a.text) reads answers is printed read fault same
+refused_comes old new A R rose name e (Err x) reads answers is printed read fault same = tt
 
 -- ---- the commands
 
-pub info_comes : (old new : Option Names) (name : List ℕ) (rose : Type 0) (p : Detached) (text : List ℕ) → ReadsProof old name (Ok p) → IsInfoText p text → new ≡ old
-    → ComesTo old new (Some (info name)) rose Done text
-info_comes old new name rose p text read printed same =
+pub info_comes : (old new : Option Names) (name : List ℕ) (R : List ℕ → Type 0) (rose : Type 0) (p : Detached) (text : List ℕ) → ReadsProof old name (Ok p)
+    → IsInfoText p text → new ≡ old → ComesTo old new (WithProof old name PrintsInfo) R rose Done text
+info_comes old new name R rose p text read printed same =
     ends (record { status = Done; text = text; files = [] })
     (is_proof p read (record { status = refl; text = printed; files = refl })) refl refl (adds_none old new same)
 
-pub usage_comes : (old : Option Names) (command : Option Command) (rose : Type 0) (r : Result Answer Short) → command ≡ None
+-- a refusal that is defined, where no file is made
+pub refusal_comes : (old new : Option Names) (A : Ending → Type 0) (R : List ℕ → Type 0) (rose : Type 0) (name : List ℕ) (s : Status) (r : Result Answer Short)
+    → A (refused name s) → new ≡ old → IfOk r (λ a. a.status ≡ s) → IfOk r (λ a. string_bytes a.text ≡ refusal_text name s)
+    → IfOk r (λ a. ComesTo old new A R rose a.status (string_bytes a.text))
+refusal_comes old new A R rose name s (Ok a) answers same is printed = ends (refused name s) answers is printed (adds_none old new same)
+refusal_comes old new A R rose name s (Err x) answers same is printed = tt
+
+-- ---- a result that is written
+
+-- the file of a proof under a name
+abbrev made : List ℕ → Detached → File
+made name p = record { name = name; bytes = file_of p }
+
+abbrev done : List ℕ → Detached → Ending
+done name p = record { status = Done; text = []; files = made name p ∷ [] }
+
+adds_one : (old new : Option Names) (f : File) → new ≡ with_name f.name f.bytes old → AddsFiles (f ∷ []) old new
+adds_one None new f is = is
+adds_one (Some names) new f is = is
+
+is_done : (old new : Option Names) (name : List ℕ) (p : Detached) → Outputs name (file_of p) old new (Ok tt) → Writes old name p (done name p)
+is_done old new name p h = is_made h.0 h.1 refl
+
+pub written_comes : (old new : Option Names) (name : List ℕ) (p : Detached) (R : List ℕ → Type 0) (rose : Type 0) (text : List ℕ)
+    → Outputs name (file_of p) old new (Ok tt) → text ≡ [] → ComesTo old new (Writes old name p) R rose Done text
+written_comes old new name p R rose text h none = ends (done name p) (is_done old new name p h) refl none (adds_one old new (made name p) h.2)
+
+pub written_leaves : (old new : Option Names) (name : List ℕ) (p : Detached) → Outputs name (file_of p) old new (Ok tt) → Leaves old new (Writes old name p)
+written_leaves old new name p h = all_made (done name p) (is_done old new name p h) (adds_one old new (made name p) h.2)
+
+pub too_long_comes : (old new : Option Names) (name : List ℕ) (p : Detached) (R : List ℕ → Type 0) (rose : Type 0) (r : Result Answer Short)
+    → Outputs name (file_of p) old new (Err output.TooBig) → IfOk r (λ a. a.status ≡ TooBig) → IfOk r (λ a. string_bytes a.text ≡ refusal_text name TooBig)
+    → IfOk r (λ a. ComesTo old new (Writes old name p) R rose a.status (string_bytes a.text))
+too_long_comes old new name p R rose r h is printed = refusal_comes old new (Writes old name p) R rose name TooBig r (too_long h.0 refl) h.1 is printed
+
+pub exists_comes : (old new : Option Names) (name : List ℕ) (p : Detached) (R : List ℕ → Type 0) (rose : Type 0) (r : Result Answer Short)
+    → Outputs name (file_of p) old new (Err output.Exists) → IfOk r (λ a. a.status ≡ Exists) → IfOk r (λ a. string_bytes a.text ≡ refusal_text name Exists)
+    → IfOk r (λ a. ComesTo old new (Writes old name p) R rose a.status (string_bytes a.text))
+exists_comes old new name p R rose r h is printed = refusal_comes old new (Writes old name p) R rose name Exists r (exists h.0 h.1 refl) h.2 is printed
+
+-- a front of the file, or no file
+broken_with : (old new : Option Names) (name : List ℕ) (p : Detached) (P : Type 0)
+    → ((some : List File) → IsBroken name (made name p ∷ []) some → AddsFiles some old new → P) → Outputs name (file_of p) old new (Err output.WriteFault) → P
+broken_with old new name p P f (size, absent, inl same) = f [] (not_created [] [] (made name p) refl refl refl) (adds_none old new same)
+broken_with old new name p P f (size, absent, inr (n, is)) =
+    let front : File = record { name = name; bytes = take n (file_of p) } in
+    f (front ∷ []) (not_whole [] [] (made name p) n refl refl refl) (adds_one old new front is)
+
+fault_comes : (old new : Option Names) (name : List ℕ) (p : Detached) (R : List ℕ → Type 0) (rose : Type 0) (s : Status) (text : List ℕ)
+    → Outputs name (file_of p) old new (Err output.WriteFault) → rose → s ≡ WriteFault → text ≡ refusal_text name WriteFault → ComesTo old new (Writes old name p) R rose s text
+fault_comes old new name p R rose s text h fault is printed =
+    broken_with old new name p (ComesTo old new (Writes old name p) R rose s text)
+    (λ some broken adds. writes_no_more (done name p) name some (is_made h.0 h.1 refl) broken fault is printed adds) h
+
+pub write_fault_comes : (old new : Option Names) (name : List ℕ) (p : Detached) (R : List ℕ → Type 0) (rose : Type 0) (r : Result Answer Short)
+    → Outputs name (file_of p) old new (Err output.WriteFault) → rose → IfOk r (λ a. a.status ≡ WriteFault)
+    → IfOk r (λ a. string_bytes a.text ≡ refusal_text name WriteFault) → IfOk r (λ a. ComesTo old new (Writes old name p) R rose a.status (string_bytes a.text))
+write_fault_comes old new name p R rose (Ok a) h fault is printed = fault_comes old new name p R rose a.status (string_bytes a.text) h fault is printed
+write_fault_comes old new name p R rose (Err x) h fault is printed = tt
+
+pub write_fault_leaves : (old new : Option Names) (name : List ℕ) (p : Detached) → Outputs name (file_of p) old new (Err output.WriteFault) → Leaves old new (Writes old name p)
+write_fault_leaves old new name p h =
+    broken_with old new name p (Leaves old new (Writes old name p)) (λ some broken adds. some_made (done name p) name some (is_made h.0 h.1 refl) broken adds) h
+
+-- ---- the words
+
+pub usage_comes : (old : Option Names) (command : Option Command) (R : List ℕ → Type 0) (rose : Type 0) (r : Result Answer Short) → command ≡ None
     → IfOk r (λ a. a.status ≡ Usage) → IfOk r (λ a. string_bytes a.text ≡ refusal_text [] Usage)
-    → IfOk r (λ a. ComesTo old old command rose a.status (string_bytes a.text))
-usage_comes old command rose (Ok a) none is printed =
-    ends (refused [] Usage) (subst (λ (z : Option Command). Answers old z (refused [] Usage)) (sym none) refl) is printed (adds_none old old refl)
-usage_comes old command rose (Err x) none is printed = tt
+    → IfOk r (λ a. ComesTo old old (Answers old command) R rose a.status (string_bytes a.text))
+usage_comes old command R rose r none is printed =
+    refusal_comes old old (Answers old command) R rose [] Usage r
+    (subst (λ (z : Option Command). Answers old z (refused [] Usage)) (sym none) refl) refl is printed
 
 -- what is said of a command, of words that are read as it
-pub same_leaves : (old new : Option Names) (c d : Option Command) → c ≡ d → Leaves old new d → Leaves old new c
-same_leaves old new c d same h = subst (Leaves old new) (sym same) h
+pub same_leaves : (old new : Option Names) (c d : Option Command) → c ≡ d → Leaves old new (Answers old d) → Leaves old new (Answers old c)
+same_leaves old new c d same h = subst (λ (z : Option Command). Leaves old new (Answers old z)) (sym same) h
 
 pub same_comes : (old new : Option Names) (c d : Option Command) (rose : Type 0) (r : Result Answer Short) → c ≡ d
-    → IfOk r (λ a. ComesTo old new d rose a.status (string_bytes a.text)) → IfOk r (λ a. ComesTo old new c rose a.status (string_bytes a.text))
+    → IfOk r (λ a. ComesTo old new (Answers old d) (IsReadBy d) rose a.status (string_bytes a.text))
+    → IfOk r (λ a. ComesTo old new (Answers old c) (IsReadBy c) rose a.status (string_bytes a.text))
 same_comes old new c d rose r same h =
-    subst (λ (z : Option Command). IfOk r (λ a. ComesTo old new z rose a.status (string_bytes a.text))) (sym same) h
+    subst (λ (z : Option Command). IfOk r (λ a. ComesTo old new (Answers old z) (IsReadBy z) rose a.status (string_bytes a.text))) (sym same) h
 
 -- ---- what is printed
 
@@ -87,3 +197,21 @@ pub printed : (comes : Status → List ℕ → Type 0) (lost : Type 0) (before a
     → comes s text → Prints s text lost before after r → Ends comes lost before after r
 printed comes lost before after s r text h (inl p) = prints text (subst (λ (z : Status). comes z text) (sym p.0) h) p.1
 printed comes lost before after s r text h (inr p) = prints_a_front s text p.0 p.1 h p.2
+
+-- ---- what is made of a proof
+
+pub rewritten_sound : (way : Rewriting) (n k : ℕ) (ts us : List Token)
+    → ((n k : ℕ) (ts us : List Token) → IsSoundPre n k ts → IsCanonOf ts us → IsSoundPre n k us)
+    → ((n k : ℕ) (ts us : List Token) → IsSoundPre n k ts → IsPruneOf ts us → IsSoundPre n k us)
+    → IsSoundPre n k ts → IsTreeOf way ts us → IsSoundPre n k us
+rewritten_sound Canon n k ts us canon prune sound is = canon n k ts us sound is
+rewritten_sound Prune n k ts us canon prune sound is = prune n k ts us sound is
+
+-- two proofs that can't be joined
+pub differs_comes : (old : Option Names) (to : List ℕ) (p q : Detached) (R : List ℕ → Type 0) (rose : Type 0) (s : Status) (r : Result Answer Short)
+    → (HaveOnePair p q → ⊥) → s ≡ Differs p.hash p.digest q.hash q.digest → IfOk r (λ a. a.status ≡ s)
+    → IfOk r (λ a. string_bytes a.text ≡ refusal_text [] s) → IfOk r (λ a. ComesTo old old (Merges old to p q) R rose a.status (string_bytes a.text))
+differs_comes old to p q R rose s r other same is printed =
+    let both = Differs p.hash p.digest q.hash q.digest in
+    refusal_comes old old (Merges old to p q) R rose [] both r (differ other refl) refl
+    (subst (λ (z : Status). IfOk r (λ a. a.status ≡ z)) same is) (subst (λ (z : Status). IfOk r (λ a. string_bytes a.text ≡ refusal_text [] z)) same printed)

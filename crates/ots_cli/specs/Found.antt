@@ -1,5 +1,5 @@
 -- What is found under a name.
-use Rattle.std.specs.Prelude.{◌≡◌, ◌<◌, ◌≤◌, ℕ, List, length, Option, Some, None, Result, Ok, Err}
+use Rattle.std.specs.Prelude.{◌≡◌, ◌<◌, ◌≤◌, ℕ, List, length, Option, Some, None, Result, Ok, Err, IsSome}
 use Rattle.std.specs.FinMap as map
 use Rattle.ots_io.specs.Told.{IfTold}
 use Rattle.ots_io.specs.Shelf.{Names}
@@ -19,6 +19,10 @@ use Rattle.ots_cli.specs.declared.proof.ProofError.TheVariants.{NoFile, ReadFaul
 -- that tells none, as of real files, nothing is said.
 abbrev pub IsUnder : Option Names → List ℕ → Option (List ℕ) → Type 0
 IsUnder told name found = IfTold told (λ names. map.get names name ≡ found)
+
+-- the name is there
+abbrev pub IsThere : Option Names → List ℕ → Type 0
+IsThere told name = IfTold told (λ names. IsSome (map.get names name))
 
 abbrev pub HasUnder : Option Names → List ℕ → (List ℕ → Type 0) → Type 0
 HasUnder told name P = (bytes : List ℕ) × IsUnder told name (Some bytes) × P bytes

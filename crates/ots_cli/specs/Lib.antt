@@ -3,5 +3,7 @@ pub mod Words
 pub mod Text
 pub mod Found
 pub mod Refusal
+pub mod Output
+pub mod Rewritten
 pub mod Ending
 pub mod Answer

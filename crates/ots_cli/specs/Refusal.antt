@@ -2,19 +2,28 @@
 use Rattle.std.specs.Prelude.{ℕ, List, [], ◌++◌, codes, decimal}
 use Rattle.ots_reader.specs.Printed.{printed}
 use Rattle.ots_cli.specs.declared.status.Status.{Status}
-use Rattle.ots_cli.specs.declared.status.Status.TheVariants.{Done, Usage, BadProof, NoFile, ReadFault, WriteFault, TooBig, OutOfMemory}
-use Rattle.ots_cli.specs.Text.{line}
+use Rattle.ots_cli.specs.declared.status.Status.TheVariants.{Done, Usage, BadProof, NoFile, Exists, ReadFault, WriteFault, TooBig, Differs, OutOfMemory}
+use Rattle.hex.specs.Hex.{encode_lower}
+use Rattle.ots_ops.specs.declared.hash_op.HashOp.{HashOp}
+use Rattle.ots_cli.specs.Text.{hash_words, line}
 
 abbrev pub usage_words : List ℕ
 usage_words = codes "usage: ots info, canon, merge, prune, verify, stamp, upgrade, sample"
+
+-- a hash and a digest
+abbrev pub pair_words : HashOp → List ℕ → List ℕ
+pair_words hash digest = hash_words hash ++ codes " " ++ encode_lower digest
 
 -- over a name; a status that has no line prints nothing
 abbrev pub refusal_text : List ℕ → Status → List ℕ
 refusal_text name Usage = line usage_words
 refusal_text name (BadProof f) = line (codes "bad proof " ++ name ++ codes " at " ++ decimal f.place ++ codes ": " ++ printed f.reason)
 refusal_text name NoFile = line (codes "no file " ++ name)
+refusal_text name Exists = line (codes "exists " ++ name)
 refusal_text name ReadFault = line (codes "read fault " ++ name)
 refusal_text name TooBig = line (codes "too big " ++ name)
+refusal_text name (Differs first_hash first_digest second_hash second_digest) =
+    line (codes "differs " ++ pair_words first_hash first_digest ++ codes " " ++ pair_words second_hash second_digest)
 refusal_text name Done = []
-refusal_text name WriteFault = []
+refusal_text name WriteFault = line (codes "write fault " ++ name)
 refusal_text name OutOfMemory = []

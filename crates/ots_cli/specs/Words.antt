@@ -9,12 +9,18 @@ use Rattle.clap.specs.declared.builder.action.ArgAction.TheVariants.{Set}
 use Rattle.ots_cli.specs.declared.words.Command.{Command as Read}
 use Rattle.ots_cli.specs.declared.words.Command.TheVariants as read
 use Rattle.ots_cli.specs.declared.words.Form.{Form}
-use Rattle.ots_cli.specs.declared.words.Form.TheVariants.{Info}
+use Rattle.ots_cli.specs.declared.words.Form.TheVariants.{Info, Canon, Merge, Prune}
 
 -- what the words ask for
 pub data Command : Type 0 where
   -- print what this proof says
   info : List ℕ → Command
+  -- write the canonical form of the first as the second
+  canon : List ℕ → List ℕ → Command
+  -- join the first two, and write that as the third
+  merge : List ℕ → List ℕ → List ℕ → Command
+  -- prune the first, and write that as the second
+  prune : List ℕ → List ℕ → Command
 
 -- ---- the words as clap reads them
 
@@ -38,13 +44,24 @@ is_taken app words = is_empty (fault_of app words)
 
 abbrev pub word_of : Form → List ℕ
 word_of Info = codes "info"
+word_of Canon = codes "canon"
+word_of Merge = codes "merge"
+word_of Prune = codes "prune"
 
--- info PROOF
+-- info PROOF; canon IN OUT; merge A B OUT; prune IN OUT
 abbrev pub arguments_of : Form → List (List ℕ)
 arguments_of Info = codes "proof" ∷ []
+arguments_of Canon = codes "in" ∷ codes "out" ∷ []
+arguments_of Merge = codes "a" ∷ codes "b" ∷ codes "out" ∷ []
+arguments_of Prune = codes "in" ∷ codes "out" ∷ []
 
 abbrev pub form_of : List ℕ → Option Form
-form_of word = if bytes_eq word (word_of Info) then Some Info else None
+form_of word =
+    if bytes_eq word (word_of Info) then Some Info
+    else if bytes_eq word (word_of Canon) then Some Canon
+    else if bytes_eq word (word_of Merge) then Some Merge
+    else if bytes_eq word (word_of Prune) then Some Prune
+    else None
 
 -- a file's name is not empty
 abbrev pub nonempty : List ℕ → Option (List ℕ)
@@ -54,9 +71,16 @@ nonempty (b ∷ bytes) = Some (b ∷ bytes)
 abbrev pub name_in : List Row → List ℕ → Option (List ℕ)
 name_in rows id = option_and_then nonempty (first_of id rows)
 
+-- the command with these names, where both are there
+abbrev pub with_two : (List ℕ → List ℕ → Command) → Option (List ℕ) → Option (List ℕ) → Option Command
+with_two command first second = option_and_then (λ x. option_map (command x) second) first
+
 -- the command with these values of its arguments
 abbrev pub command_in : Form → List Row → Option Command
 command_in Info rows = option_map info (name_in rows (codes "proof"))
+command_in Canon rows = with_two canon (name_in rows (codes "in")) (name_in rows (codes "out"))
+command_in Merge rows = option_and_then (λ a. with_two (merge a) (name_in rows (codes "b")) (name_in rows (codes "out"))) (name_in rows (codes "a"))
+command_in Prune rows = with_two prune (name_in rows (codes "in")) (name_in rows (codes "out"))
 
 unfoldable pub read_form : Form → List (List ℕ) → Option Command
 read_form form words =
@@ -71,3 +95,6 @@ command_of (word ∷ rest) = option_and_then (λ form. read_form form (word ∷ 
 -- what was read
 abbrev pub read_as : Read → Command
 read_as (read.Info proof) = info proof.now
+read_as (read.Canon from to) = canon from.now to.now
+read_as (read.Merge first second to) = merge first.now second.now to.now
+read_as (read.Prune from to) = prune from.now to.now

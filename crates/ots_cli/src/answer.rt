@@ -1,15 +1,14 @@
 //! What a command answers and prints.
 ghost use Rattle.std.specs.Prelude.{◌≡◌, ◌≤◌, ℕ, List, map, string_bytes, None, Some, IfOk};
 ghost use Rattle.ots_io.specs.Cause.{Rose};
-ghost use Rattle.ots_cli.specs.Answer.{ComesTo, Leaves};
-ghost use Rattle.ots_cli.specs.Found.{status_of};
+ghost use Rattle.ots_cli.specs.Answer.{Answers, ComesTo, IsReadBy, Leaves};
 ghost use Rattle.ots_cli.specs.Refusal.{refusal_text};
-ghost use Rattle.ots_cli.specs.Words.{command_of, info, read_as};
+ghost use Rattle.ots_cli.specs.Words.{command_of, read_as};
 
-use crate::proof::{ProofError, read_proof};
+use crate::commands::{info, merge, rewrite};
 use crate::refusal::refusal_text;
+use crate::rewriting::Rewriting;
 use crate::status::Status;
-use crate::text::info_text;
 use crate::words::{Command, WordsError, read_words};
 use ots_io::{OutOfMemory, Shelf};
 use std::alloc::Global;
@@ -28,11 +27,11 @@ pub fn answer_to<S: Shelf>(
     words: &[String],
     shelf: &mut S,
 ) -> Result<Answer, OutOfMemory>
-    ensures leaves { Leaves (S.told shelf.old).names (S.told shelf.new).names (command_of (map string_bytes words.now)) }
+    ensures leaves { Leaves (S.told shelf.old).names (S.told shelf.new).names (Answers (S.told shelf.old).names (command_of (map string_bytes words.now))) }
     ensures slots { (k : ℕ) → (S.told shelf.new).slots k ≡ (S.told shelf.old).slots k }
     ensures later { S.faults shelf.old ≤ S.faults shelf.new }
-    ensures comes { IfOk result (λ a. ComesTo (S.told shelf.old).names (S.told shelf.new).names (command_of (map string_bytes words.now))
-        (Rose (S.faults shelf.old) (S.faults shelf.new)) a.status (string_bytes a.text)) }
+    ensures comes { IfOk result (λ a. ComesTo (S.told shelf.old).names (S.told shelf.new).names (Answers (S.told shelf.old).names (command_of (map string_bytes words.now)))
+        (IsReadBy (command_of (map string_bytes words.now))) (Rose (S.faults shelf.old) (S.faults shelf.new)) a.status (string_bytes a.text)) }
 {
     match read_words(alloc, words) {
         Ok(command) => carry_out(alloc, command, shelf),
@@ -47,50 +46,22 @@ fn carry_out<S: Shelf>(
     command: Command<'_>,
     shelf: &mut S,
 ) -> Result<Answer, OutOfMemory>
-    ensures leaves { Leaves (S.told shelf.old).names (S.told shelf.new).names (Some (read_as command.entry)) }
+    ensures leaves { Leaves (S.told shelf.old).names (S.told shelf.new).names (Answers (S.told shelf.old).names (Some (read_as command.entry))) }
     ensures slots { (k : ℕ) → (S.told shelf.new).slots k ≡ (S.told shelf.old).slots k }
     ensures later { S.faults shelf.old ≤ S.faults shelf.new }
-    ensures comes { IfOk result (λ a. ComesTo (S.told shelf.old).names (S.told shelf.new).names (Some (read_as command.entry))
-        (Rose (S.faults shelf.old) (S.faults shelf.new)) a.status (string_bytes a.text)) }
+    ensures comes { IfOk result (λ a. ComesTo (S.told shelf.old).names (S.told shelf.new).names (Answers (S.told shelf.old).names (Some (read_as command.entry)))
+        (IsReadBy (Some (read_as command.entry))) (Rose (S.faults shelf.old) (S.faults shelf.new)) a.status (string_bytes a.text)) }
 {
     match command {
         Command::Info(proof) => info(alloc, proof, shelf),
-    }
-}
-
-/// `info`: the text of the proof, or why there is none.
-fn info<S: Shelf>(alloc: Global, name: &str, shelf: &mut S) -> Result<Answer, OutOfMemory>
-    ensures names { (S.told shelf.new).names ≡ (S.told shelf.old).names }
-    ensures slots { (k : ℕ) → (S.told shelf.new).slots k ≡ (S.told shelf.old).slots k }
-    ensures later { S.faults shelf.old ≤ S.faults shelf.new }
-    ensures comes { IfOk result (λ a. ComesTo (S.told shelf.old).names (S.told shelf.new).names (Some (info name.now))
-        (Rose (S.faults shelf.old) (S.faults shelf.new)) a.status (string_bytes a.text)) }
-{
-    match read_proof(alloc, name, shelf) {
-        Ok(proof) => Ok(Answer {
-            status: Status::Done,
-            text: info_text(alloc, &proof)?,
-        }),
-        Err(error) => proof_refusal(alloc, name, error),
-    }
-}
-
-/// The refusal of a name that gave no proof.
-fn proof_refusal(alloc: Global, name: &str, error: ProofError) -> Result<Answer, OutOfMemory>
-    ensures status { IfOk result (λ a. Some a.status ≡ status_of error) }
-    ensures text { IfOk result (λ a. string_bytes a.text ≡ refusal_text name.now a.status) }
-{
-    match error {
-        ProofError::NoFile => refusal(alloc, name, Status::NoFile),
-        ProofError::ReadFault => refusal(alloc, name, Status::ReadFault),
-        ProofError::TooBig => refusal(alloc, name, Status::TooBig),
-        ProofError::BadProof(fault) => refusal(alloc, name, Status::BadProof(fault)),
-        ProofError::OutOfMemory => Err(OutOfMemory),
+        Command::Canon(from, to) => rewrite(alloc, Rewriting::Canon, from, to, shelf),
+        Command::Merge(first, second, to) => merge(alloc, first, second, to, shelf),
+        Command::Prune(from, to) => rewrite(alloc, Rewriting::Prune, from, to, shelf),
     }
 }
 
 /// A refusal over a name, with its line.
-fn refusal(alloc: Global, name: &str, status: Status) -> Result<Answer, OutOfMemory>
+pub fn refusal(alloc: Global, name: &str, status: Status) -> Result<Answer, OutOfMemory>
     ensures status { IfOk result (λ a. a.status ≡ status) }
     ensures text { IfOk result (λ a. string_bytes a.text ≡ refusal_text name.now status) }
 {

@@ -3,8 +3,11 @@
 #![tactic(auto)]
 
 mod answer;
+mod commands;
+mod output;
 mod proof;
 mod refusal;
+mod rewriting;
 mod run;
 mod status;
 mod text;

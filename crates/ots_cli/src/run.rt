@@ -1,28 +1,34 @@
 //! The top call.
 ghost use Rattle.std.specs.Prelude.{◌≡◌, ◌≤◌, ℕ, map, string_bytes, IsSome};
 ghost use Rattle.ots_io.specs.Cause.{Rose};
-ghost use Rattle.ots_cli.specs.Answer.{Answers, ComesTo, Ends, Leaves, Prints, UnlessFailed};
+ghost use Rattle.ots_cli.specs.Answer.{Answers, ComesTo, Ends, IsReadBy, Leaves, Prints, UnlessFailed};
 ghost use Rattle.ots_cli.specs.Ending.{Ending};
 ghost use Rattle.ots_cli.specs.Words.{command_of};
 
 use crate::answer::{Answer, answer_to};
 use crate::status::Status;
-use ots_io::{Failed, OutOfMemory, Shelf, Sink, write_all};
+use ots_io::{Dialer, Failed, Nonces, OutOfMemory, Shelf, Sink, write_all};
 use std::alloc::Global;
 
-/// Does what the words ask for, prints on the sink, and answers how it ended.
-pub fn run_client<S: Shelf, K: Sink>(
+/// Does what the words ask for, prints on the sink, and answers how it ended. No command of these
+/// asks a calendar or draws a nonce, so the dialer and the nonces stay as they are.
+pub fn run_client<S: Shelf, K: Sink, D: Dialer, N: Nonces>(
     alloc: Global,
     words: &[String],
     shelf: &mut S,
     out: &mut K,
+    dialer: &mut D,
+    nonces: &mut N,
 ) -> Status
-    ensures leaves { Leaves (S.told shelf.old).names (S.told shelf.new).names (command_of (map string_bytes words.now)) }
+    ensures leaves { Leaves (S.told shelf.old).names (S.told shelf.new).names (Answers (S.told shelf.old).names (command_of (map string_bytes words.now))) }
     ensures slots { (k : ℕ) → (S.told shelf.new).slots k ≡ (S.told shelf.old).slots k }
     ensures faults { S.faults shelf.old ≤ S.faults shelf.new }
     ensures out_faults { K.faults out.old ≤ K.faults out.new }
     ensures same { K.same out.old out.new }
-    ensures ends { Ends (ComesTo (S.told shelf.old).names (S.told shelf.new).names (command_of (map string_bytes words.now)) (Rose (S.faults shelf.old) (S.faults shelf.new)))
+    ensures dialer { dialer.new ≡ dialer.old }
+    ensures nonces { nonces.new ≡ nonces.old }
+    ensures ends { Ends (ComesTo (S.told shelf.old).names (S.told shelf.new).names (Answers (S.told shelf.old).names (command_of (map string_bytes words.now)))
+        (IsReadBy (command_of (map string_bytes words.now))) (Rose (S.faults shelf.old) (S.faults shelf.new)))
         (Rose (K.faults out.old) (K.faults out.new)) (K.taken out.old) (K.taken out.new) result }
     ensures exact { (e : Ending) → IsSome (S.told shelf.old).names
         → Answers (S.told shelf.old).names (command_of (map string_bytes words.now)) e → UnlessFailed e.status result }

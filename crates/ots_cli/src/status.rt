@@ -1,6 +1,7 @@
 ghost use Rattle.std.specs.Prelude.{◌≡◌};
 ghost use Rattle.ots_cli.specs.Status.{number};
 
+use ots_ops::{Digest, HashOp};
 use ots_reader::Fault;
 
 /// How a run of the client ended. A program ends with the status's number.
@@ -14,12 +15,25 @@ pub enum Status {
     BadProof(Fault),
     /// The shelf has no such name.
     NoFile,
+    /// The shelf has a name that was to be created.
+    Exists,
     /// The shelf counted a fault while a file was opened or read.
     ReadFault,
-    /// The sink counted a fault.
+    /// The shelf counted a fault while a file was created or written, or the sink counted one.
     WriteFault,
-    /// The input has more than 4,194,304 bytes.
+    /// A proof file has more than 4,194,304 bytes: an input, or the result.
     TooBig,
+    /// Two proofs are of different digests, or their digests are made by different hashes.
+    Differs {
+        /// The hash of the first proof.
+        first_hash: HashOp,
+        /// The digest of the first proof.
+        first_digest: Digest,
+        /// The hash of the second proof.
+        second_hash: HashOp,
+        /// The digest of the second proof.
+        second_digest: Digest,
+    },
     /// Memory ran out.
     OutOfMemory,
 }
@@ -34,9 +48,11 @@ impl Status {
             Status::Usage => 2,
             Status::BadProof(_) => 3,
             Status::NoFile => 4,
+            Status::Exists => 5,
             Status::ReadFault => 6,
             Status::WriteFault => 7,
             Status::TooBig => 8,
+            Status::Differs { .. } => 13,
             Status::OutOfMemory => 20,
         }
     }

@@ -11,7 +11,7 @@ use ots_tree::{Detached, Token, TokenAt, listed};
 use std::alloc::Global;
 
 /// The word for a hash.
-fn hash_words(hash: HashOp) -> &'static str
+pub fn hash_words(hash: HashOp) -> &'static str
     ensures { result.now ≡ hash_words hash }
 {
     match hash {
@@ -22,7 +22,7 @@ fn hash_words(hash: HashOp) -> &'static str
 }
 
 /// Adds bytes in lower-case hexadecimal.
-fn push_hex(text: &mut String, bytes: &[u8]) -> Result<(), OutOfMemory>
+pub fn push_hex(text: &mut String, bytes: &[u8]) -> Result<(), OutOfMemory>
     ensures { OnOk result (string_bytes text.new ≡ string_bytes text.old ++ encode_lower bytes.now) }
 {
     let digits = hex::encode(*text.allocator(), bytes)?;

@@ -14,12 +14,21 @@ use std::alloc::{AllocError, Global};
 pub enum Command<'a> {
     /// `info PROOF`: print what this proof says.
     Info(&'a str),
+    /// `canon IN OUT`: write the canonical form of the proof under the first name as the second.
+    Canon(&'a str, &'a str),
+    /// `merge A B OUT`: join the proofs under the first two names, and write that as the third.
+    Merge(&'a str, &'a str, &'a str),
+    /// `prune IN OUT`: prune the proof under the first name, and write that as the second.
+    Prune(&'a str, &'a str),
 }
 
 /// The commands by their first words.
 #[derive(Clone, Copy)]
 enum Form {
     Info,
+    Canon,
+    Merge,
+    Prune,
 }
 
 /// Why words ask for nothing.
@@ -92,6 +101,12 @@ fn nonempty(name: &str) -> Option<&str>
 /// The arguments of `info`.
 static INFO: [&str; 1] = ["proof"];
 
+/// The arguments of `canon` and `prune`.
+static REWRITING: [&str; 2] = ["in", "out"];
+
+/// The arguments of `merge`.
+static MERGE: [&str; 3] = ["a", "b", "out"];
+
 impl Form {
     /// The command with this word.
     fn of(word: &str) -> Option<Form>
@@ -99,6 +114,9 @@ impl Form {
     {
         match word {
             "info" => Some(Form::Info),
+            "canon" => Some(Form::Canon),
+            "merge" => Some(Form::Merge),
+            "prune" => Some(Form::Prune),
             _ => None,
         }
     }
@@ -109,6 +127,9 @@ impl Form {
     {
         match self {
             Form::Info => "info",
+            Form::Canon => "canon",
+            Form::Merge => "merge",
+            Form::Prune => "prune",
         }
     }
 
@@ -118,6 +139,8 @@ impl Form {
     {
         match self {
             Form::Info => INFO.as_slice(),
+            Form::Canon | Form::Prune => REWRITING.as_slice(),
+            Form::Merge => MERGE.as_slice(),
         }
     }
 
@@ -127,6 +150,19 @@ impl Form {
     {
         match self {
             Form::Info => Some(Command::Info(file_name(matches, "proof")?)),
+            Form::Canon => Some(Command::Canon(
+                file_name(matches, "in")?,
+                file_name(matches, "out")?,
+            )),
+            Form::Merge => Some(Command::Merge(
+                file_name(matches, "a")?,
+                file_name(matches, "b")?,
+                file_name(matches, "out")?,
+            )),
+            Form::Prune => Some(Command::Prune(
+                file_name(matches, "in")?,
+                file_name(matches, "out")?,
+            )),
         }
     }
 }

@@ -6,4 +6,4 @@ pub returns-in-Ok-clause-ends : goal.returns-in-Ok-clause-ends
 returns-in-Ok-clause-ends g c = printed _ _ _ _ _ _ _ c.in-Ok.ensures.comes c.print.ensures.printed
 
 pub returns-in-Ok-clause-exact : goal.returns-in-Ok-clause-exact
-returns-in-Ok-clause-exact g c = λ e known is. one.exact _ _ _ _ _ _ _ _ e (printed _ _ _ _ _ _ _ c.in-Ok.ensures.comes c.print.ensures.printed) known is
+returns-in-Ok-clause-exact g c = λ e known is. one.exact _ _ _ _ _ _ _ _ _ e (printed _ _ _ _ _ _ _ c.in-Ok.ensures.comes c.print.ensures.printed) known is

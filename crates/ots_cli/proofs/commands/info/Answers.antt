@@ -1,13 +1,13 @@
 use Rattle.std.proofs.Common.{refl, rules}
 use Rattle.ots_cli.specs.Answer.{is_refused}
 use Rattle.ots_cli.proofs.Endings.{info_comes, refused_comes}
-use Rattle.ots_cli.proofs.answer.info.Goals as goal
+use Rattle.ots_cli.proofs.commands.info.Goals as goal
 
 pub returns-in_ok-info_text-in-Ok-clause-comes : goal.returns-in_ok-info_text-in-Ok-clause-comes
 returns-in_ok-info_text-in-Ok-clause-comes g c =
-    info_comes _ _ _ _ c.in-Ok.proof _ c.in-Ok.ensures.answer c.in_ok-info_text-in-Ok.ensures c.in-Ok.ensures.names
+    info_comes _ _ _ _ _ c.in-Ok.proof _ c.in-Ok.ensures.answer c.in_ok-info_text-in-Ok.ensures c.in-Ok.ensures.names
 
 pub returns-in-Err-clause-comes : goal.returns-in-Err-clause-comes
 returns-in-Err-clause-comes g c =
-    refused_comes _ _ _ _ c.args.name.now c.in-Err.error c.proof_refusal.result refl (λ d h. is_refused h)
+    refused_comes _ _ _ _ _ c.args.name.now c.in-Err.error c.proof_refusal.result refl (λ d h. is_refused h)
     c.proof_refusal.ensures.status c.proof_refusal.ensures.text c.in-Err.ensures.answer (λ h. c.in-Err.ensures.cause.rose (search (rules, h))) c.in-Err.ensures.names

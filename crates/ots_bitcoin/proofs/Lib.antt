@@ -1,0 +1,2 @@
+pub mod HeaderBytes
+pub mod TableBytes

@@ -1,0 +1,12 @@
+//! What no clause of `ots_bitcoin` says: that a table is read with ample memory, and that the
+//! definitions give the fields and the hashes of Bitcoin's first blocks.
+#![tactic(auto)]
+
+#[cfg(test)]
+mod blocks;
+#[cfg(test)]
+mod headers;
+#[cfg(test)]
+mod tables;
+#[cfg(test)]
+mod zeros;

@@ -1,0 +1,167 @@
+-- Tokens that compare as equal, joins, and trees with the same paths.
+use Rattle.std.proofs.Common.{◌≡◌, ◌↔◌, ℕ, zero, suc, ◌+◌, ◌<◌, ◌≤◌, List, [], ◌∷◌, ◌++◌, length, get_or, take, Bool, true, false, refl, sym, ap, subst, ◌∙◌, inl, inr, arith}
+use Rattle.std.specs.List.{AllByRecursion}
+use Rattle.std.specs.Ordering.{is_eq}
+use Rattle.std.specs.Prelude.{not, bytes_eq}
+use Rattle.std.specs.Cmp.Lexicographic.{same_text}
+use Rattle.std.specs.declared.cmp.Ordering.{Ordering}
+use Rattle.std.specs.declared.cmp.Ordering.TheVariants.{Less, Equal, Greater}
+use Rattle.std.proofs.lemmas.Cmp.{tied_itself}
+use Rattle.std.proofs.lemmas.List.{take_more_same, get_or_default, take_all}
+use Rattle.ots_ops.specs.declared.op.Op.{Op}
+use Rattle.ots_attest.specs.declared.attestation.Attestation.{Attestation}
+use Rattle.ots_tree.specs.declared.token.Token.{Token}
+use Rattle.ots_tree.specs.declared.token.Token.TheVariants as token
+use Rattle.ots_tree.specs.Wire.{Node, Path, paths, pre, IsPre, IsToken}
+use Rattle.ots_tree.specs.Sound.{IsSoundPath, IsSoundPre}
+use Rattle.ots_tree.proofs.Determined.{same_pre}
+use Rattle.ots_canon.specs.Order.{step_cmp, op_step, end_step, Has, HaveSame, IsCanon}
+use Rattle.ots_canon.specs.Canonical.{IsCanonical, IsTreeOf, IsCanonTree, IsCanonOf}
+use Rattle.ots_canon.specs.Join.{HaveSamePaths, IsJoinOf}
+use Rattle.ots_canon.specs.Ways.{token_step, paths_of_all}
+use Rattle.ots_canon.proofs.Orders.{step_total, same_step, same_op, same_end}
+use Rattle.ots_canon.proofs.Rising.{same_chain, same_back, one_canon, same_append}
+use Rattle.ots_canon.proofs.OneTree.{same_canonical, one_tree}
+use Rattle.ots_canon.proofs.WalkPaths.{two_trees}
+use Rattle.ots_canon.proofs.Forms.{some_path}
+
+firsts : {x y : ℕ} {xs ys : List ℕ} → x ∷ xs ≡ y ∷ ys → x ≡ y
+firsts e = cc
+
+same_key : (x y : Token) → IsToken x → IsToken y → token_step x ≡ token_step y → x ≡ y
+same_key token.Fork token.Fork hx hy e = refl
+same_key token.Fork (token.Op p) hx hy e = absurd (let f = firsts e in omega arith)
+same_key token.Fork (token.Attestation b) hx hy e = absurd (let f = firsts e in omega arith)
+same_key (token.Op o) token.Fork hx hy e = absurd (let f = firsts e in omega arith)
+same_key (token.Op o) (token.Op p) hx hy e = let same = same_op o p e in cc
+same_key (token.Op o) (token.Attestation b) hx hy e = absurd (let f = firsts e in omega arith)
+same_key (token.Attestation a) token.Fork hx hy e = absurd (let f = firsts e in omega arith)
+same_key (token.Attestation a) (token.Op p) hx hy e = absurd (let f = firsts e in omega arith)
+same_key (token.Attestation a) (token.Attestation b) hx hy e = let same = same_end a b hx hy e in cc
+
+equal_of : (r : Ordering) → is_eq r ≡ true → r ≡ Equal
+equal_of Less e = absurd cc
+equal_of Equal e = refl
+equal_of Greater e = absurd cc
+
+pub same_token : (x y : Token) (r : Ordering) → IsToken x → IsToken y → r ≡ step_cmp (token_step x) (token_step y) → is_eq r ≡ true → x ≡ y
+same_token x y r hx hy e t = same_key x y hx hy (same_step (token_step x) (token_step y) (sym e ∙ equal_of r t))
+
+pub token_limits : (ts : List Token) (n : ℕ) (d : Token) → n < length ts → AllByRecursion IsToken ts → IsToken (get_or ts n d)
+token_limits [] n d l h = absurd (omega arith)
+token_limits (x ∷ xs) zero d l h = h.0
+token_limits (x ∷ xs) (suc n) d l h = token_limits xs n d (omega arith) h.1
+
+pub not_equal : (x : Token) (r : Ordering) → r ≡ step_cmp (token_step x) (token_step x) → is_eq r ≡ false → ⊥
+not_equal x r e f = let tie = ap is_eq (e ∙ tied_itself step_total (token_step x)) in absurd cc
+
+-- ---- joins
+
+pub some_joined : (ts us vs : List Token) → IsPre ts → IsPre us → vs ≡ ts ++ us → paths_of_all vs ≡ [] → ⊥
+some_joined ts us vs p q e none =
+    front_of (paths p.0) (paths q.0) (some_path p.0) (sym (two_trees p.0 q.0) ∙ (λ i. paths_of_all (p.1 i ++ q.1 i)) ∙ ap paths_of_all (sym e) ∙ none)
+  where
+    front_of : (ps qs : List Path) → (ps ≡ [] → ⊥) → ps ++ qs ≡ [] → ⊥
+    front_of [] qs h f = h refl
+    front_of (p' ∷ ps) qs h f = absurd cc
+
+pub join_of : (ts us vs out tree : List Token) → IsPre ts → IsPre us → vs ≡ ts ++ us → IsCanonTree (paths_of_all vs) out → tree ≡ out → IsJoinOf ts us tree
+join_of ts us vs out tree p q e h same = record {
+  first = p.0;
+  first_are = p.1;
+  second = q.0;
+  second_are = q.1;
+  form = subst (IsCanonTree (paths p.0 ++ paths q.0)) (sym same)
+      (subst (λ (z : List Path). IsCanonTree z out) (ap paths_of_all e ∙ (λ i. paths_of_all (sym p.1 i ++ sym q.1 i)) ∙ two_trees p.0 q.0) h);
+}
+
+all_joined : (ts us : List Token) → AllByRecursion IsToken ts → AllByRecursion IsToken us → AllByRecursion IsToken (ts ++ us)
+all_joined [] us h g = g
+all_joined (t ∷ ts) us h g = (h.0, all_joined ts us h.1 g)
+
+pub joined_limits : (ts us vs : List Token) → vs ≡ ts ++ us → AllByRecursion IsToken ts → AllByRecursion IsToken us → AllByRecursion IsToken vs
+joined_limits ts us vs e h g = subst (AllByRecursion IsToken) (sym e) (all_joined ts us h g)
+
+-- ---- trees with the same paths
+
+pub same_forms : (ts us vs ws : List Token) → IsCanonOf ts vs → IsCanonOf us ws → (vs ≡ ws) ↔ HaveSamePaths ts us
+same_forms ts us vs ws f g = (
+  (λ e.
+      let same = same_pre f.form.node g.form.node (f.form.are ∙ e ∙ sym g.form.are) in
+      let sorted : f.form.sorted ≡ g.form.sorted = sym f.form.is_tree.same ∙ ap paths same ∙ g.form.is_tree.same in
+      record {
+        first = f.node;
+        first_are = f.are;
+        second = g.node;
+        second_are = g.are;
+        same = same_chain (paths f.node) g.form.sorted (paths g.node)
+            (subst (HaveSame (paths f.node)) sorted f.form.is_canon.same) (same_back (paths g.node) g.form.sorted g.form.is_canon.same);
+      }),
+  (λ h.
+      let a = same_pre f.node h.first (f.are ∙ sym h.first_are) in
+      let b = same_pre g.node h.second (g.are ∙ sym h.second_are) in
+      let same : HaveSame (paths f.node) (paths g.node) = subst (λ (z : Node). HaveSame (paths f.node) (paths z)) (sym b) (subst (λ (z : Node). HaveSame (paths z) (paths h.second)) (sym a) h.same) in
+      let sorted = one_canon (paths f.node) (paths g.node) f.form.sorted g.form.sorted same f.form.is_canon g.form.is_canon in
+      let tree = one_tree g.form.sorted f.form.node g.form.node (subst (λ (z : List Path). IsTreeOf z f.form.node) sorted f.form.is_tree) g.form.is_tree in
+      sym f.form.are ∙ ap pre tree ∙ g.form.are),
+)
+
+-- ---- the joined proof is sound
+
+pub sound_at : (n k : ℕ) (ps : List Path) (p : Path) → AllByRecursion (IsSoundPath n k) ps → Has ps p → IsSoundPath n k p
+sound_at n k [] p h has = absurd has
+sound_at n k (q ∷ qs) p h (inl e) = subst (IsSoundPath n k) e h.0
+sound_at n k (q ∷ qs) p h (inr has) = sound_at n k qs p h.1 has
+
+sound_of : (n k : ℕ) (ps : List Path) → ((p : Path) → Has ps p → IsSoundPath n k p) → AllByRecursion (IsSoundPath n k) ps
+sound_of n k [] h = tt
+sound_of n k (p ∷ ps) h = (h p (inl refl), sound_of n k ps (λ q has. h q (inr has)))
+
+-- a canonical tree each of whose paths is one of these
+pub sound_tree : (n k : ℕ) (ps : List Path) (ts : List Token) → AllByRecursion (IsSoundPath n k) ps → IsCanonTree ps ts → IsSoundPre n k ts
+sound_tree n k ps ts h f = (
+  f.node,
+  sound_of n k (paths f.node) (λ p has. sound_at n k ps p h ((f.is_canon.same p).1 (subst (λ (z : List Path). Has z p) f.is_tree.same has))),
+  f.are,
+)
+
+sound_both : (n k : ℕ) (ps qs : List Path) → AllByRecursion (IsSoundPath n k) ps → AllByRecursion (IsSoundPath n k) qs → AllByRecursion (IsSoundPath n k) (ps ++ qs)
+sound_both n k [] qs h g = g
+sound_both n k (p ∷ ps) qs h g = (h.0, sound_both n k ps qs h.1 g)
+
+pub sound_paths : (n k : ℕ) (ts : List Token) (t : Node) → pre t ≡ ts → IsSoundPre n k ts → AllByRecursion (IsSoundPath n k) (paths t)
+sound_paths n k ts t e s = subst (λ (z : Node). AllByRecursion (IsSoundPath n k) (paths z)) (same_pre s.0 t (s.2 ∙ sym e)) s.1
+
+pub sound_join : (n k : ℕ) (ts us vs : List Token) → IsSoundPre n k ts → IsSoundPre n k us → IsJoinOf ts us vs → IsSoundPre n k vs
+sound_join n k ts us vs s r j =
+    sound_tree n k (paths j.first ++ paths j.second) vs
+    (sound_both n k (paths j.first) (paths j.second) (sound_paths n k ts j.first j.first_are s) (sound_paths n k us j.second j.second_are r)) j.form
+
+-- ---- comparing token by token
+
+pub differs_at : (ts us : List Token) (n : ℕ) (x y : Token) (r : Ordering) (b : Bool) → n < length ts → x ≡ get_or ts n x → y ≡ get_or us n y
+    → r ≡ step_cmp (token_step x) (token_step y) → b ≡ is_eq r → b ≡ false → (false ≡ true → ts ≡ us) × (ts ≡ us → false ≡ true)
+differs_at ts us n x y r b l ex ey er eb f = ((λ e. absurd cc), (λ same. absurd (by same)))
+  where
+    by : ts ≡ us → ⊥
+    by same =
+        let alike : y ≡ x = ey ∙ ap (λ (z : List Token). get_or z n y) (sym same) ∙ get_or_default ts n y x l ∙ sym ex in
+        not_equal x r (er ∙ ap (λ (z : Token). step_cmp (token_step x) (token_step z)) alike) (sym eb ∙ f)
+
+pub same_more : (ts us : List Token) (n : ℕ) (x y : Token) (r : Ordering) (b : Bool) → n < length ts → length ts ≡ length us
+    → AllByRecursion IsToken ts → AllByRecursion IsToken us → x ≡ get_or ts n x → y ≡ get_or us n y
+    → r ≡ step_cmp (token_step x) (token_step y) → b ≡ is_eq r → b ≡ true → take n ts ≡ take n us → take (n + 1) ts ≡ take (n + 1) us
+same_more ts us n x y r b l len ht hu ex ey er eb t h =
+    let lu : n < length us = omega arith in
+    let same = same_token x y r (subst IsToken (sym ex) (token_limits ts n x l ht)) (subst IsToken (sym ey) (token_limits us n y lu hu)) er (sym eb ∙ t) in
+    take_more_same ts us n x l lu h (sym ex ∙ same ∙ ey ∙ get_or_default us n y x lu)
+
+pub both_ways : {A B C : Type 0} → A ↔ B → B ↔ C → A ↔ C
+both_ways h g = ((λ a. g.0 (h.0 a)), (λ c. h.1 (g.1 c)))
+
+pub same_digest : (x y : List ℕ) → false ≡ not (bytes_eq x y) → x ≡ y
+same_digest x y e = same_text x y (turned (bytes_eq x y) e)
+  where
+    turned : (b : Bool) → false ≡ not b → true ≡ b
+    turned true f = refl
+    turned false f = absurd cc

@@ -1,0 +1,171 @@
+//! The commands.
+ghost use Rattle.std.specs.Prelude.{◌≡◌, ◌≤◌, ◌⊎◌, ℕ, string_bytes, Some, IfOk};
+ghost use Rattle.ots_io.specs.Cause.{Rose};
+ghost use Rattle.ots_cli.specs.Answer.{ComesTo, Leaves, Merges, PrintsInfo, WithProof, Writes, WritesOf};
+ghost use Rattle.ots_cli.specs.Found.{status_of};
+ghost use Rattle.ots_cli.specs.Refusal.{refusal_text};
+ghost use Rattle.ots_cli.specs.Rewritten.{IsRewritten};
+ghost use Rattle.ots_cli.specs.declared.status.Status.TheVariants.{Differs};
+
+use crate::answer::{Answer, refusal};
+use crate::output::{OutputError, write_proof};
+use crate::proof::{ProofError, read_proof};
+use crate::rewriting::{Rewriting, rewritten};
+use crate::status::Status;
+use crate::text::info_text;
+use ots_canon::MergeError;
+use ots_io::{OutOfMemory, Shelf};
+use ots_tree::Detached;
+use std::alloc::Global;
+
+/// `info`: the text of the proof, or why there is none.
+pub fn info<S: Shelf>(alloc: Global, name: &str, shelf: &mut S) -> Result<Answer, OutOfMemory>
+    ensures names { (S.told shelf.new).names ≡ (S.told shelf.old).names }
+    ensures slots { (k : ℕ) → (S.told shelf.new).slots k ≡ (S.told shelf.old).slots k }
+    ensures later { S.faults shelf.old ≤ S.faults shelf.new }
+    ensures comes { IfOk result (λ a. ComesTo (S.told shelf.old).names (S.told shelf.new).names (WithProof (S.told shelf.old).names name.now PrintsInfo)
+        (λ read. read ≡ name.now) (Rose (S.faults shelf.old) (S.faults shelf.new)) a.status (string_bytes a.text)) }
+{
+    match read_proof(alloc, name, shelf) {
+        Ok(proof) => Ok(Answer {
+            status: Status::Done,
+            text: info_text(alloc, &proof)?,
+        }),
+        Err(error) => proof_refusal(alloc, name, error),
+    }
+}
+
+/// `canon` and `prune`: the proof under the first name is written anew under the second.
+pub fn rewrite<S: Shelf>(
+    alloc: Global,
+    way: Rewriting,
+    from: &str,
+    to: &str,
+    shelf: &mut S,
+) -> Result<Answer, OutOfMemory>
+    ensures leaves { Leaves (S.told shelf.old).names (S.told shelf.new).names (WithProof (S.told shelf.old).names from.now (λ p. WritesOf (S.told shelf.old).names to.now (IsRewritten way p))) }
+    ensures slots { (k : ℕ) → (S.told shelf.new).slots k ≡ (S.told shelf.old).slots k }
+    ensures later { S.faults shelf.old ≤ S.faults shelf.new }
+    ensures comes { IfOk result (λ a. ComesTo (S.told shelf.old).names (S.told shelf.new).names (WithProof (S.told shelf.old).names from.now (λ p. WritesOf (S.told shelf.old).names to.now (IsRewritten way p)))
+        (λ read. read ≡ from.now) (Rose (S.faults shelf.old) (S.faults shelf.new)) a.status (string_bytes a.text)) }
+{
+    match read_proof(alloc, from, shelf) {
+        Ok(proof) => {
+            let result = rewritten(alloc, way, &proof)?;
+            write_result(alloc, to, &result, shelf)
+        }
+        Err(error) => proof_refusal(alloc, from, error),
+    }
+}
+
+/// `merge`: the proofs under the first two names are joined, and that is written under the third.
+pub fn merge<S: Shelf>(
+    alloc: Global,
+    first: &str,
+    second: &str,
+    to: &str,
+    shelf: &mut S,
+) -> Result<Answer, OutOfMemory>
+    ensures leaves { Leaves (S.told shelf.old).names (S.told shelf.new).names (WithProof (S.told shelf.old).names first.now (λ p. WithProof (S.told shelf.old).names second.now (Merges (S.told shelf.old).names to.now p))) }
+    ensures slots { (k : ℕ) → (S.told shelf.new).slots k ≡ (S.told shelf.old).slots k }
+    ensures later { S.faults shelf.old ≤ S.faults shelf.new }
+    ensures comes { IfOk result (λ a. ComesTo (S.told shelf.old).names (S.told shelf.new).names (WithProof (S.told shelf.old).names first.now (λ p. WithProof (S.told shelf.old).names second.now (Merges (S.told shelf.old).names to.now p)))
+        (λ read. (read ≡ first.now) ⊎ (read ≡ second.now)) (Rose (S.faults shelf.old) (S.faults shelf.new)) a.status (string_bytes a.text)) }
+{
+    match read_proof(alloc, first, shelf) {
+        Ok(proof) => merge_with(alloc, &proof, second, to, shelf),
+        Err(error) => proof_refusal(alloc, first, error),
+    }
+}
+
+/// The same of a first proof that was read.
+fn merge_with<S: Shelf>(
+    alloc: Global,
+    first: &Detached,
+    second: &str,
+    to: &str,
+    shelf: &mut S,
+) -> Result<Answer, OutOfMemory>
+    ensures leaves { Leaves (S.told shelf.old).names (S.told shelf.new).names (WithProof (S.told shelf.old).names second.now (Merges (S.told shelf.old).names to.now first.now)) }
+    ensures slots { (k : ℕ) → (S.told shelf.new).slots k ≡ (S.told shelf.old).slots k }
+    ensures later { S.faults shelf.old ≤ S.faults shelf.new }
+    ensures comes { IfOk result (λ a. ComesTo (S.told shelf.old).names (S.told shelf.new).names (WithProof (S.told shelf.old).names second.now (Merges (S.told shelf.old).names to.now first.now))
+        (λ read. read ≡ second.now) (Rose (S.faults shelf.old) (S.faults shelf.new)) a.status (string_bytes a.text)) }
+{
+    match read_proof(alloc, second, shelf) {
+        Ok(proof) => write_joined(alloc, first, &proof, to, shelf),
+        Err(error) => proof_refusal(alloc, second, error),
+    }
+}
+
+/// The same of two proofs that were read.
+fn write_joined<S: Shelf>(
+    alloc: Global,
+    first: &Detached,
+    second: &Detached,
+    to: &str,
+    shelf: &mut S,
+) -> Result<Answer, OutOfMemory>
+    ensures leaves { Leaves (S.told shelf.old).names (S.told shelf.new).names (Merges (S.told shelf.old).names to.now first.now second.now) }
+    ensures slots { (k : ℕ) → (S.told shelf.new).slots k ≡ (S.told shelf.old).slots k }
+    ensures later { S.faults shelf.old ≤ S.faults shelf.new }
+    ensures comes { IfOk result (λ a. ComesTo (S.told shelf.old).names (S.told shelf.new).names (Merges (S.told shelf.old).names to.now first.now second.now)
+        (λ read. ⊥) (Rose (S.faults shelf.old) (S.faults shelf.new)) a.status (string_bytes a.text)) }
+{
+    match ots_canon::merge(alloc, first, second) {
+        Ok(joined) => write_result(alloc, to, &joined, shelf),
+        Err(MergeError::Differs { .. }) => refusal(alloc, "", differing(first, second)),
+        Err(MergeError::OutOfMemory) => Err(OutOfMemory),
+    }
+}
+
+/// That two proofs are of different digests, or these made by different hashes.
+fn differing(first: &Detached, second: &Detached) -> Status
+    ensures { result ≡ Differs first.now.hash first.now.digest second.now.hash second.now.digest }
+{
+    Status::Differs {
+        first_hash: first.hash,
+        first_digest: first.digest,
+        second_hash: second.hash,
+        second_digest: second.digest,
+    }
+}
+
+/// A result is written under a name, which ends the command.
+fn write_result<S: Shelf>(
+    alloc: Global,
+    name: &str,
+    proof: &Detached,
+    shelf: &mut S,
+) -> Result<Answer, OutOfMemory>
+    ensures leaves { Leaves (S.told shelf.old).names (S.told shelf.new).names (Writes (S.told shelf.old).names name.now proof.now) }
+    ensures slots { (k : ℕ) → (S.told shelf.new).slots k ≡ (S.told shelf.old).slots k }
+    ensures later { S.faults shelf.old ≤ S.faults shelf.new }
+    ensures comes { IfOk result (λ a. ComesTo (S.told shelf.old).names (S.told shelf.new).names (Writes (S.told shelf.old).names name.now proof.now)
+        (λ read. ⊥) (Rose (S.faults shelf.old) (S.faults shelf.new)) a.status (string_bytes a.text)) }
+{
+    match write_proof(name, proof, shelf) {
+        Ok(()) => Ok(Answer {
+            status: Status::Done,
+            text: String::new(alloc),
+        }),
+        Err(OutputError::TooBig) => refusal(alloc, name, Status::TooBig),
+        Err(OutputError::Exists) => refusal(alloc, name, Status::Exists),
+        Err(OutputError::WriteFault) => refusal(alloc, name, Status::WriteFault),
+        Err(OutputError::OutOfMemory) => Err(OutOfMemory),
+    }
+}
+
+/// The refusal of a name that gave no proof.
+fn proof_refusal(alloc: Global, name: &str, error: ProofError) -> Result<Answer, OutOfMemory>
+    ensures status { IfOk result (λ a. Some a.status ≡ status_of error) }
+    ensures text { IfOk result (λ a. string_bytes a.text ≡ refusal_text name.now a.status) }
+{
+    match error {
+        ProofError::NoFile => refusal(alloc, name, Status::NoFile),
+        ProofError::ReadFault => refusal(alloc, name, Status::ReadFault),
+        ProofError::TooBig => refusal(alloc, name, Status::TooBig),
+        ProofError::BadProof(fault) => refusal(alloc, name, Status::BadProof(fault)),
+        ProofError::OutOfMemory => Err(OutOfMemory),
+    }
+}

@@ -1,0 +1,57 @@
+//! Writing a proof under a name.
+ghost use Rattle.std.specs.Prelude.{◌≡◌, ◌≤◌, ℕ, IsErrOf};
+ghost use Rattle.ots_io.specs.Cause.{HasCauseWhere};
+ghost use Rattle.ots_detached.specs.File.{file_of};
+ghost use Rattle.ots_cli.specs.Output.{Outputs, not_created};
+
+use ots_detached::{file_length, write_file};
+use ots_io::{CreateError, Shelf, SlotSink};
+use ots_tree::{Detached, WriteFault};
+
+/// The greatest length of a proof file, in bytes.
+const LIMIT: u64 = 4_194_304;
+
+/// Why a proof was not written.
+#[derive(Clone, Copy, Debug, PartialEq, Eq)]
+pub enum OutputError {
+    /// Its file would have more than 4,194,304 bytes. No name was created.
+    TooBig,
+    /// The shelf has the name already.
+    Exists,
+    /// The shelf counted a fault while the name was created or written. Where it was created, it
+    /// holds a front of the file.
+    WriteFault,
+    /// Memory ran out, and no name was created.
+    OutOfMemory,
+}
+
+impl From<CreateError> for OutputError {
+    ghost from_gives = { λ e r. r ≡ not_created e };
+
+    fn from(error: CreateError) -> Self {
+        match error {
+            CreateError::Exists => OutputError::Exists,
+            CreateError::Failed => OutputError::WriteFault,
+            CreateError::OutOfMemory => OutputError::OutOfMemory,
+        }
+    }
+}
+
+/// Creates a name that holds the file of a proof. All that the shelf tells of other names and of
+/// slots stays.
+pub fn write_proof<S: Shelf>(name: &str, proof: &Detached, shelf: &mut S) -> Result<(), OutputError>
+    ensures names { Outputs name.now (file_of proof.now) (S.told shelf.old).names (S.told shelf.new).names result }
+    ensures slots { (k : ℕ) → (S.told shelf.new).slots k ≡ (S.told shelf.old).slots k }
+    ensures cause { HasCauseWhere (IsErrOf result OutputError.WriteFault) (S.faults shelf.old) (S.faults shelf.new) }
+{
+    if file_length(proof) > LIMIT {
+        return Err(OutputError::TooBig);
+    }
+    let slot = shelf.create(name)?;
+    let written = write_file(proof, &mut SlotSink::new(shelf, slot));
+    shelf.close(slot);
+    match written {
+        Ok(()) => Ok(()),
+        Err(WriteFault) => Err(OutputError::WriteFault),
+    }
+}
