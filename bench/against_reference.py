@@ -1,7 +1,8 @@
 #!/usr/bin/python3
 """Measures `ots` beside the reference library python-opentimestamps, each on the same proof of 100,000
-paths, which the library wrote: 2,083,552 bytes. Output goes to a file. It is run by hand, and needs
-Debian's python3-opentimestamps and the built program (`./run ots`).
+paths, which the library wrote: 2,083,552 bytes. `canon` reads and writes it; `merge` joins its paths of
+even height to those of odd height. Output goes to a file. It is run by hand, and needs Debian's
+python3-opentimestamps and the built program (`./run ots`).
 
     bench/against_reference.py
 """
@@ -24,15 +25,24 @@ PATHS = 100_000
 ROUNDS = 5
 
 
-def sample():
-    """The proof, as the library writes it."""
+def sample(numbers):
+    """The proof with these heights, as the library writes it."""
     stamp = Timestamp(bytes(32))
-    for number in range(PATHS):
+    for number in numbers:
         child = stamp.ops.add(OpAppend(number.to_bytes(4, 'big'))).ops.add(OpSHA256())
         child.attestations.add(BitcoinBlockHeaderAttestation(number))
+    return serialized(DetachedTimestampFile(OpSHA256(), stamp))
+
+
+def serialized(proof):
     ctx = BytesSerializationContext()
-    DetachedTimestampFile(OpSHA256(), stamp).serialize(ctx)
+    proof.serialize(ctx)
     return ctx.getbytes()
+
+
+def read_file(path):
+    with open(path, 'rb') as file:
+        return read(file.read())
 
 
 def read(data):
@@ -58,24 +68,52 @@ def best(action):
 
 
 def main():
-    data = sample()
+    data = sample(range(PATHS))
     with tempfile.TemporaryDirectory() as folder:
-        proof = os.path.join(folder, 'proof.ots')
-        with open(proof, 'wb') as file:
-            file.write(data)
+        def put(name, data):
+            path = os.path.join(folder, name)
+            with open(path, 'wb') as file:
+                file.write(data)
+            return path
+
+        whole = put('whole.ots', data)
+        parts = [put('even.ots', sample(range(0, PATHS, 2))), put('odd.ots', sample(range(1, PATHS, 2)))]
+        ours, theirs = os.path.join(folder, 'ours'), os.path.join(folder, 'theirs')
 
         def ots_info():
-            with open(os.path.join(folder, 'ours'), 'wb') as out:
-                subprocess.run([PROGRAM, 'info', proof], stdout=out, check=True)
+            with open(ours, 'wb') as out:
+                subprocess.run([PROGRAM, 'info', whole], stdout=out, check=True)
+
+        def ots_writes(*words):
+            if os.path.exists(ours):
+                os.remove(ours)
+            subprocess.run([PROGRAM, *words, ours], check=True)
 
         def library_info():
-            with open(os.path.join(folder, 'theirs'), 'w', encoding='ascii') as out:
-                walk(read(open(proof, 'rb').read()).timestamp, 0, out)
+            with open(theirs, 'w', encoding='ascii') as out:
+                walk(read_file(whole).timestamp, 0, out)
+
+        def library_canon():
+            put('theirs', serialized(read_file(whole)))
+
+        def library_merge():
+            first, second = map(read_file, parts)
+            first.timestamp.merge(second.timestamp)
+            put('theirs', serialized(first))
+
+        def is_same():
+            with open(ours, 'rb') as one, open(theirs, 'rb') as two:
+                return one.read() == two.read()
 
         print(f'{PATHS} paths, {len(data)} bytes')
-        for words, ours, theirs in [('info', ots_info, library_info)]:
-            a, b = best(ours), best(theirs)
+        for words, our_way, their_way in [
+                ('info', ots_info, library_info),
+                ('canon', lambda: ots_writes('canon', whole), library_canon),
+                ('merge', lambda: ots_writes('merge', *parts), library_merge)]:
+            a, b = best(our_way), best(their_way)
             print(f'{words}: ots {1000 * a:.0f} ms, the library {1000 * b:.0f} ms, {b / a:.1f} times')
+            if words != 'info' and not is_same():
+                sys.exit(f'{words}: the two outputs differ')
 
 
 if __name__ == '__main__':

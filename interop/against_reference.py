@@ -1,13 +1,19 @@
 #!/usr/bin/python3
 """Compares `ots` with the reference library python-opentimestamps.
 
-    interop/against_reference.py [info | changed | purpose]
+    interop/against_reference.py [info | changed | purpose | canon | merge | prune]
 
 info     makes proofs with the library's own classes, serializes them by the library, runs `ots info`
          on each, and compares every line with a walk over the library's own objects
 changed  changes bytes of such proofs, and compares whether `ots info` takes the file with whether
          the library's reader does; each way in which the two differ on purpose is counted by name
 purpose  makes a file for each such way, and compares both answers with what they are to be
+canon    writes such proofs with siblings in any order and some of them twice, runs `ots canon` on each,
+         and compares its output with what the library writes of its own objects
+merge    makes pairs of proofs of one digest, runs `ots merge` on each pair, and compares its output with
+         what the library writes of its own merge
+prune    runs `ots prune` on such proofs, and compares its output with what the library writes of the
+         first path to the least Bitcoin height, or of all where no Bitcoin height is there
 
 Without a word it does all. It ends with status 1 on a difference. Where the library is missing it
 says so and ends with status 0. It is run by hand; the library is Debian's python3-opentimestamps.
@@ -123,6 +129,75 @@ def serialized(proof):
     return ctx.getbytes()
 
 
+def spelled(item):
+    """The bytes of an operation or an attestation."""
+    ctx = BytesSerializationContext()
+    item.serialize(ctx)
+    return ctx.getbytes()
+
+
+def in_any_order(rng, stamp):
+    """A node's bytes with its items in any order and some of them twice."""
+    items = [b'\0' + spelled(attestation) for attestation in stamp.attestations]
+    items += [spelled(op) + in_any_order(rng, child) for op, child in stamp.ops.items()]
+    items += [item for item in items if len(item) < 100 and rng.randrange(8) == 0]
+    rng.shuffle(items)
+    return b''.join(b'\xff' + item for item in items[:-1]) + items[-1]
+
+
+def file_in_any_order(rng, proof):
+    """A proof's file with siblings in any order and some of them twice."""
+    head = DetachedTimestampFile.HEADER_MAGIC + b'\x01' + spelled(proof.file_hash_op)
+    return head + proof.file_digest + in_any_order(rng, proof.timestamp)
+
+
+def copied(proof):
+    """The same proof, in other objects."""
+    return DetachedTimestampFile.deserialize(StreamDeserializationContext(io.BytesIO(serialized(proof))))
+
+
+def nodes_of(stamp):
+    yield stamp
+    for child in stamp.ops.values():
+        yield from nodes_of(child)
+
+
+def some_pair(rng):
+    """Two proofs of one digest, of which some have a part in common."""
+    first = some_proof(rng)
+    if rng.randrange(3) == 0:
+        second = DetachedTimestampFile(first.file_hash_op, Timestamp(first.file_digest))
+        grow(rng, second.timestamp, rng.choice([0, 1, 3, 6]))
+        return first, second
+    second = copied(first)
+    for proof in (first, second):
+        grow(rng, rng.choice(list(nodes_of(proof.timestamp))), rng.choice([0, 1, 3]))
+    return first, second
+
+
+def paths_of(stamp):
+    """The paths of a node, in the library's order."""
+    for attestation in sorted(stamp.attestations):
+        yield [], attestation
+    for op, child in sorted(stamp.ops.items(), key=lambda item: item[0]):
+        for ops, attestation in paths_of(child):
+            yield [op, *ops], attestation
+
+
+def pruned(proof):
+    """What is to be left of a proof."""
+    complete = [path for path in paths_of(proof.timestamp) if isinstance(path[1], BitcoinBlockHeaderAttestation)]
+    if not complete:
+        return proof
+    ops, attestation = min(complete, key=lambda path: path[1].height)
+    left = DetachedTimestampFile(proof.file_hash_op, Timestamp(proof.file_digest))
+    stamp = left.timestamp
+    for op in ops:
+        stamp = stamp.ops.add(op)
+    stamp.attestations.add(attestation)
+    return left
+
+
 # ---- the lines
 
 def words_of(item):
@@ -167,6 +242,67 @@ def compare_info(rng, folder, count):
             print(f'proof {number} differs: status {status}\n{text}\nagainst\n{lines_of(proof)}')
             return False
     print(f'info: {count} proofs compared, no difference')
+    return True
+
+
+def put(folder, name, data):
+    """The path of a file with this name and these bytes."""
+    path = os.path.join(folder, name)
+    with open(path, 'wb') as file:
+        file.write(data)
+    return path
+
+
+def compare_output(folder, words, proof):
+    """Whether the command with these words writes what the library writes of the proof."""
+    output = os.path.join(folder, 'output.ots')
+    status, text = ots(*words, output)
+    if (status, text) != (0, ''):
+        print(f'{words}: status {status}, {text!r}')
+        return False
+    with open(output, 'rb') as file:
+        data = file.read()
+    os.remove(output)
+    theirs = library_reads(data)
+    if theirs is None or theirs != proof or data != serialized(proof):
+        print(f'{words}: {data.hex()}\nagainst\n{serialized(proof).hex()}')
+        return False
+    return True
+
+
+def compare_canon(rng, folder, count):
+    """The output of `ots canon`."""
+    for _ in range(count):
+        proof = some_proof(rng)
+        given = put(folder, 'given.ots', file_in_any_order(rng, proof))
+        if not compare_output(folder, ['canon', given], proof):
+            return False
+    print(f'canon: {count} proofs compared, no difference')
+    return True
+
+
+def compare_merge(rng, folder, count):
+    """The output of `ots merge`, in both orders of its inputs."""
+    for _ in range(count):
+        first, second = some_pair(rng)
+        files = [put(folder, name, file_in_any_order(rng, proof))
+                 for name, proof in [('first.ots', first), ('second.ots', second)]]
+        first.timestamp.merge(second.timestamp)
+        for names in (files, files[::-1]):
+            if not compare_output(folder, ['merge', *names], first):
+                return False
+    print(f'merge: {count} pairs compared in both orders, no difference')
+    return True
+
+
+def compare_prune(rng, folder, count):
+    """The output of `ots prune`."""
+    for _ in range(count):
+        proof = some_proof(rng)
+        given = put(folder, 'given.ots', file_in_any_order(rng, proof))
+        if not compare_output(folder, ['prune', given], pruned(proof)):
+            return False
+    print(f'prune: {count} proofs compared, no difference')
     return True
 
 
@@ -284,7 +420,7 @@ def compare_purpose(_rng, folder, _count):
 
 
 def main():
-    words = sys.argv[1:] or ['info', 'changed', 'purpose']
+    words = sys.argv[1:] or ['info', 'changed', 'purpose', 'canon', 'merge', 'prune']
     sys.setrecursionlimit(10000)
     build()
     rng = random.Random(20260131)
@@ -292,6 +428,9 @@ def main():
         'info': lambda f: compare_info(rng, f, 2000),
         'changed': lambda f: compare_changed(rng, f, 4000),
         'purpose': lambda f: compare_purpose(rng, f, 0),
+        'canon': lambda f: compare_canon(rng, f, 1000),
+        'merge': lambda f: compare_merge(rng, f, 1000),
+        'prune': lambda f: compare_prune(rng, f, 1000),
     }
     for word in words:
         if word not in comparisons:

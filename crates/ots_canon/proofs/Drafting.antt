@@ -1,21 +1,20 @@
 -- Writing a tree path by path, from the last to the first.
-use Rattle.std.proofs.Common.{◌≡◌, ◌⊎◌, ℕ, zero, suc, ◌+◌, ◌-◌, ◌≤◌, ◌<◌, List, [], ◌∷◌, ◌++◌, map, length, get_or, take, drop, replicate, reverse, Bool, true, false, refl, sym, ap, subst, ◌∙◌, inl, inr, arith}
+use Rattle.std.proofs.Common.{◌≡◌, ℕ, zero, suc, ◌+◌, ◌-◌, ◌≤◌, ◌<◌, List, [], ◌∷◌, ◌++◌, map, length, get_or, take, drop, replicate, reverse, Bool, true, false, refl, sym, ap, subst, ◌∙◌, inl, inr, arith}
 use Rattle.std.specs.List.{AllZip, AllByRecursion}
 use Rattle.std.specs.Ordering.{ordering_then, ordering_reverse, is_lt}
 use Rattle.std.specs.declared.cmp.Ordering.{Ordering}
 use Rattle.std.specs.declared.cmp.Ordering.TheVariants.{Less, Equal, Greater}
-use Rattle.std.proofs.lemmas.List.{append-nil, append_assoc, length_push, length-map, reverse-append, reverse-reverse, take_all, drop_more, take_more}
+use Rattle.std.proofs.lemmas.List.{append_assoc, length_push, length-map, reverse-append, reverse-reverse, take_all, drop_more}
 use Rattle.ots_ops.specs.declared.op.Op.{Op}
 use Rattle.ots_attest.specs.declared.attestation.Attestation.{Attestation}
 use Rattle.ots_attest.specs.Attestation.{IsAttestation}
 use Rattle.ots_tree.specs.declared.token.Token.{Token}
 use Rattle.ots_tree.specs.declared.token.Token.TheVariants as token
-use Rattle.ots_tree.specs.Wire.{Node, Item, last, more, attested, step, Path, paths, pre, IsToken}
-use Rattle.ots_canon.specs.declared.chart.Place.{Place}
-use Rattle.ots_canon.specs.Order.{op_step, end_step, step_cmp, steps, path_cmp, Has, HaveSame, IsCanon}
-use Rattle.ots_canon.specs.Canonical.{IsCanonical, IsTreeOf, IsCanonTree}
-use Rattle.ots_canon.specs.Ways.{begin, ways, token_step, line, line_at, all_steps_at, all_tokens_at}
-use Rattle.ots_canon.specs.Charted.{IsAt, IsEndOf, AreEnds, ArePlaces}
+use Rattle.ots_tree.specs.Wire.{Node, last, Path, paths, IsToken}
+use Rattle.ots_canon.specs.Order.{op_step, end_step, step_cmp, steps, path_cmp, Has, HaveSame}
+use Rattle.ots_canon.specs.Canonical.{IsCanonical}
+use Rattle.ots_canon.specs.Ways.{begin, ways, token_step, all_steps_at, all_tokens_at}
+use Rattle.ots_canon.specs.Charted.{IsAt, IsEndOf}
 use Rattle.ots_canon.specs.Meeting.{steps_cmp, if_equal, common}
 use Rattle.ots_canon.specs.Falling.{comes_before, IsFalling, IsFallingFrom}
 use Rattle.ots_canon.specs.Written.{woven, Cut, IsShut, IsPut, IsSame, IsPutOrSame, IsTreeOfEnds, HavePaths}
@@ -24,7 +23,7 @@ use Rattle.ots_canon.proofs.Orders.{path_total, steps_total, same_path}
 use Rattle.ots_canon.proofs.Rising.{has_left, has_right, has_either}
 use Rattle.ots_canon.proofs.Growing.{single, grown, path_of, grown-paths, grown-canonical, single-paths, single-canonical, front, front_first}
 use Rattle.ots_canon.proofs.OneTree.{paths_rise}
-use Rattle.ots_canon.proofs.Woven.{flags, length-flags, rest, tokens_of, pre_woven, single-flags, single-rest, single-front, GrownParts, grown-parts}
+use Rattle.ots_canon.proofs.Woven.{flags, length-flags, rest, tokens_of, pre_woven, single-flags, single-rest, single-front, grown-parts}
 use Rattle.ots_canon.proofs.Standing.{line_of, Pair, pair_at, at_get, at_below}
 use Rattle.ots_canon.proofs.Places.{next}
 
@@ -75,7 +74,7 @@ limits_at (y ∷ ys) (suc n) x h at = limits_at ys n x h.1 at
 pub end_limits : (ts : List Token) (n : ℕ) (p : Path) → AllByRecursion IsToken ts → IsEndOf ts (ways begin ts) n p → IsAttestation p.end
 end_limits ts n p h e = limits_at ts n (token.Attestation p.end) h e.token_is
 
-same_at : {X : Type 0} (xs : List X) (n : ℕ) (x y : X) → IsAt xs n x → IsAt xs n y → x ≡ y
+pub same_at : {X : Type 0} (xs : List X) (n : ℕ) (x y : X) → IsAt xs n x → IsAt xs n y → x ≡ y
 same_at [] n x y h g = absurd h
 same_at (z ∷ zs) zero x y h g = sym h ∙ g
 same_at (z ∷ zs) (suc n) x y h g = same_at zs n x y h g

@@ -1,12 +1,12 @@
 -- The ends of paths in another order are those of the same paths.
-use Rattle.std.proofs.Common.{◌≡◌, ◌≢◌, ◌⊎◌, ℕ, zero, suc, ◌+◌, ◌<◌, List, [], ◌∷◌, ◌++◌, length, get_or, refl, sym, ap, subst, ◌∙◌, inl, inr, arith}
-use Rattle.std.specs.List.{AllZip, AllByRecursion, All, Contains}
+use Rattle.std.proofs.Common.{◌≡◌, ◌≢◌, ℕ, zero, suc, ◌<◌, List, [], ◌∷◌, length, refl, sym, subst, ◌∙◌, inl, inr, arith}
+use Rattle.std.specs.List.{AllZip, AllByRecursion, Contains}
 use Rattle.std.specs.List.Sorted.{IsPermutation}
 use Rattle.std.proofs.lemmas.List.Sorted.{All-permutation, Contains-permutation, IsPermutation-sym}
 use Rattle.std.proofs.lemmas.List.Elements.{All-from_recursion, recursion_from_All, Contains-append_right}
 use Rattle.ots_tree.specs.declared.token.Token.{Token}
 use Rattle.ots_tree.specs.Wire.{Path}
-use Rattle.ots_canon.specs.Order.{Has, HaveSame, IsCanon}
+use Rattle.ots_canon.specs.Order.{Has, HaveSame}
 use Rattle.ots_canon.specs.Canonical.{IsCanonTree}
 use Rattle.ots_canon.specs.Ways.{begin, ways}
 use Rattle.ots_canon.specs.Charted.{IsAt, IsEndOf, AreEnds}

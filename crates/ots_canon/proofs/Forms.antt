@@ -1,12 +1,12 @@
 -- Canonical forms of trees that are seen as their tokens.
-use Rattle.std.proofs.Common.{◌≡◌, ◌≢◌, List, [], ◌∷◌, ◌++◌, Result, Ok, Err, refl, sym, ap, subst, ◌∙◌}
+use Rattle.std.proofs.Common.{◌≡◌, ◌≢◌, List, [], Result, Ok, Err, sym, ap, subst, ◌∙◌}
 use Rattle.std.specs.Prelude.{IfOk}
 use Rattle.ots_tree.specs.declared.token.Token.{Token}
-use Rattle.ots_tree.specs.Wire.{Node, Path, paths, pre, IsPre}
+use Rattle.ots_tree.specs.Wire.{Node, Path, paths, IsPre}
 use Rattle.ots_canon.specs.Canonical.{IsCanonOf, IsCanonTree}
 use Rattle.ots_canon.specs.Ways.{paths_of_all}
 use Rattle.ots_canon.proofs.Growing.{front_first}
-use Rattle.ots_canon.proofs.WalkPaths.{tree_paths, two_trees}
+use Rattle.ots_canon.proofs.WalkPaths.{tree_paths}
 
 -- what follows of an Ok
 pub if_ok : {T E : Type 0} (r : Result T E) (P Q : T → Type 0) → ((x : T) → P x → Q x) → IfOk r P → IfOk r Q

@@ -1,19 +1,15 @@
 -- A path in front of a tree: it shares with the tree's first path the operations with which both begin.
-use Rattle.std.proofs.Common.{◌≡◌, ℕ, Option, Some, None, List, [], ◌∷◌, ◌++◌, map, refl, sym, ap, subst, ◌∙◌}
-use Rattle.std.specs.Prelude.{option_map}
+use Rattle.std.proofs.Common.{◌≡◌, List, [], ◌∷◌, ◌++◌, map, refl, sym, ap, ◌∙◌}
 use Rattle.std.specs.Ordering.{ordering_then}
 use Rattle.std.specs.declared.cmp.Ordering.{Ordering}
 use Rattle.std.specs.declared.cmp.Ordering.TheVariants.{Less, Equal, Greater}
-use Rattle.std.specs.Cmp.Lexicographic.{slice_cmp}
-use Rattle.std.proofs.lemmas.Cmp.{tied_itself}
-use Rattle.std.proofs.lemmas.List.{map-append}
 use Rattle.ots_ops.specs.declared.op.Op.{Op}
 use Rattle.ots_attest.specs.declared.attestation.Attestation.{Attestation}
 use Rattle.ots_tree.specs.Wire.{Node, Item, last, more, attested, step, Path, below, paths, paths_of_item}
-use Rattle.ots_canon.specs.Order.{op_step, end_step, step_cmp, steps, path_cmp, IsRising, IsRisingFrom}
-use Rattle.ots_canon.specs.Canonical.{place, first, IsCanonical, IsCanonicalItem, IsTreeOf}
+use Rattle.ots_canon.specs.Order.{op_step, end_step, step_cmp, path_cmp}
+use Rattle.ots_canon.specs.Canonical.{IsCanonical, IsCanonicalItem}
 use Rattle.ots_canon.specs.Meeting.{if_equal}
-use Rattle.ots_canon.proofs.Orders.{step_total, same_step, same_op, op_step-apart}
+use Rattle.ots_canon.proofs.Orders.{same_step, same_op}
 
 -- the item of one path
 abbrev pub single : List Op → Attestation → Item

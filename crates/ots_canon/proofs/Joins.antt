@@ -1,5 +1,5 @@
 -- Tokens that compare as equal, joins, and trees with the same paths.
-use Rattle.std.proofs.Common.{◌≡◌, ◌↔◌, ℕ, zero, suc, ◌+◌, ◌<◌, ◌≤◌, List, [], ◌∷◌, ◌++◌, length, get_or, take, Bool, true, false, refl, sym, ap, subst, ◌∙◌, inl, inr, arith}
+use Rattle.std.proofs.Common.{◌≡◌, ◌↔◌, ℕ, zero, suc, ◌+◌, ◌<◌, List, [], ◌∷◌, ◌++◌, length, get_or, take, Bool, true, false, refl, sym, ap, subst, ◌∙◌, inl, inr, arith}
 use Rattle.std.specs.List.{AllByRecursion}
 use Rattle.std.specs.Ordering.{is_eq}
 use Rattle.std.specs.Prelude.{not, bytes_eq}
@@ -7,36 +7,31 @@ use Rattle.std.specs.Cmp.Lexicographic.{same_text}
 use Rattle.std.specs.declared.cmp.Ordering.{Ordering}
 use Rattle.std.specs.declared.cmp.Ordering.TheVariants.{Less, Equal, Greater}
 use Rattle.std.proofs.lemmas.Cmp.{tied_itself}
-use Rattle.std.proofs.lemmas.List.{take_more_same, get_or_default, take_all}
-use Rattle.ots_ops.specs.declared.op.Op.{Op}
-use Rattle.ots_attest.specs.declared.attestation.Attestation.{Attestation}
+use Rattle.std.proofs.lemmas.List.{take_more_same, get_or_default}
 use Rattle.ots_tree.specs.declared.token.Token.{Token}
 use Rattle.ots_tree.specs.declared.token.Token.TheVariants as token
 use Rattle.ots_tree.specs.Wire.{Node, Path, paths, pre, IsPre, IsToken}
 use Rattle.ots_tree.specs.Sound.{IsSoundPath, IsSoundPre}
 use Rattle.ots_tree.proofs.Determined.{same_pre}
-use Rattle.ots_canon.specs.Order.{step_cmp, op_step, end_step, Has, HaveSame, IsCanon}
-use Rattle.ots_canon.specs.Canonical.{IsCanonical, IsTreeOf, IsCanonTree, IsCanonOf}
+use Rattle.ots_canon.specs.Order.{step_cmp, Has, HaveSame}
+use Rattle.ots_canon.specs.Canonical.{IsTreeOf, IsCanonTree, IsCanonOf}
 use Rattle.ots_canon.specs.Join.{HaveSamePaths, IsJoinOf}
 use Rattle.ots_canon.specs.Ways.{token_step, paths_of_all}
-use Rattle.ots_canon.proofs.Orders.{step_total, same_step, same_op, same_end}
-use Rattle.ots_canon.proofs.Rising.{same_chain, same_back, one_canon, same_append}
-use Rattle.ots_canon.proofs.OneTree.{same_canonical, one_tree}
+use Rattle.ots_canon.proofs.Orders.{step_total, same_step, same_op, same_end, head_of}
+use Rattle.ots_canon.proofs.Rising.{same_chain, same_back, one_canon}
+use Rattle.ots_canon.proofs.OneTree.{one_tree}
 use Rattle.ots_canon.proofs.WalkPaths.{two_trees}
 use Rattle.ots_canon.proofs.Forms.{some_path}
 
-firsts : {x y : ℕ} {xs ys : List ℕ} → x ∷ xs ≡ y ∷ ys → x ≡ y
-firsts e = cc
-
 same_key : (x y : Token) → IsToken x → IsToken y → token_step x ≡ token_step y → x ≡ y
 same_key token.Fork token.Fork hx hy e = refl
-same_key token.Fork (token.Op p) hx hy e = absurd (let f = firsts e in omega arith)
-same_key token.Fork (token.Attestation b) hx hy e = absurd (let f = firsts e in omega arith)
-same_key (token.Op o) token.Fork hx hy e = absurd (let f = firsts e in omega arith)
+same_key token.Fork (token.Op p) hx hy e = absurd (let f = head_of e in omega arith)
+same_key token.Fork (token.Attestation b) hx hy e = absurd (let f = head_of e in omega arith)
+same_key (token.Op o) token.Fork hx hy e = absurd (let f = head_of e in omega arith)
 same_key (token.Op o) (token.Op p) hx hy e = let same = same_op o p e in cc
-same_key (token.Op o) (token.Attestation b) hx hy e = absurd (let f = firsts e in omega arith)
-same_key (token.Attestation a) token.Fork hx hy e = absurd (let f = firsts e in omega arith)
-same_key (token.Attestation a) (token.Op p) hx hy e = absurd (let f = firsts e in omega arith)
+same_key (token.Op o) (token.Attestation b) hx hy e = absurd (let f = head_of e in omega arith)
+same_key (token.Attestation a) token.Fork hx hy e = absurd (let f = head_of e in omega arith)
+same_key (token.Attestation a) (token.Op p) hx hy e = absurd (let f = head_of e in omega arith)
 same_key (token.Attestation a) (token.Attestation b) hx hy e = let same = same_end a b hx hy e in cc
 
 equal_of : (r : Ordering) → is_eq r ≡ true → r ≡ Equal

@@ -18,3 +18,4 @@ pub mod Lowering
 pub mod Insertion
 pub mod Lawful
 pub mod SoundResults
+pub mod Rows

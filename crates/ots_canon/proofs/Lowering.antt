@@ -1,7 +1,7 @@
 -- Looking for the path that pruning keeps.
-use Rattle.std.proofs.Common.{◌≡◌, ◌⊎◌, ℕ, zero, suc, ◌+◌, ◌<◌, ◌≤◌, List, [], ◌∷◌, ◌++◌, length, get_or, take, drop, Bool, true, false, cond, ◌&&◌, ◌||◌, nat_lt, nat_eq, Option, Some, None, refl, sym, ap, subst, ◌∙◌, inl, inr, arith, if◌then◌else◌}
-use Rattle.std.specs.List.{AllZip, AllByRecursion}
-use Rattle.std.specs.Ordering.{is_gt, ordering_reverse}
+use Rattle.std.proofs.Common.{◌≡◌, ◌⊎◌, ℕ, ◌+◌, ◌<◌, ◌≤◌, List, [], ◌∷◌, ◌++◌, length, get_or, take, Bool, true, false, ◌&&◌, ◌||◌, nat_lt, nat_eq, Option, Some, None, refl, sym, ap, subst, ◌∙◌, inl, inr, arith, if◌then◌else◌}
+use Rattle.std.specs.List.{AllByRecursion}
+use Rattle.std.specs.Ordering.{is_gt}
 use Rattle.std.specs.declared.cmp.Ordering.{Ordering}
 use Rattle.std.specs.declared.cmp.Ordering.TheVariants.{Less, Equal, Greater}
 use Rattle.std.proofs.lemmas.Bool.Decides.{nat_tests}
@@ -14,22 +14,22 @@ use Rattle.ots_tree.specs.declared.token.Token.{Token}
 use Rattle.ots_tree.specs.declared.token.Token.TheVariants as token
 use Rattle.ots_tree.specs.Wire.{Node, Path, paths, pre, IsPre, IsToken}
 use Rattle.ots_canon.specs.declared.pruning.Lowest.{Lowest}
-use Rattle.ots_canon.specs.Order.{path_cmp, Has, HaveSame, IsCanon}
+use Rattle.ots_canon.specs.Order.{path_cmp, Has}
 use Rattle.ots_canon.specs.Canonical.{IsCanonTree, IsCanonOf, IsTreeOf}
 use Rattle.ots_canon.specs.Prune.{IsFirstOfLeast, HasNoBitcoin, IsPathTree, IsPruneOf}
 use Rattle.ots_canon.specs.Ways.{begin, ways, all_steps_at, paths_of_all}
 use Rattle.ots_canon.specs.Meeting.{steps_cmp}
-use Rattle.ots_canon.specs.Charted.{IsAt, IsEndOf, AreEnds}
+use Rattle.ots_canon.specs.Charted.{IsEndOf, AreEnds}
 use Rattle.ots_canon.specs.Lower.{height_of, token_height, is_lower, lower_of, lower}
 use Rattle.ots_canon.specs.Kept.{IsKept, IsFound, IsKeptEnd, IsLowerOf}
 use Rattle.ots_canon.specs.Written.{HavePaths, IsTreeOfEnds}
-use Rattle.ots_canon.proofs.Orders.{path_total, same_path}
+use Rattle.ots_canon.proofs.Orders.{path_total, same_path, reversed}
 use Rattle.ots_canon.proofs.Rising.{has_left, has_right, has_either, one_canon, same_itself}
 use Rattle.ots_canon.proofs.Standing.{at_below, get_at, length-zip}
-use Rattle.ots_canon.proofs.Drafting.{end_steps, end_limits, same_end, next_path}
+use Rattle.ots_canon.proofs.Drafting.{end_steps, end_limits, same_end, next_path, same_at}
 use Rattle.ots_canon.proofs.WalkPaths.{tree_paths}
 
-height_in : {h g : ℕ} → Bitcoin h ≡ Bitcoin g → h ≡ g
+pub height_in : {h g : ℕ} → Bitcoin h ≡ Bitcoin g → h ≡ g
 height_in e = cc
 
 no_height : (a : Attestation) → height_of a ≡ None → (g : ℕ) → a ≡ Bitcoin g → ⊥
@@ -128,9 +128,6 @@ not_greater p q Less hp hq e h = inr (sym e)
 not_greater p q Equal hp hq e h = inl (sym (same_path p q hp hq (sym e)))
 not_greater p q Greater hp hq e h = absurd (h refl)
 
-reversed : (p q : Path) → path_cmp p q ≡ Greater → path_cmp q p ≡ Less
-reversed p q e = path_total.antisymm q p ∙ ap ordering_reverse e
-
 -- the one that was kept stays, or the new one comes in its place
 chosen : (ts : List Token) (ps : List Path) (end h : ℕ) (q : Path) (best : Lowest) (o : Ordering) (b : Bool) → AllByRecursion IsToken ts
     → IsEndOf ts (ways begin ts) end q → q.end ≡ Bitcoin h → (kept : IsKept ts ps best) → o ≡ path_cmp kept.path q → Lower h best.height o b
@@ -213,16 +210,11 @@ pub record Looking (ts : List Token) (ends : List ℕ) (k : ℕ) (found : Option
 pub look_first : (ts : List Token) (ends : List ℕ) → HavePaths ts ends → Looking ts ends 0 None
 look_first ts ends h = record { ps = h.ps; are = h.are; is = λ p g has. absurd has }
 
-same_here : {X : Type 0} (xs : List X) (n : ℕ) (x y : X) → IsAt xs n x → IsAt xs n y → x ≡ y
-same_here [] n x y h g = absurd h
-same_here (z ∷ zs) zero x y h g = sym h ∙ g
-same_here (z ∷ zs) (suc n) x y h g = same_here zs n x y h g
-
 pub look_more : (ts : List Token) (ends : List ℕ) (k end : ℕ) (found later : Option Lowest) → AllByRecursion IsToken ts → k < length ends → end ≡ get_or ends k 0
     → IsLowerOf ts end found later → Looking ts ends k found → Looking ts ends (k + 1) later
 look_more ts ends k end found later limits l e step h =
     let q = next_path ts ends k end h.ps h.are l e in
-    let here : step.here ≡ token.Attestation q.path.end = same_here ts end step.here (token.Attestation q.path.end) step.is_at q.ends.token_is in
+    let here : step.here ≡ token.Attestation q.path.end = same_at ts end step.here (token.Attestation q.path.end) step.is_at q.ends.token_is in
     let height : height_of q.path.end ≡ token_height step.here = ap token_height (sym here) in
     record {
       ps = h.ps;

@@ -1,19 +1,19 @@
 -- A nonempty rising list of paths has exactly one canonical tree, and a canonical tree's paths rise.
-use Rattle.std.proofs.Common.{◌≡◌, ◌≢◌, ℕ, Option, Some, None, List, [], ◌∷◌, ◌++◌, map, refl, sym, ap, subst, ◌∙◌, inl, inr}
-use Rattle.std.specs.Prelude.{option_map, ◌⊎◌}
+use Rattle.std.proofs.Common.{◌≡◌, ◌≢◌, ℕ, Option, Some, None, List, [], ◌∷◌, ◌++◌, map, refl, sym, ap, subst, ◌∙◌}
+use Rattle.std.specs.Prelude.{option_map}
 use Rattle.std.specs.declared.cmp.Ordering.{Ordering}
 use Rattle.std.specs.declared.cmp.Ordering.TheVariants.{Less, Equal, Greater}
 use Rattle.std.specs.Ordering.{ordering_then}
 use Rattle.std.proofs.lemmas.Cmp.{tied_itself}
 use Rattle.ots_ops.specs.declared.op.Op.{Op}
 use Rattle.ots_attest.specs.declared.attestation.Attestation.{Attestation}
-use Rattle.ots_tree.specs.Wire.{Node, Item, last, more, attested, step, Path, below, paths, paths_of_item}
-use Rattle.ots_canon.specs.Order.{op_step, end_step, step_cmp, steps, path_cmp, IsRising, IsRisingFrom, Has, HaveSame, IsCanon}
-use Rattle.ots_canon.specs.Canonical.{place, first, IsCanonical, IsCanonicalItem, IsTreeOf}
-use Rattle.ots_canon.proofs.Orders.{step_total, path_total}
-use Rattle.ots_canon.proofs.Rising.{one_rising, same_chain, same_back}
+use Rattle.ots_tree.specs.Wire.{Node, last, more, attested, step, Path, below, paths}
+use Rattle.ots_canon.specs.Order.{op_step, end_step, step_cmp, path_cmp, IsRising, IsRisingFrom, HaveSame}
+use Rattle.ots_canon.specs.Canonical.{place, first, IsCanonical, IsTreeOf}
+use Rattle.ots_canon.proofs.Orders.{step_total, head_of}
+use Rattle.ots_canon.proofs.Rising.{one_rising}
 use Rattle.ots_canon.specs.Meeting.{if_equal}
-use Rattle.ots_canon.proofs.Growing.{single, grown, path_of, grown-paths, grown-canonical, single-paths, single-canonical, front, front_item, front_first}
+use Rattle.ots_canon.proofs.Growing.{single, grown, path_of, grown-paths, grown-canonical, single-paths, single-canonical, front, front_first}
 
 -- the tree of some paths, from the last to the first
 abbrev pub grown_on : Path → Option Node → Node
@@ -92,12 +92,9 @@ pub record ATreeOf (ps : List Path) : Type 0 where
   pub node : Node
   pub is_tree : IsTreeOf ps node
 
-heads : {p q : Path} {ps qs : List Path} → p ∷ ps ≡ q ∷ qs → p ≡ q
-heads e = cc
-
 -- the first path of a tree of these
 pub front_of : (t : Node) (p : Path) (ps : List Path) → paths t ≡ p ∷ ps → front t ≡ p
-front_of t p ps e = let h = front_first t in heads (sym h.are ∙ e)
+front_of t p ps e = let h = front_first t in head_of (sym h.are ∙ e)
 
 pub more_canonical : (p q : Path) (qs : List Path) (t : Node) → IsTreeOf (q ∷ qs) t → path_cmp p q ≡ Less → IsTreeOf (p ∷ q ∷ qs) (grown p.ops p.end t)
 more_canonical p q qs t h e = record {

@@ -1,8 +1,7 @@
 -- The walk that charts tokens.
-use Rattle.std.proofs.Common.{◌≡◌, ◌⊎◌, ℕ, zero, suc, ◌+◌, ◌≤◌, ◌<◌, ◌^◌, List, [], ◌∷◌, ◌++◌, map, length, take, drop, get_or, refl, sym, ap, subst, ◌∙◌, inl, inr, arith}
+use Rattle.std.proofs.Common.{◌≡◌, ℕ, zero, suc, ◌+◌, ◌≤◌, ◌<◌, List, [], ◌∷◌, ◌++◌, length, take, drop, get_or, refl, sym, ap, subst, ◌∙◌, inl, inr, arith}
 use Rattle.std.specs.List.{AllZip, AllByRecursion}
 use Rattle.std.proofs.lemmas.List.{append-nil, append_assoc, length_push, take_all, drop_all, drop_more}
-use Rattle.std.proofs.lemmas.List.Elements.{AllZip-push}
 use Rattle.ots_ops.specs.declared.op.Op.{Op}
 use Rattle.ots_attest.specs.declared.attestation.Attestation.{Attestation}
 use Rattle.ots_tree.specs.declared.token.Token.{Token}
@@ -10,20 +9,15 @@ use Rattle.ots_tree.specs.declared.token.Token.TheVariants as token
 use Rattle.ots_tree.specs.Wire.{Path}
 use Rattle.ots_canon.specs.declared.chart.Place.{Place}
 use Rattle.ots_canon.specs.Ways.{Walk, begin, reopened, after, ways, ended, paths_in, paths_of_all}
-use Rattle.ots_canon.specs.Charted.{IsAt, IsBehind, IsPlaceOf, ArePlaces, IsEndOf, AreEnds}
+use Rattle.ots_canon.specs.Charted.{IsAt, IsPlaceOf, ArePlaces, IsEndOf, AreEnds}
 use Rattle.ots_canon.specs.Behind.{root, reopened_at, behind}
+use Rattle.ots_canon.proofs.Orders.{head_of, tail_of}
 
 -- the element at n, where what is left from n on begins with it; m is the next place
 pub record Next {X : Type 0} (xs : List X) (n m : ℕ) (y : X) (ys : List X) : Type 0 where
   pub is_at : IsAt xs n y
   pub left : drop m xs ≡ ys
   pub taken : take m xs ≡ take n xs ++ y ∷ []
-
-head_of : {X : Type 0} {x y : X} {xs ys : List X} → x ∷ xs ≡ y ∷ ys → x ≡ y
-head_of e = cc
-
-tail_of : {X : Type 0} {x y : X} {xs ys : List X} → x ∷ xs ≡ y ∷ ys → xs ≡ ys
-tail_of e = cc
 
 next_suc : {X : Type 0} (xs : List X) (n : ℕ) (y : X) (ys : List X) → drop n xs ≡ y ∷ ys → Next xs n (suc n) y ys
 next_suc [] zero y ys e = absurd cc

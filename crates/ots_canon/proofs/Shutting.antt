@@ -1,14 +1,14 @@
 -- Writing the steps of a path, the last one first.
-use Rattle.std.proofs.Common.{◌≡◌, ℕ, zero, suc, ◌+◌, ◌≤◌, ◌<◌, List, [], ◌∷◌, ◌++◌, length, get_or, reverse, Bool, true, false, Option, Some, None, refl, sym, ap, subst, ◌∙◌, arith}
+use Rattle.std.proofs.Common.{◌≡◌, ℕ, ◌<◌, List, [], ◌∷◌, ◌++◌, length, get_or, reverse, Bool, true, false, Option, Some, None, refl, sym, ap, ◌∙◌, arith}
 use Rattle.std.specs.Option.{option_to_list, unwrap_or}
 use Rattle.std.proofs.lemmas.List.{append-nil, append_assoc, length_push, reverse-append}
 use Rattle.ots_tree.specs.declared.token.Token.{Token}
 use Rattle.ots_tree.specs.declared.token.Token.TheVariants as token
 use Rattle.ots_canon.specs.declared.chart.Place.{Place}
-use Rattle.ots_canon.specs.Ways.{token_step, begin, ways, all_steps_at, all_tokens_at}
+use Rattle.ots_canon.specs.Ways.{token_step, all_steps_at, all_tokens_at}
 use Rattle.ots_canon.specs.Charted.{ArePlaces}
-use Rattle.ots_canon.specs.Written.{forked, stepped, woven, Cut, IsShut}
-use Rattle.ots_canon.proofs.Standing.{line_count, up, place_at, token_at, at_get}
+use Rattle.ots_canon.specs.Written.{forked, stepped, woven, IsShut}
+use Rattle.ots_canon.proofs.Standing.{line_count, up, place_at}
 
 abbrev itself : Token → Token
 itself x = x

@@ -1,14 +1,13 @@
 -- What a chart says of the steps to a token.
 use Rattle.std.proofs.Common.{◌≡◌, ◌⊎◌, ℕ, zero, suc, ◌+◌, ◌≤◌, ◌<◌, List, [], ◌∷◌, ◌++◌, map, length, get_or, refl, sym, ap, subst, ◌∙◌, inl, inr, arith}
 use Rattle.std.specs.List.{AllZip, AllByRecursion}
-use Rattle.std.proofs.lemmas.List.{append-nil, append_assoc, length_push, map-append, length-map}
+use Rattle.std.proofs.lemmas.List.{length_push, map-append, length-map}
 use Rattle.ots_ops.specs.declared.op.Op.{Op}
 use Rattle.ots_tree.specs.declared.token.Token.{Token}
 use Rattle.ots_tree.specs.declared.token.Token.TheVariants as token
 use Rattle.ots_canon.specs.declared.chart.Place.{Place}
-use Rattle.ots_canon.specs.Order.{op_step}
 use Rattle.ots_canon.specs.Ways.{Walk, begin, after, ways, token_step, line, line_at, all_steps_at}
-use Rattle.ots_canon.specs.Charted.{IsAt, IsBehind, IsPlaceOf, ArePlaces}
+use Rattle.ots_canon.specs.Charted.{IsAt, IsBehind, ArePlaces}
 use Rattle.ots_canon.proofs.Places.{Stands, length-ways, IsFew, few_after}
 
 pub at_below : {X : Type 0} (xs : List X) (n : ℕ) (x : X) → IsAt xs n x → n < length xs

@@ -1,5 +1,5 @@
 -- A tree is canonical exactly where behind each fork neighbours rise.
-use Rattle.std.proofs.Common.{◌≡◌, ◌↔◌, ℕ, zero, suc, List, [], ◌∷◌, ◌++◌, ◌+◌, ◌<◌, ◌≤◌, length, get_or, drop, arith, Bool, true, false, ◌&&◌, Option, Some, None, refl, sym, ap, subst, ◌∙◌}
+use Rattle.std.proofs.Common.{◌≡◌, ◌↔◌, ℕ, zero, suc, List, [], ◌∷◌, ◌++◌, ◌+◌, ◌<◌, ◌≤◌, length, get_or, drop, arith, Bool, true, false, ◌&&◌, Some, refl, sym, ap, ◌∙◌}
 use Rattle.std.specs.Ordering.{is_lt}
 use Rattle.std.specs.declared.cmp.Ordering.{Ordering}
 use Rattle.std.specs.declared.cmp.Ordering.TheVariants.{Less, Equal, Greater}
@@ -7,8 +7,7 @@ use Rattle.std.proofs.lemmas.List.{append_assoc, append-nil, drop_more, drop_all
 use Rattle.ots_tree.specs.declared.token.Token.{Token}
 use Rattle.ots_tree.specs.declared.token.Token.TheVariants as token
 use Rattle.ots_tree.specs.Wire.{Node, Item, last, more, attested, step, pre, pre_item, IsPre}
-use Rattle.ots_tree.proofs.Determined.{same_pre}
-use Rattle.ots_canon.specs.Order.{step_cmp, op_step, end_step}
+use Rattle.ots_canon.specs.Order.{step_cmp}
 use Rattle.ots_canon.specs.Canonical.{place, first, IsCanonical, IsCanonicalItem, IsCanonicalPre}
 use Rattle.ots_canon.specs.Ways.{token_step}
 use Rattle.ots_canon.specs.Rises.{left_behind, skip, head_of, is_below, rises, rises_behind, all_rise}

@@ -1,11 +1,10 @@
 -- A walk over the tokens of a tree finds its paths.
-use Rattle.std.proofs.Common.{◌≡◌, ℕ, suc, ◌+◌, ◌≤◌, ◌<◌, List, [], ◌∷◌, ◌++◌, map, length, refl, sym, ap, subst, ◌∙◌, arith, append_assoc}
+use Rattle.std.proofs.Common.{◌≡◌, List, [], ◌∷◌, ◌++◌, map, refl, sym, ap, ◌∙◌, append_assoc}
 use Rattle.std.proofs.lemmas.List.{append-nil, map-append}
 use Rattle.ots_ops.specs.declared.op.Op.{Op}
 use Rattle.ots_tree.specs.declared.token.Token.{Token}
-use Rattle.ots_tree.specs.declared.token.Token.TheVariants as token
 use Rattle.ots_tree.specs.Wire.{Node, Item, last, more, attested, step, Path, below, pre, pre_item, paths, paths_of_item}
-use Rattle.ots_canon.specs.Ways.{Walk, begin, reopened, after, ways, ended, paths_in, paths_of_all}
+use Rattle.ots_canon.specs.Ways.{Walk, reopened, paths_in, paths_of_all}
 
 -- a path below a node that these operations lead to
 abbrev pub under : List Op → Path → Path

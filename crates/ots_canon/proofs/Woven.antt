@@ -3,16 +3,15 @@ use Rattle.std.proofs.Common.{◌≡◌, ℕ, suc, ◌+◌, ◌-◌, Bool, true,
 use Rattle.std.specs.Ordering.{ordering_then}
 use Rattle.std.specs.declared.cmp.Ordering.{Ordering}
 use Rattle.std.specs.declared.cmp.Ordering.TheVariants.{Less, Equal, Greater}
-use Rattle.std.proofs.lemmas.List.{append-nil}
 use Rattle.ots_ops.specs.declared.op.Op.{Op}
 use Rattle.ots_attest.specs.declared.attestation.Attestation.{Attestation}
 use Rattle.ots_tree.specs.declared.token.Token.{Token}
 use Rattle.ots_tree.specs.declared.token.Token.TheVariants as token
-use Rattle.ots_tree.specs.Wire.{Node, Item, last, more, attested, step, Path, below, pre, pre_item}
+use Rattle.ots_tree.specs.Wire.{Node, Item, last, more, attested, step, Path, below, pre}
 use Rattle.ots_canon.specs.Order.{op_step, end_step, step_cmp, steps, path_cmp}
-use Rattle.ots_canon.proofs.Orders.{same_step, same_op}
+use Rattle.ots_canon.proofs.Orders.{same_step, same_op, head_of, tail_of}
 use Rattle.ots_canon.specs.Meeting.{if_equal, common}
-use Rattle.ots_canon.specs.Written.{forked, woven, Cut}
+use Rattle.ots_canon.specs.Written.{woven, Cut}
 use Rattle.ots_canon.proofs.Growing.{single, grown, path_of, front, front_item}
 
 -- the tokens of one path
@@ -71,12 +70,6 @@ single-front (o ∷ os) a = ap (below o) (single-front os a)
 
 -- ---- a path put before a tree, where the first n steps are the same and the next ones differ
 
-heads : {A : Type 0} {x y : A} {xs ys : List A} → x ∷ xs ≡ y ∷ ys → x ≡ y
-heads e = cc
-
-tails : {A : Type 0} {x y : A} {xs ys : List A} → x ∷ xs ≡ y ∷ ys → xs ≡ ys
-tails e = cc
-
 -- cut at once
 cut_here : (bs : List Bool) (xs : List Token) (kept shut : List Bool) (gone : List Token) → Cut 0 bs xs kept shut gone
     → (kept ≡ []) × (bs ≡ shut) × (xs ≡ gone)
@@ -103,11 +96,11 @@ cut_below n b bs x xs (k ∷ ks) shut gone h = by h.above h.above_length h.token
     by (y ∷ ys) l e =
         let f = h.flags_are in
         let kl = h.kept_length in
-        let same : b ≡ k = heads f in
+        let same : b ≡ k = head_of f in
         record {
           others = ks;
           kept_is = ap (λ (z : Bool). z ∷ ks) (sym same);
-          cut = record { above = ys; flags_are = tails f; tokens_are = tails e; kept_length = omega arith; above_length = omega arith };
+          cut = record { above = ys; flags_are = tail_of f; tokens_are = tail_of e; kept_length = omega arith; above_length = omega arith };
         }
 
 -- what a tree is after a path was put before it

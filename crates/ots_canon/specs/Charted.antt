@@ -6,7 +6,7 @@ use Rattle.ots_tree.specs.declared.token.Token.{Token}
 use Rattle.ots_tree.specs.declared.token.Token.TheVariants as token
 use Rattle.ots_tree.specs.Wire.{Path}
 use Rattle.ots_canon.specs.declared.chart.Place.{Place}
-use Rattle.ots_canon.specs.Ways.{ways, begin, paths_of_all}
+use Rattle.ots_canon.specs.Ways.{ways, begin}
 
 -- x stands at this place in the list
 abbrev pub IsAt : {X : Type 0} → List X → ℕ → X → Type 0

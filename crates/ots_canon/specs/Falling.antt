@@ -1,5 +1,5 @@
 -- Ends of paths in order. It serves the functions that sort.
-use Rattle.std.specs.Prelude.{◌≡◌, ℕ, ◌+◌, ◌<◌, List, [], ◌∷◌, length, Bool, false}
+use Rattle.std.specs.Prelude.{◌≡◌, ℕ, List, [], ◌∷◌, Bool, false}
 use Rattle.std.specs.Ordering.{is_lt}
 use Rattle.ots_tree.specs.declared.token.Token.{Token}
 use Rattle.ots_canon.specs.Ways.{all_steps_at}

@@ -1,8 +1,8 @@
 //! Joining proofs, and comparing trees by their paths.
-ghost use Rattle.std.specs.Prelude.{◌≡◌, ◌↔◌, ◌++◌, IfOk, IfErr, OnOk, IsTrue};
+ghost use Rattle.std.specs.Prelude.{◌≡◌, ◌≢◌, ◌↔◌, ◌++◌, IfOk, IfErr, OnOk, IsErrAnd, IsTrue};
 ghost use Rattle.std.specs.List.{AllByRecursion};
 ghost use Rattle.ots_tree.specs.Wire.{IsToken};
-ghost use Rattle.ots_canon.specs.Join.{HaveSamePaths, IsMergeOf, IsMergeError, IsJoinOf};
+ghost use Rattle.ots_canon.specs.Join.{HaveSamePaths, IsMergeOf, IsMergeError, IsJoinOf, HaveOnePair};
 
 use crate::form::{canon, canonical_tokens};
 use crate::meeting::compare_steps;
@@ -42,10 +42,12 @@ impl From<OutOfMemory> for MergeError {
 
 /// The canonical proof with the paths of both.
 ///
-/// `Differs`, with the hashes and digests of both, exactly where the hashes or the digests differ.
+/// `Differs`, with the hashes and digests of both, exactly where the hashes or the digests differ; no
+/// memory is taken then.
 pub fn merge(alloc: Global, first: &Detached, second: &Detached) -> Result<Detached, MergeError>
     ensures ok { IfOk result (IsMergeOf first.now second.now) }
     ensures err { IfErr result (IsMergeError first.now second.now) }
+    ensures differs { (HaveOnePair first.now second.now → ⊥) → IsErrAnd result (λ e. e ≢ MergeError.OutOfMemory) }
 {
     if first.hash != second.hash || first.digest != second.digest {
         return Err(MergeError::Differs {

@@ -1,5 +1,5 @@
 //! How paths compare, and how far two of them are one.
-ghost use Rattle.std.specs.Prelude.{◌≡◌, ◌+◌, ◌<◌, ◌≤◌, length};
+ghost use Rattle.std.specs.Prelude.{◌≡◌, ◌<◌, length};
 ghost use Rattle.std.specs.Ordering.{ordering_then};
 ghost use Rattle.ots_canon.specs.Charted.{ArePlaces};
 ghost use Rattle.ots_canon.specs.Order.{step_cmp};
@@ -86,8 +86,8 @@ impl Chart<'_> {
         upper
     }
 
-    /// How paths of so many steps meet, that go on to paths which compare like this if all of these
-    /// steps are the same.
+    /// How two paths of so many steps meet, and how they compare where `beyond` decides if all of
+    /// their steps are the same. It goes up from their ends, as far as the paths are apart.
     fn meet_level(&self, first: usize, second: usize, level: usize, beyond: Ordering) -> Meeting
         requires places { ArePlaces self.now.tokens.now self.now.places.now }
         requires first_in { first < length self.now.tokens.now }

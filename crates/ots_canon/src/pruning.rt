@@ -1,5 +1,5 @@
 //! Keeping the one path that says most.
-ghost use Rattle.std.specs.Prelude.{◌≡◌, ◌<◌, length, IfOk, IfSome};
+ghost use Rattle.std.specs.Prelude.{◌≡◌, ◌<◌, length, IfOk};
 ghost use Rattle.std.specs.List.{AllByRecursion};
 ghost use Rattle.ots_tree.specs.Wire.{IsToken};
 ghost use Rattle.ots_canon.specs.Charted.{ArePlaces};

@@ -1,5 +1,5 @@
 //! Writing the canonical tree of sorted paths.
-ghost use Rattle.std.specs.Prelude.{◌≡◌, ◌<◌, ◌≤◌, ◌++◌, ◌-◌, length, replicate, false, IfOk, OnOk};
+ghost use Rattle.std.specs.Prelude.{◌≡◌, ◌<◌, ◌≤◌, ◌++◌, length, IfOk, OnOk};
 ghost use Rattle.std.specs.List.{AllByRecursion};
 ghost use Rattle.ots_tree.specs.Wire.{IsToken};
 ghost use Rattle.ots_canon.specs.Charted.{ArePlaces};
@@ -17,7 +17,8 @@ use std::cmp::Ordering;
 ///
 /// They are written from the last to the first, and turned round at the end. `followed` has for each
 /// step of the path at which the writing is whether another item of its node is written already. A
-/// step is written where the next path no longer has it, so that each is written once.
+/// step is written where the next path no longer has it, so that each is written once. The first path
+/// is gone through once more, and is then the one at which the writing is.
 pub(crate) fn tree_tokens(
     alloc: Global,
     chart: &Chart,

@@ -1,31 +1,13 @@
 // The command `info`.
+use crate::proofs::{BLOCK_0, HEAD, HEAD_LINE, file_of, proof_of};
 use crate::runs::{info_of, run_failing};
 use ots_cli::Status;
 use ots_reader::{Fault, Reason};
-use std::alloc::{AllocError, Global};
+use std::process::Abort;
 use std::test::Fail;
-
-/// A proof file up to its tree. The digest is the SHA-256 of `Hello World!` and LF.
-const HEAD: &[u8] = b"\0OpenTimestamps\0\0Proof\0\xbf\x89\xe2\xe8\x84\xe8\x92\x94\x01\x08\
-    \x03\xba NP\xd1&\xe4gL\0^\x04\xd8.\x84\xc2\x13fx\n\xf1\xf4;\xd5J7\x81kj\xb3@";
-
-/// What `info` prints for it.
-const HEAD_LINE: &str =
-    "file sha256 03ba204e50d126e4674c005e04d82e84c21366780af1f43bd54a37816b6ab340\n";
-
-/// The tree of one attestation, of the Bitcoin block 0.
-const BLOCK_0: &[u8] = b"\0\x05\x88\x96\x0d\x73\xd7\x19\x01\x01\0";
 
 /// The line for words of no command's form.
 const USAGE: &str = "usage: ots info, canon, merge, prune, verify, stamp, upgrade, sample\n";
-
-/// The proof file with this tree.
-fn proof_of(alloc: Global, tree: &[u8]) -> Result<Vec<u8>, AllocError> {
-    let mut bytes = Vec::new(alloc);
-    bytes.extend_from_slice(HEAD)?;
-    bytes.extend_from_slice(tree)?;
-    Ok(bytes)
-}
 
 #[test]
 fn a_proof_is_printed_line_by_line(rt: HostRuntime) -> Result<(), Fail> {
@@ -110,30 +92,109 @@ fn a_fault_in_the_tree_is_refused_at_its_token(rt: HostRuntime) -> Result<(), Fa
     Ok(())
 }
 
+/// A proof whose tree is these bytes, so many bytes 8, and those is taken, or has this fault.
+fn expect_limit(
+    rt: &(impl Abort + AllocGlobal),
+    before: &[u8],
+    count: usize,
+    after: &[u8],
+    fault: Option<(u64, Reason)>,
+) -> Result<(), Fail> {
+    let equal = vec![in rt.alloc(); 8; count]?;
+    let bytes = file_of(rt.alloc(), &[HEAD, before, &equal, after])?;
+    let (status, _) = info_of(rt.alloc(), &bytes)?;
+    let want = match fault {
+        Some((place, reason)) => Status::BadProof(Fault { place, reason }),
+        None => Status::Done,
+    };
+    assert_eq!(rt; status, want, "after {count} bytes");
+    Ok(())
+}
+
+#[test]
+fn what_passes_a_limit_of_the_tree_is_refused(rt: HostRuntime) -> Result<(), Fail> {
+    // A byte 8 is the operation SHA-256.
+    expect_limit(&rt, b"", 255, BLOCK_0, None)?;
+    expect_limit(&rt, b"", 256, BLOCK_0, Some((320, Reason::TooDeep)))?;
+    expect_limit(
+        &rt,
+        b"\0\x01\x02\x03\x04\x05\x06\x07\x08\x80\x40",
+        8192,
+        b"",
+        None,
+    )?;
+    expect_limit(
+        &rt,
+        b"\0\x01\x02\x03\x04\x05\x06\x07\x08\x81\x40",
+        8193,
+        b"",
+        Some((65, Reason::PayloadTooLong)),
+    )
+}
+
+#[test]
+fn what_passes_a_limit_of_an_operation_is_refused(rt: HostRuntime) -> Result<(), Fail> {
+    expect_limit(&rt, b"\xf0", 0, b"\0", Some((65, Reason::ArgEmpty)))?;
+    expect_limit(&rt, b"\xf0\xe0\x1f", 4064, BLOCK_0, None)?;
+    expect_limit(
+        &rt,
+        b"\xf1\x80\x20",
+        4096,
+        BLOCK_0,
+        Some((65, Reason::ResultTooLong)),
+    )?;
+    expect_limit(&rt, b"\xf0\x81\x20", 0, b"", Some((65, Reason::ArgTooLong)))?;
+    expect_limit(
+        &rt,
+        b"\xf0\xe0\x0f",
+        2016,
+        b"\xf3\0\x05\x88\x96\x0d\x73\xd7\x19\x01\x01\0",
+        None,
+    )?;
+    expect_limit(
+        &rt,
+        b"\xf0\xe1\x0f",
+        2017,
+        b"\xf3",
+        Some((2085, Reason::ResultTooLong)),
+    )
+}
+
+/// These words, where a plain proof is under `p`, end with this status and this text.
+fn expect_words(
+    rt: &(impl Abort + AllocGlobal),
+    words: &[&str],
+    want: Status,
+    text: &str,
+) -> Result<(), Fail> {
+    let bytes = proof_of(rt.alloc(), BLOCK_0)?;
+    let (status, out) = run_failing(rt.alloc(), words, &bytes, &[], &[])?;
+    assert_eq!(rt; status, want);
+    assert_eq!(rt; out.bytes(), text.as_bytes());
+    Ok(())
+}
+
 #[test]
 fn words_and_names_are_refused(rt: HostRuntime) -> Result<(), Fail> {
-    let bytes = proof_of(rt.alloc(), BLOCK_0)?;
-    let rows: [(&[&str], Status, &str); 13] = [
-        (&[], Status::Usage, USAGE),
-        (&["frob"], Status::Usage, USAGE),
-        (&["info"], Status::Usage, USAGE),
-        (&["info", ""], Status::Usage, USAGE),
-        (&["info", "p", "p"], Status::Usage, USAGE),
-        (&["info", "x"], Status::NoFile, "no file x\n"),
-        // A call for help, and words that begin with a dash.
-        (&["info", "--help"], Status::Usage, USAGE),
-        (&["info", "-h"], Status::Usage, USAGE),
-        (&["info", "-p"], Status::Usage, USAGE),
-        (&["info", "-"], Status::NoFile, "no file -\n"),
-        (&["info", "--", "-p"], Status::NoFile, "no file -p\n"),
-        (&["info", "--", "p", "p"], Status::Usage, USAGE),
-        (&["info", "a name"], Status::NoFile, "no file a name\n"),
-    ];
-    for (words, want, text) in rows {
-        let (status, out) = run_failing(rt.alloc(), words, &bytes, &[], &[])?;
-        assert_eq!(rt; status, want);
-        assert_eq!(rt; out.bytes(), text.as_bytes());
-    }
+    expect_words(&rt, &[], Status::Usage, USAGE)?;
+    expect_words(&rt, &["frob"], Status::Usage, USAGE)?;
+    expect_words(&rt, &["info"], Status::Usage, USAGE)?;
+    expect_words(&rt, &["info", ""], Status::Usage, USAGE)?;
+    expect_words(&rt, &["info", "p", "p"], Status::Usage, USAGE)?;
+    expect_words(&rt, &["info", "x"], Status::NoFile, "no file x\n")?;
+    Ok(())
+}
+
+/// A call for help, and words that begin with a dash.
+#[test]
+fn dashes_are_read_as_by_clap(rt: HostRuntime) -> Result<(), Fail> {
+    expect_words(&rt, &["info", "--help"], Status::Usage, USAGE)?;
+    expect_words(&rt, &["info", "-h"], Status::Usage, USAGE)?;
+    expect_words(&rt, &["info", "-p"], Status::Usage, USAGE)?;
+    expect_words(&rt, &["info", "-"], Status::NoFile, "no file -\n")?;
+    expect_words(&rt, &["info", "--", "-p"], Status::NoFile, "no file -p\n")?;
+    expect_words(&rt, &["info", "--", "p", "p"], Status::Usage, USAGE)?;
+    expect_words(&rt, &["info", "a name"], Status::NoFile, "no file a name\n")?;
     Ok(())
 }
 
@@ -156,31 +217,31 @@ fn an_input_over_four_mebibytes_is_refused(rt: HostRuntime) -> Result<(), Fail> 
     Ok(())
 }
 
+/// `info p` ends with this status and this text where these calls of the shelf and writes of the sink
+/// fail.
+fn expect_failing(
+    rt: &(impl Abort + AllocGlobal),
+    failing: &[u64],
+    failing_writes: &[u64],
+    want: Status,
+    text: &str,
+) -> Result<(), Fail> {
+    let bytes = proof_of(rt.alloc(), BLOCK_0)?;
+    let (status, out) = run_failing(rt.alloc(), &["info", "p"], &bytes, failing, failing_writes)?;
+    assert_eq!(rt; status, want);
+    assert_eq!(rt; out.bytes(), text.as_bytes());
+    Ok(())
+}
+
 #[test]
 fn each_call_that_fails_is_answered(rt: HostRuntime) -> Result<(), Fail> {
-    let bytes = proof_of(rt.alloc(), BLOCK_0)?;
-    let whole = format!(in rt.alloc(); "{HEAD_LINE}0 bitcoin 0\n")?;
-    // The calls of the shelf that fail, which are one to open and two to read, the writes of the
-    // sink that fail, which are one, and the answer.
-    let rows: [(&[u64], &[u64], Status, &str); 7] = [
-        (&[1], &[], Status::ReadFault, "read fault p\n"),
-        (&[2], &[], Status::ReadFault, "read fault p\n"),
-        (&[3], &[], Status::ReadFault, "read fault p\n"),
-        (&[4], &[], Status::Done, whole.as_str()),
-        (&[], &[1], Status::WriteFault, ""),
-        (&[], &[2], Status::Done, whole.as_str()),
-        (&[1], &[1], Status::WriteFault, ""),
-    ];
-    for (failing, failing_writes, want, text) in rows {
-        let (status, out) = run_failing(
-            rt.alloc(),
-            &["info", "p"],
-            &bytes,
-            failing,
-            failing_writes,
-        )?;
-        assert_eq!(rt; status, want);
-        assert_eq!(rt; out.bytes(), text.as_bytes());
+    // One call opens, one reads, one meets the end.
+    for call in 1..4 {
+        expect_failing(&rt, &[call], &[], Status::ReadFault, "read fault p\n")?;
     }
-    Ok(())
+    let whole = format!(in rt.alloc(); "{HEAD_LINE}0 bitcoin 0\n")?;
+    expect_failing(&rt, &[4], &[], Status::Done, &whole)?;
+    expect_failing(&rt, &[], &[1], Status::WriteFault, "")?;
+    expect_failing(&rt, &[], &[2], Status::Done, &whole)?;
+    expect_failing(&rt, &[1], &[1], Status::WriteFault, "")
 }

@@ -1,8 +1,12 @@
-//! What no clause of `ots_cli` says: that `ots info` ends in each of its ways, with ample memory,
-//! and what it prints then, as bytes.
+//! What no clause of `ots_cli` says: that the commands of `ots` end in each of their ways, with
+//! ample memory, and what they print and write then, as bytes.
 #![tactic(auto)]
 
 #[cfg(test)]
 mod info;
 #[cfg(test)]
+mod proofs;
+#[cfg(test)]
 mod runs;
+#[cfg(test)]
+mod writing;

@@ -1,21 +1,66 @@
 // Runs of the client over a shelf and a sink in memory.
 use ots_cli::{Status, run_client};
-use ots_io::{BytesSink, MapShelf, Shelf, ShelfRoom, Sink};
-use std::alloc::{AllocError, Global};
+use ots_io::{BytesSink, DialerRoom, ListNonces, MapShelf, ScriptDialer, Shelf, ShelfRoom, Sink};
+use std::alloc::Global;
 use std::test::Fail;
 
-/// A run over any shelf and any sink.
-fn run<S: Shelf, K: Sink>(
+/// No conversation with a calendar.
+const NO_CALENDARS: DialerRoom = DialerRoom {
+    conversations: 0,
+    host_length: 0,
+    bytes: 0,
+};
+
+/// A run over any shelf and any sink, with no calendars and no nonces.
+pub fn run<S: Shelf, K: Sink>(
     alloc: Global,
     words: &[&str],
     shelf: &mut S,
     out: &mut K,
-) -> Result<Status, AllocError> {
+) -> Result<Status, Fail> {
     let mut owned = Vec::new(alloc);
     for word in words {
         owned.push(word.to_string(alloc)?)?;
     }
-    Ok(run_client(alloc, &owned, shelf, out))
+    let mut dialer = ScriptDialer::new(alloc, &[], NO_CALENDARS, &[])?;
+    let mut nonces = ListNonces::new(alloc, &[], &[])?;
+    Ok(run_client(alloc, &owned, shelf, out, &mut dialer, &mut nonces))
+}
+
+/// How a run ended, what the shelf holds then, and what was printed.
+#[derive(Drop)]
+pub struct Ended {
+    pub status: Status,
+    pub shelf: MapShelf,
+    pub out: BytesSink,
+}
+
+/// A run where the shelf holds these files, and has room for one more and two slots. The calls of
+/// the shelf and the writes of the sink that are listed fail.
+pub fn run_on(
+    alloc: Global,
+    words: &[&str],
+    files: &[(&str, &[u8])],
+    failing: &[u64],
+    failing_writes: &[u64],
+) -> Result<Ended, Fail> {
+    let mut longest = 256;
+    for (_, bytes) in files {
+        longest = bytes.len().max(longest);
+    }
+    let room = ShelfRoom {
+        names: files.len() + 1,
+        name_length: 1,
+        bytes: longest,
+        slots: 3,
+    };
+    let mut shelf = MapShelf::new(alloc, room, failing)?;
+    for (name, bytes) in files {
+        shelf.put(name, bytes)?;
+    }
+    let mut out = BytesSink::new(alloc, 20_000, failing_writes)?;
+    let status = run(alloc, words, &mut shelf, &mut out)?;
+    Ok(Ended { status, shelf, out })
 }
 
 /// How a run ends, and what it printed, where the shelf holds these bytes under `p`. The calls of
@@ -27,17 +72,8 @@ pub fn run_failing(
     failing: &[u64],
     failing_writes: &[u64],
 ) -> Result<(Status, BytesSink), Fail> {
-    let room = ShelfRoom {
-        names: 1,
-        name_length: 1,
-        bytes: bytes.len(),
-        slots: 1,
-    };
-    let mut shelf = MapShelf::new(alloc, room, failing)?;
-    shelf.put("p", bytes)?;
-    let mut out = BytesSink::new(alloc, 500, failing_writes)?;
-    let status = run(alloc, words, &mut shelf, &mut out)?;
-    Ok((status, out))
+    let ended = run_on(alloc, words, &[("p", bytes)], failing, failing_writes)?;
+    Ok((ended.status, ended.out))
 }
 
 /// How `info p` ends, and what it printed, where `p` holds these bytes.

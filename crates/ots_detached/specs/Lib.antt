@@ -2,3 +2,4 @@ pub mod File
 pub mod FileFault
 pub mod FileRead
 pub mod OneAnswer
+pub mod SourceHash

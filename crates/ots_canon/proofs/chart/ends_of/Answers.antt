@@ -1,5 +1,4 @@
-use Rattle.std.proofs.Common.{◌≡◌, ◌+◌, sym, subst, ap, Vec, ℕ, Global}
-use Rattle.ots_canon.proofs.Places.{Ended, end_first, end_other, end_more_at, end_all, not_end}
+use Rattle.ots_canon.proofs.Places.{end_first, end_other, end_more_at, not_end}
 use Rattle.ots_canon.proofs.chart.ends_of.Goals as goal
 use Rattle.ots_canon.proofs.chart.ends_of.Goals.{in-Attestation+in_ok-push, in_default}
 

@@ -1,7 +1,5 @@
-use Rattle.std.proofs.Common.{◌≡◌, ◌∙◌, sym, subst, ap, List, reverse, [], arith}
-use Rattle.ots_canon.specs.declared.chart.Place.{Place}
-use Rattle.ots_canon.specs.Behind.{root}
-use Rattle.ots_canon.proofs.Places.{Placed, place_first, place_more, place_all}
+use Rattle.std.proofs.Common.{◌≡◌, ap, reverse, []}
+use Rattle.ots_canon.proofs.Places.{place_first, place_more, place_all}
 use Rattle.ots_canon.proofs.chart.places_of.Goals as goal
 
 pub loop-at-init : goal.loop-at-init

@@ -1,4 +1,4 @@
-use Rattle.std.proofs.Common.{◌≤◌, reverse, length}
+use Rattle.std.proofs.Common.{reverse}
 use Rattle.ots_canon.proofs.Places.{Placed}
 use Rattle.ots_canon.proofs.chart.places_of.Given as goal
 

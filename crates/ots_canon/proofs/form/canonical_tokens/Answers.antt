@@ -1,6 +1,4 @@
-use Rattle.std.proofs.Common.{◌<◌, ◌∙◌, List, ℕ, length, subst, sym}
 use Rattle.ots_canon.specs.Ways.{paths_of_all}
-use Rattle.ots_canon.specs.Written.{HavePaths, IsTreeOfEnds}
 use Rattle.ots_canon.proofs.Ends.{have_paths, some_end, tree_moved}
 use Rattle.ots_canon.proofs.Forms.{if_ok}
 use Rattle.ots_canon.proofs.form.canonical_tokens.Goals as goal

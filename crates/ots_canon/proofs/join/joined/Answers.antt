@@ -1,4 +1,4 @@
-use Rattle.std.proofs.Common.{◌≡◌, ◌∙◌, ◌++◌, sym}
+use Rattle.std.proofs.Common.{◌≡◌, ◌∙◌, ◌++◌}
 use Rattle.ots_canon.proofs.Forms.{if_ok}
 use Rattle.ots_canon.proofs.Joins.{some_joined, join_of}
 use Rattle.ots_canon.proofs.join.joined.Goals as goal

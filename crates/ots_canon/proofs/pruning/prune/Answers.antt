@@ -1,5 +1,3 @@
-use Rattle.std.proofs.Common.{sym, List, ℕ, subst}
-use Rattle.ots_canon.specs.Kept.{IsKeptEnd}
 use Rattle.ots_canon.proofs.Forms.{if_ok}
 use Rattle.ots_canon.proofs.Lowering.{have_one, pruned, not_pruned}
 use Rattle.ots_canon.proofs.pruning.prune.Goals as goal

@@ -1,4 +1,4 @@
-use Rattle.std.proofs.Common.{◌≤◌, length, get_or, refl, arith, vec_len}
+use Rattle.std.proofs.Common.{get_or, refl, vec_len}
 use Rattle.ots_canon.proofs.Drafting.{first_in, resized, draft_first, draft_in, end_in, draft_more, draft_all, flags_count}
 use Rattle.ots_canon.proofs.writing.tree_tokens.Goals as goal
 

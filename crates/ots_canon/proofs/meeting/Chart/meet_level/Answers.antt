@@ -1,7 +1,6 @@
 use Rattle.std.proofs.Common.{◌-◌, arith}
-use Rattle.std.specs.declared.cmp.Ordering.{Ordering}
 use Rattle.ots_canon.proofs.Standing.{length-places}
-use Rattle.ots_canon.proofs.Meets.{Seen, seen_equal, seen_different, rising_first, rising_more, met_none, met_here}
+use Rattle.ots_canon.proofs.Meets.{Seen, seen_equal, seen_different, rising_first, rising_more, met_here}
 use Rattle.ots_canon.proofs.meeting.Chart.meet_level.Goals as goal
 use Rattle.ots_canon.proofs.meeting.Chart.meet_level.Goals.{in-Equal, in_default}
 

@@ -1,0 +1,4 @@
+pub mod Judged
+pub mod Least
+pub mod OneVerdict
+pub mod PathValues

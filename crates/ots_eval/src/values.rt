@@ -1,0 +1,29 @@
+//! The value of operations on a message.
+ghost use Rattle.std.specs.Prelude.{◌≡◌, ◌≢◌, ◌≤◌, length};
+ghost use Rattle.std.specs.Result.{result_ok, result_err};
+ghost use Rattle.ots_eval.specs.Value.{value, value_refusal};
+
+use ots_ops::{Message, Op, OpError, apply_in_place};
+use std::alloc::Global;
+
+/// What these operations make of a message of at most 4096 bytes, one after the other, in memory of
+/// `alloc`, which the value keeps.
+///
+/// The refusal is that of `result_length` for the first operation in order that it refuses.
+/// `OutOfMemory` comes only where no operation is refused.
+pub fn value(alloc: Global, ops: &[Op], message: &[u8]) -> Result<Message, OpError>
+    requires { length message.now ≤ 4096 }
+    ensures value { result ≢ Err OpError.OutOfMemory → result_ok result ≡ value ops.now message.now }
+    ensures refusal { result ≢ Err OpError.OutOfMemory → result_err result ≡ value_refusal ops.now message.now }
+{
+    let mut buffer = [0; 4096];
+    let mut filled = message.len();
+    buffer[..filled].copy_from_slice(message);
+    for op in ops {
+        filled = apply_in_place(op, &mut buffer, filled)?;
+    }
+    match Message::new(alloc, &buffer[..filled]) {
+        Ok(value) => Ok(value),
+        Err(_) => Err(OpError::OutOfMemory),
+    }
+}
