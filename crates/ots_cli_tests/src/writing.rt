@@ -164,19 +164,20 @@ fn expect_failing(
     Ok(())
 }
 
-/// From this call on a file with this tree is written: one call makes it, one writes what stands
+/// Behind so many calls a file with this tree is written: one call makes it, one writes what stands
 /// before its tree, one its tree.
 fn expect_broken(
     rt: &(impl Abort + AllocGlobal),
     words: &[&str],
-    call: u64,
+    before: u32,
     tree: &[u8],
 ) -> Result<(), Fail> {
     let output = proof_of(rt.alloc(), tree)?;
-    expect_failing(rt, words, call, 7, WRITE_FAULT, None)?;
-    expect_failing(rt, words, call + 1, 7, WRITE_FAULT, Some(b""))?;
-    expect_failing(rt, words, call + 2, 7, WRITE_FAULT, Some(HEAD))?;
-    expect_failing(rt, words, call + 3, 0, "", Some(&output))
+    let before = u64::from(before);
+    expect_failing(rt, words, before + 1, 7, WRITE_FAULT, None)?;
+    expect_failing(rt, words, before + 2, 7, WRITE_FAULT, Some(b""))?;
+    expect_failing(rt, words, before + 3, 7, WRITE_FAULT, Some(HEAD))?;
+    expect_failing(rt, words, before + 4, 0, "", Some(&output))
 }
 
 /// One call opens an input, one reads it, one meets its end.
@@ -202,9 +203,9 @@ fn each_call_that_fails_is_answered(rt: HostRuntime) -> Result<(), Fail> {
             None,
         )?;
     }
-    expect_broken(&rt, &["canon", "p", "o"], 4, PENDING)?;
-    expect_broken(&rt, &["prune", "q", "o"], 4, BLOCK_7)?;
-    expect_broken(&rt, &["merge", "p", "q", "o"], 7, BOTH)
+    expect_broken(&rt, &["canon", "p", "o"], 3, PENDING)?;
+    expect_broken(&rt, &["prune", "q", "o"], 3, BLOCK_7)?;
+    expect_broken(&rt, &["merge", "p", "q", "o"], 6, BOTH)
 }
 
 /// These words end with this number and print nothing where `p` has a proof and the sink fails, and
