@@ -10,7 +10,7 @@ use std::alloc::Global;
 /// `alloc`, which the value keeps.
 ///
 /// The refusal is that of `result_length` for the first operation in order that it refuses.
-/// `OutOfMemory` comes only where no operation is refused.
+/// `OutOfMemory` may come in place of the value or of a refusal.
 pub fn value(alloc: Global, ops: &[Op], message: &[u8]) -> Result<Message, OpError>
     requires { length message.now ≤ 4096 }
     ensures value { result ≢ Err OpError.OutOfMemory → result_ok result ≡ value ops.now message.now }
