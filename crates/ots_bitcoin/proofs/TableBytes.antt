@@ -47,6 +47,10 @@ length_all [] ok = refl
 length_all (h ∷ hs) ok =
     length-append (serialized h) (all_serialized hs) ∙ omega (arith, length_serialized h ok.0, length_all hs ok.1)
 
+-- a table is 80 bytes a header
+pub length_of_table : (first : ℕ) (b : List ℕ) (t : Table) → IsTableOf first b t → length b ≡ 80 * length t.headers
+length_of_table first b t is = ap length (sym is.headers) ∙ length_all t.headers is.limits.headers
+
 -- the headers that the bytes of headers are made of are those headers
 pub headers_back : (hs : List Header) → AllByRecursion IsHeader hs → headers_in (all_serialized hs) ≡ hs
 headers_back hs ok =

@@ -6,16 +6,16 @@ use Rattle.ots_io.specs.Shelf.{Names}
 use Rattle.ots_io.specs.Written.{with_name}
 use Rattle.ots_io.specs.declared.out_of_memory.OutOfMemory.{OutOfMemory as Short}
 use Rattle.ots_tree.specs.declared.detached.Detached.{Detached}
-use Rattle.ots_detached.specs.File.{file_of}
+use Rattle.ots_detached.specs.File.{IsFileOf, file_of}
 use Rattle.ots_cli.specs.declared.answer.Answer.{Answer}
 use Rattle.ots_cli.specs.declared.output.OutputError.TheVariants as output
-use Rattle.ots_cli.specs.declared.proof.ProofError.{ProofError}
-use Rattle.ots_cli.specs.declared.proof.ProofError.TheVariants as proof
+use Rattle.ots_cli.specs.declared.input.InputError.{InputError}
+use Rattle.ots_cli.specs.declared.input.InputError.TheVariants as input
 use Rattle.ots_cli.specs.declared.status.Status.{Status}
-use Rattle.ots_cli.specs.declared.status.Status.TheVariants.{Done, Usage, BadProof, NoFile, Exists, ReadFault, WriteFault, TooBig, Differs}
-use Rattle.ots_cli.specs.Answer.{Answers, ComesTo, ends, reads_no_more, writes_no_more, Ends, prints, prints_a_front, IsReadBy, Leaves, no_file_made, all_made, some_made, Prints, PrintsInfo, RefusesProof, no_file, too_big, bad_proof, WithProof, is_proof, is_refused, Writes, too_long, exists, is_made, Merges, differ}
+use Rattle.ots_cli.specs.declared.status.Status.TheVariants.{Done, Usage, BadProof, NoFile, Exists, ReadFault, WriteFault, TooBig, BadHeaders, FileTooLong, Differs}
+use Rattle.ots_cli.specs.Answer.{Answers, ComesTo, ends, reads_no_more, writes_no_more, Ends, prints, prints_a_front, IsReadBy, Leaves, no_file_made, all_made, some_made, Prints, PrintsInfo, RefusesInput, no_file, refuses, IsNamed, WithPerhapsTable, WithProof, WithTable, is_given, Writes, too_long, exists, is_made, Merges, differ}
 use Rattle.ots_cli.specs.Ending.{Ending, File, refused, AddsFiles, IsBroken, not_created, not_whole}
-use Rattle.ots_cli.specs.Found.{ReadsProof, status_of}
+use Rattle.ots_cli.specs.Found.{HasUnder, IsRefusal, ReadsInput, RefusesProof, status_of}
 use Rattle.ots_cli.specs.Output.{Outputs}
 use Rattle.ots_cli.specs.Refusal.{refusal_text}
 use Rattle.ots_cli.specs.Rewritten.{IsTreeOf}
@@ -27,25 +27,16 @@ use Rattle.ots_canon.specs.Prune.{IsPruneOf}
 use Rattle.ots_tree.specs.declared.token.Token.{Token}
 use Rattle.ots_tree.specs.Sound.{IsSoundPre}
 use Rattle.ots_cli.specs.Text.{IsInfoText}
-use Rattle.ots_cli.specs.Words.{Command}
+use Rattle.ots_bitcoin.specs.HeaderTable.{Table}
+use Rattle.ots_cli.specs.Words.{Command, HeaderFile}
 
 -- no file is made
 pub adds_none : (old new : Option Names) → new ≡ old → AddsFiles [] old new
 adds_none None new same = same
 adds_none (Some names) new same = same
 
--- ---- a name that gave no proof
-
 some_is : (s t : Status) → Some s ≡ Some t → s ≡ t
 some_is s t e = cc
-
-refuses : (told : Option Names) (name : List ℕ) (e : ProofError) (s : Status) → (e ≡ proof.ReadFault → ⊥) → Some s ≡ status_of e → ReadsProof told name (Err e)
-    → RefusesProof told name (refused name s)
-refuses told name proof.NoFile s other is read = no_file read (ap (refused name) (some_is s NoFile is))
-refuses told name proof.TooBig s other is read = too_big read (ap (refused name) (some_is s TooBig is))
-refuses told name (proof.BadProof f) s other is read = bad_proof f read (ap (refused name) (some_is s (BadProof f) is))
-refuses told name proof.ReadFault s other is read = absurd (other refl)
-refuses told name proof.OutOfMemory s other is read = absurd (let clash : Some s ≡ None = is in cc)
 
 -- what is said of more endings
 pub wider : (old new : Option Names) (A B : Ending → Type 0) (R Q : List ℕ → Type 0) (rose risen : Type 0) (s : Status) (text : List ℕ)
@@ -78,35 +69,58 @@ pub later_leaves : (old mid new : Option Names) (A : Option Names → Ending →
 later_leaves old mid new A B same f h = wider_leaves old new (A old) B f (subst (λ (z : Option Names). Leaves z new (A z)) same h)
 
 -- what a command comes to that ends with the refusal of a name that it reads
-refused_at : (old new : Option Names) (A : Ending → Type 0) (R : List ℕ → Type 0) (rose : Type 0) (name : List ℕ) (e : ProofError) (s : Status) (text : List ℕ)
-    → R name → ((d : Ending) → RefusesProof old name d → A d) → Some s ≡ status_of e → text ≡ refusal_text name s
-    → ReadsProof old name (Err e) → (e ≡ proof.ReadFault → rose) → new ≡ old → ComesTo old new A R rose s text
-refused_at old new A R rose name proof.ReadFault s text reads answers is printed read fault same =
-    let status = some_is s ReadFault is in
-    reads_no_more name reads (fault refl) status (printed ∙ ap (refusal_text name) status) same
-refused_at old new A R rose name proof.NoFile s text reads answers is printed read fault same =
-    ends (refused name s) (answers (refused name s) (refuses old name proof.NoFile s (λ h. cc) is read)) refl printed (adds_none old new same)
-refused_at old new A R rose name proof.TooBig s text reads answers is printed read fault same =
-    ends (refused name s) (answers (refused name s) (refuses old name proof.TooBig s (λ h. cc) is read)) refl printed (adds_none old new same)
-refused_at old new A R rose name (proof.BadProof f) s text reads answers is printed read fault same =
-    ends (refused name s) (answers (refused name s) (refuses old name (proof.BadProof f) s (λ h. cc) is read)) refl printed (adds_none old new same)
-refused_at old new A R rose name proof.OutOfMemory s text reads answers is printed read fault same = absurd (let clash : Some s ≡ None = is in cc)
+module _ (old new : Option Names) (Refuses : List ℕ → Status → Type 0) (A : Ending → Type 0) (R : List ℕ → Type 0) (rose : Type 0) (name : List ℕ)
+    (reads : R name) (answers : (d : Ending) → RefusesInput old name Refuses d → A d) (same : new ≡ old) where
+  bytes_refused : (s t : Status) (text : List ℕ) → s ≡ t → text ≡ refusal_text name s → HasUnder old name (λ bytes. Refuses bytes t) → ComesTo old new A R rose s text
+  bytes_refused s t text is printed why =
+      ends (refused name t) (answers (refused name t) (refuses t why refl)) is (printed ∙ ap (refusal_text name) is) (adds_none old new same)
 
-pub refused_comes : (old new : Option Names) (A : Ending → Type 0) (R : List ℕ → Type 0) (rose : Type 0) (name : List ℕ) (e : ProofError) (r : Result Answer Short)
-    → R name → ((d : Ending) → RefusesProof old name d → A d)
-    → IfOk r (λ a. Some a.status ≡ status_of e) → IfOk r (λ a. string_bytes a.text ≡ refusal_text name a.status)
-    → ReadsProof old name (Err e) → (e ≡ proof.ReadFault → rose) → new ≡ old → IfOk r (λ a. ComesTo old new A R rose a.status (string_bytes a.text))
-refused_comes old new A R rose name e (Ok a) reads answers is printed read fault same =
-    refused_at old new A R rose name e a.status (string_bytes a.text) reads answers is printed read fault same
-refused_comes old new A R rose name e (Err x) reads answers is printed read fault same = tt
+  refused_at : (e : InputError) (s : Status) (text : List ℕ) → Some s ≡ status_of e → text ≡ refusal_text name s
+      → IsRefusal old name Refuses e → (e ≡ input.ReadFault → rose) → ComesTo old new A R rose s text
+  refused_at input.ReadFault s text is printed read fault =
+      let status = some_is s ReadFault is in
+      reads_no_more name reads (fault refl) status (printed ∙ ap (refusal_text name) status) same
+  refused_at input.NoFile s text is printed read fault =
+      let status = some_is s NoFile is in
+      ends (refused name NoFile) (answers (refused name NoFile) (no_file read refl)) status (printed ∙ ap (refusal_text name) status) (adds_none old new same)
+  refused_at input.TooBig s text is printed read fault = bytes_refused s TooBig text (some_is s TooBig is) printed read
+  refused_at (input.BadProof f) s text is printed read fault = bytes_refused s (BadProof f) text (some_is s (BadProof f) is) printed read
+  refused_at (input.BadHeaders n) s text is printed read fault = bytes_refused s (BadHeaders n) text (some_is s (BadHeaders n) is) printed read
+  refused_at input.FileTooLong s text is printed read fault = bytes_refused s FileTooLong text (some_is s FileTooLong is) printed read
+  refused_at input.OutOfMemory s text is printed read fault = absurd (let clash : Some s ≡ None = is in cc)
+
+  pub refused_comes : (e : InputError) (r : Result Answer Short)
+      → IfOk r (λ a. Some a.status ≡ status_of e) → IfOk r (λ a. string_bytes a.text ≡ refusal_text name a.status)
+      → IsRefusal old name Refuses e → (e ≡ input.ReadFault → rose) → IfOk r (λ a. ComesTo old new A R rose a.status (string_bytes a.text))
+  refused_comes e (Ok a) is printed read fault = refused_at e a.status (string_bytes a.text) is printed read fault
+  refused_comes e (Err x) is printed read fault = tt
 
 -- ---- the commands
 
-pub info_comes : (old new : Option Names) (name : List ℕ) (R : List ℕ → Type 0) (rose : Type 0) (p : Detached) (text : List ℕ) → ReadsProof old name (Ok p)
+pub info_comes : (old new : Option Names) (name : List ℕ) (R : List ℕ → Type 0) (rose : Type 0) (p : Detached) (text : List ℕ) → ReadsInput old name IsFileOf RefusesProof (Ok p)
     → IsInfoText p text → new ≡ old → ComesTo old new (WithProof old name PrintsInfo) R rose Done text
 info_comes old new name R rose p text read printed same =
     ends (record { status = Done; text = text; files = [] })
-    (is_proof p read (record { status = refl; text = printed; files = refl })) refl refl (adds_none old new same)
+    (is_given p read (record { status = refl; text = printed; files = refl })) refl refl (adds_none old new same)
+
+-- an ending without files
+pub answered_comes : (old new : Option Names) (B A : Ending → Type 0) (R : List ℕ → Type 0) (rose : Type 0) (r : Result Answer Short)
+    → IfOk r (λ a. B (record { status = a.status; text = string_bytes a.text; files = [] })) → ((e : Ending) → B e → A e) → new ≡ old
+    → IfOk r (λ a. ComesTo old new A R rose a.status (string_bytes a.text))
+answered_comes old new B A R rose (Ok a) answers f same =
+    let e : Ending = record { status = a.status; text = string_bytes a.text; files = [] } in ends e (f e answers) refl refl (adds_none old new same)
+answered_comes old new B A R rose (Err x) answers f same = tt
+
+-- headers that are not given, and those that are
+pub none_given : (told : Option Names) (o : Option HeaderFile) (P : Option Table → Ending → Type 0) (e : Ending) → o ≡ None → P None e → WithPerhapsTable told o P e
+none_given told o P e none h = subst (λ (z : Option HeaderFile). WithPerhapsTable told z P e) (sym none) h
+
+pub some_given : (told : Option Names) (o : Option HeaderFile) (file : HeaderFile) (P : Option Table → Ending → Type 0) (e : Ending)
+    → o ≡ Some file → WithTable told file (λ t. P (Some t)) e → WithPerhapsTable told o P e
+some_given told o file P e some h = subst (λ (z : Option HeaderFile). WithPerhapsTable told z P e) (sym some) h
+
+pub is_named : (o : Option HeaderFile) (file : HeaderFile) → o ≡ Some file → IsNamed o file.name
+is_named o file some = subst (λ (z : Option HeaderFile). IsNamed z file.name) (sym some) refl
 
 -- a refusal that is defined, where no file is made
 pub refusal_comes : (old new : Option Names) (A : Ending → Type 0) (R : List ℕ → Type 0) (rose : Type 0) (name : List ℕ) (s : Status) (r : Result Answer Short)

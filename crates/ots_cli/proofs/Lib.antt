@@ -1,5 +1,6 @@
 pub mod Reading
 pub mod OneAnswer
-pub mod Arguments
+pub mod Parsed
 pub mod Endings
 pub mod Outputs
+pub mod Numbers

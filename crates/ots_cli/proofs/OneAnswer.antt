@@ -1,5 +1,5 @@
 -- A command has one answer.
-use Rattle.std.proofs.Common.{◌≡◌, ℕ, List, length, Option, Some, None, sym, ap, subst, ◌∙◌, arith}
+use Rattle.std.proofs.Common.{◌≡◌, ◌<◌, ◌≤◌, ◌*◌, ℕ, List, length, Option, Some, None, inl, inr, sym, ap, subst, ◌∙◌, arith}
 use Rattle.std.specs.Prelude.{IsSome}
 use Rattle.std.proofs.lemmas.Bool.{false≢true}
 use Rattle.std.specs.FinMap as map
@@ -7,19 +7,25 @@ use Rattle.ots_io.specs.Shelf.{Names}
 use Rattle.ots_tree.specs.declared.detached.Detached.{Detached}
 use Rattle.ots_reader.specs.declared.fault.Fault.{Fault}
 use Rattle.ots_detached.specs.File.{IsFileOf}
-use Rattle.ots_detached.specs.FileFault.{HasFault}
+use Rattle.ots_ops.specs.declared.hash_op.HashOp.{HashOp}
+use Rattle.ots_bitcoin.specs.HeaderTable.{Table}
+use Rattle.ots_bitcoin.specs.TableRead.{IsTableOf}
+use Rattle.ots_bitcoin.proofs.TableBytes.{length_of_table, one_table_lem}
+use Rattle.ots_eval.proofs.OneVerdict.{one}
 use Rattle.ots_detached.proofs.Files.{one_fault}
 use Rattle.ots_detached.proofs.BothWays.{no_fault, file_size, one_file, same_detached}
 use Rattle.ots_cli.specs.declared.status.Status.{Status}
-use Rattle.ots_cli.specs.declared.status.Status.TheVariants.{Done, Usage, BadProof, NoFile, Exists, ReadFault, WriteFault, TooBig, Differs, OutOfMemory}
+use Rattle.ots_cli.specs.declared.status.Status.TheVariants.{Done, No, Usage, BadProof, NoFile, Exists, ReadFault, WriteFault, TooBig, BadHeaders, FileTooLong, Differs, OutOfMemory}
 use Rattle.ots_cli.specs.Ending.{Ending}
 use Rattle.ots_cli.specs.Rewritten.{IsRewritten}
 use Rattle.ots_cli.specs.declared.rewriting.Rewriting.{Rewriting}
 use Rattle.ots_cli.specs.declared.rewriting.Rewriting.TheVariants.{Canon, Prune}
 use Rattle.ots_canon.specs.Join.{IsMergeOf}
 use Rattle.ots_canon.proofs.Lawful.{one_form, one_join, one_prune}
-use Rattle.ots_cli.specs.Words.{Command, info, canon, merge, prune}
-use Rattle.ots_cli.specs.Answer.{Answers, ComesTo, ends, reads_no_more, writes_no_more, Ends, prints_nothing, prints_a_front, prints, PrintsInfo, UnlessFailed, RefusesProof, no_file, too_big, bad_proof, WithProof, is_proof, is_refused, Writes, too_long, exists, is_made, WritesOf, Merges, differ, joined}
+use Rattle.ots_cli.specs.Found.{IsHashOf, RefusesProof, too_big, bad_proof, RefusesTable, cut, too_many, RefusesTarget}
+use Rattle.ots_cli.specs.Text.{verdict_status}
+use Rattle.ots_cli.specs.Words.{Command, HeaderFile, Verification, info, canon, merge, prune, verify}
+use Rattle.ots_cli.specs.Answer.{Answers, ComesTo, ends, reads_no_more, writes_no_more, Ends, prints_nothing, prints_a_front, prints, PrintsInfo, UnlessFailed, PrintsVerdict, RefusesInput, no_file, refuses, WithInput, is_given, is_refused, WithProof, WithTable, WithPerhapsTable, WithTarget, VerifiesTarget, VerifiesProof, VerifiesBy, Verifies, Writes, too_long, exists, is_made, WritesOf, Merges, differ, joined}
 
 -- the bytes under a name are the only ones
 one_under : (names : Names) (name b c : List ℕ) → map.get names name ≡ Some b → map.get names name ≡ Some c → b ≡ c
@@ -28,38 +34,77 @@ one_under names name b c e f = let both : Some b ≡ Some c = sym e ∙ f in cc
 none_under : (names : Names) (name b : List ℕ) → map.get names name ≡ None → map.get names name ≡ Some b → ⊥
 none_under names name b e f = let clash : None ≡ Some b = sym e ∙ f in cc
 
--- a name is refused in one way
-one_refusal : (names : Names) (name : List ℕ) (d e : Ending) → RefusesProof (Some names) name d → RefusesProof (Some names) name e → d.status ≡ e.status
-one_refusal names name d e (no_file none f) (no_file none' g) = ap (λ (z : Ending). z.status) (f ∙ sym g)
-one_refusal names name d e (no_file none f) (too_big h g) = absurd (none_under names name h.0 none h.1)
-one_refusal names name d e (no_file none f) (bad_proof k h g) = absurd (none_under names name h.0 none h.1)
-one_refusal names name d e (too_big h f) (no_file none g) = absurd (none_under names name h.0 none h.1)
-one_refusal names name d e (too_big h f) (too_big h' g) = ap (λ (z : Ending). z.status) (f ∙ sym g)
-one_refusal names name d e (too_big h f) (bad_proof k h' g) =
-    absurd (let same = ap length (one_under names name h.0 h'.0 h.1 h'.1) in let long = h.2 in let fits = h'.2.0 in omega arith)
-one_refusal names name d e (bad_proof k h f) (no_file none g) = absurd (none_under names name h.0 none h.1)
-one_refusal names name d e (bad_proof k h f) (too_big h' g) =
-    absurd (let same = ap length (one_under names name h.0 h'.0 h.1 h'.1) in let long = h'.2 in let fits = h.2.0 in omega arith)
-one_refusal names name d e (bad_proof k h f) (bad_proof k' h' g) =
-    let fault : k ≡ k' = one_fault h.0 k k' h.2.1 (subst (λ (z : List ℕ). HasFault z k') (one_under names name h'.0 h.0 h'.1 h.1) h'.2.1) in
-    ap (λ (z : Ending). z.status) f ∙ ap (λ (z : Fault). BadProof z) fault ∙ ap (λ (z : Ending). z.status) (sym g)
+-- An input is read in one way, where bytes give one thing or are refused with one status, and never both.
+module _ {A : Type 0} (names : Names) (name : List ℕ) (Gives : List ℕ → A → Type 0) (Refuses : List ℕ → Status → Type 0)
+    (one_given : (b : List ℕ) (x y : A) → Gives b x → Gives b y → x ≡ y) (one_refused : (b : List ℕ) (s t : Status) → Refuses b s → Refuses b t → s ≡ t)
+    (not_both : (b : List ℕ) (x : A) (s : Status) → Gives b x → Refuses b s → ⊥) where
+  one_refusal : (d e : Ending) → RefusesInput (Some names) name Refuses d → RefusesInput (Some names) name Refuses e → d.status ≡ e.status
+  one_refusal d e (no_file none f) (no_file none' g) = ap (λ (z : Ending). z.status) (f ∙ sym g)
+  one_refusal d e (no_file none f) (refuses s h g) = absurd (none_under names name h.0 none h.1)
+  one_refusal d e (refuses s h f) (no_file none g) = absurd (none_under names name h.0 none h.1)
+  one_refusal d e (refuses s h f) (refuses t k g) =
+      ap (λ (z : Ending). z.status) f
+      ∙ one_refused h.0 s t h.2 (subst (λ (z : List ℕ). Refuses z t) (one_under names name k.0 h.0 k.1 h.1) k.2)
+      ∙ ap (λ (z : Ending). z.status) (sym g)
 
--- and never where it is a proof
-not_refused : (names : Names) (name b : List ℕ) (p : Detached) (e : Ending) → map.get names name ≡ Some b → IsFileOf b p → RefusesProof (Some names) name e → ⊥
-not_refused names name b p e at is (no_file none f) = none_under names name b none at
-not_refused names name b p e at is (too_big h f) =
-    let fits = file_size b p is in let same = ap length (one_under names name b h.0 at h.1) in let long = h.2 in omega arith
-not_refused names name b p e at is (bad_proof k h f) = no_fault b p k is (subst (λ (z : List ℕ). HasFault z k) (one_under names name h.0 b h.1 at) h.2.1)
+  not_refused : (b : List ℕ) (x : A) (e : Ending) → map.get names name ≡ Some b → Gives b x → RefusesInput (Some names) name Refuses e → ⊥
+  not_refused b x e at is (no_file none f) = none_under names name b none at
+  not_refused b x e at is (refuses s h f) = not_both b x s is (subst (λ (z : List ℕ). Refuses z s) (one_under names name h.0 b h.1 at) h.2)
 
--- a proof that is read ends in one status where each proof does
+  one_input : (P : A → Ending → Type 0) (d e : Ending) → ((x : A) → P x d → P x e → d.status ≡ e.status)
+      → WithInput (Some names) name Gives Refuses P d → WithInput (Some names) name Gives Refuses P e → d.status ≡ e.status
+  one_input P d e one (is_given x (b, at, is) h) (is_given y (c, too, as_well) k) =
+      let same : x ≡ y = one_given b x y is (subst (λ (z : List ℕ). Gives z y) (one_under names name c b too at) as_well) in
+      one y (subst (λ (z : A). P z d) same h) k
+  one_input P d e one (is_given x (b, at, is) h) (is_refused r) = absurd (not_refused b x e at is r)
+  one_input P d e one (is_refused r) (is_given y (b, at, is) h) = absurd (not_refused b y d at is r)
+  one_input P d e one (is_refused r) (is_refused r') = one_refusal d e r r'
+
+-- a proof
+proof_refusal : (b : List ℕ) (s t : Status) → RefusesProof b s → RefusesProof b t → s ≡ t
+proof_refusal b s t (too_big long f) (too_big long' g) = f ∙ sym g
+proof_refusal b s t (too_big long f) (bad_proof k fits h g) = absurd (omega arith)
+proof_refusal b s t (bad_proof k fits h f) (too_big long g) = absurd (omega arith)
+proof_refusal b s t (bad_proof k fits h f) (bad_proof k' fits' h' g) = f ∙ ap (λ (z : Fault). BadProof z) (one_fault b k k' h h') ∙ sym g
+
+proof_or_not : (b : List ℕ) (p : Detached) (s : Status) → IsFileOf b p → RefusesProof b s → ⊥
+proof_or_not b p s is (too_big long f) = let fits = file_size b p is in omega arith
+proof_or_not b p s is (bad_proof k fits h f) = no_fault b p k is h
+
 with_proof : (names : Names) (name : List ℕ) (P : Detached → Ending → Type 0) (d e : Ending) → ((p : Detached) → P p d → P p e → d.status ≡ e.status)
     → WithProof (Some names) name P d → WithProof (Some names) name P e → d.status ≡ e.status
-with_proof names name P d e one (is_proof p (b, at, is) h) (is_proof q (c, too, as_well) k) =
-    let same : p ≡ q = one_file b p q is (subst (λ (z : List ℕ). IsFileOf z q) (one_under names name c b too at) as_well) in
-    one q (subst (λ (z : Detached). P z d) same h) k
-with_proof names name P d e one (is_proof p (b, at, is) h) (is_refused r) = absurd (not_refused names name b p e at is r)
-with_proof names name P d e one (is_refused r) (is_proof q (b, at, is) h) = absurd (not_refused names name b q d at is r)
-with_proof names name P d e one (is_refused r) (is_refused r') = one_refusal names name d e r r'
+with_proof names name = one_input names name IsFileOf RefusesProof (λ b p q f g. one_file b p q f g) proof_refusal proof_or_not
+
+-- headers
+table_refusal : (b : List ℕ) (s t : Status) → RefusesTable b s → RefusesTable b t → s ≡ t
+table_refusal b s t (cut h f) (cut h' g) = f ∙ sym g
+table_refusal b s t (cut h f) (too_many long g) = absurd (let fits = h.0 in omega arith)
+table_refusal b s t (too_many long f) (cut h g) = absurd (let fits = h.0 in omega arith)
+table_refusal b s t (too_many long f) (too_many long' g) = f ∙ sym g
+
+table_or_not : (first : ℕ) (b : List ℕ) (table : Table) (s : Status) → IsTableOf first b table → RefusesTable b s → ⊥
+table_or_not first b table s is (too_many long f) =
+    let size = length_of_table first b table is in let most = is.limits.at_most in omega arith
+table_or_not first b table s is (cut (fits, inl none) f) =
+    let size = length_of_table first b table is in let some = is.limits.some in omega arith
+table_or_not first b table s is (cut (fits, inr part) f) = part (let size = length_of_table first b table is in omega arith)
+
+with_table : (names : Names) (file : HeaderFile) (P : Table → Ending → Type 0) (d e : Ending) → ((t : Table) → P t d → P t e → d.status ≡ e.status)
+    → WithTable (Some names) file P d → WithTable (Some names) file P e → d.status ≡ e.status
+with_table names file =
+    one_input names file.name (IsTableOf file.first) RefusesTable (λ b t u f g. one_table_lem file.first b t u f g) table_refusal (table_or_not file.first)
+
+with_perhaps_table : (names : Names) (file : Option HeaderFile) (P : Option Table → Ending → Type 0) (d e : Ending)
+    → ((t : Option Table) → P t d → P t e → d.status ≡ e.status) → WithPerhapsTable (Some names) file P d → WithPerhapsTable (Some names) file P e → d.status ≡ e.status
+with_perhaps_table names None P d e one f g = one None f g
+with_perhaps_table names (Some file) P d e one f g = with_table names file (λ t. P (Some t)) d e (λ t. one (Some t)) f g
+
+-- a target
+with_target : (names : Names) (name : List ℕ) (hash : HashOp) (P : List ℕ → Ending → Type 0) (d e : Ending) → ((x : List ℕ) → P x d → P x e → d.status ≡ e.status)
+    → WithTarget (Some names) name hash P d → WithTarget (Some names) name hash P e → d.status ≡ e.status
+with_target names name hash =
+    one_input names name (IsHashOf hash) RefusesTarget (λ b x y f g. f.1 ∙ sym g.1) (λ b s t f g. f.1 ∙ sym g.1)
+    (λ b x s f g. let fits = f.0 in let long = g.0 in omega arith)
 
 -- a proof is written in one way
 is_there : (o : Option (List ℕ)) → IsSome o → o ≡ None → ⊥
@@ -98,6 +143,15 @@ merges names to p q d e (joined r is h) (differ other g) = absurd (other is.pair
 merges names to p q d e (joined r is h) (joined s too k) =
     one_writing names to s d e (subst (λ (z : Detached). Writes (Some names) to z d) (one_merged p q r s is too) h) k
 
+-- a verdict is the only one
+verifies : (names : Names) (v : Verification) (d e : Ending) → Verifies (Some names) v d → Verifies (Some names) v e → d.status ≡ e.status
+verifies names v d e =
+    with_table names v.bitcoin (VerifiesBy (Some names) v) d e
+    (λ b. with_perhaps_table names v.litecoin (VerifiesProof (Some names) v b) d e
+    (λ l. with_proof names v.proof (VerifiesTarget (Some names) v.target b l) d e
+    (λ p. with_target names v.target p.hash (PrintsVerdict p b l) d e
+    (λ x f g. ap (λ (z : Ending). z.status) f.2 ∙ ap verdict_status (one p x b l f.0 g.0 f.1 g.1) ∙ ap (λ (z : Ending). z.status) (sym g.2)))))
+
 pub one_status : (told : Option Names) (command : Option Command) (d e : Ending) → IsSome told → Answers told command d → Answers told command e → d.status ≡ e.status
 one_status told None d e known f g = ap (λ (z : Ending). z.status) (f ∙ sym g)
 one_status None (Some command) d e known f g = absurd (false≢true known)
@@ -107,6 +161,7 @@ one_status (Some names) (Some (merge first second to)) d e known f g =
     with_proof names first (λ p. WithProof (Some names) second (Merges (Some names) to p)) d e
     (λ p. with_proof names second (Merges (Some names) to p) d e (λ q. merges names to p q d e)) f g
 one_status (Some names) (Some (prune from to)) d e known f g = rewrites names Prune from to d e f g
+one_status (Some names) (Some (verify v)) d e known f g = verifies names v d e f g
 
 -- ---- the status that is answered
 
@@ -118,6 +173,9 @@ unless s (BadProof f) e = e
 unless s NoFile e = e
 unless s Exists e = e
 unless s TooBig e = e
+unless s No e = e
+unless s (BadHeaders n) e = e
+unless s FileTooLong e = e
 unless s (Differs h d k f) e = e
 unless s ReadFault e = tt
 unless s WriteFault e = tt

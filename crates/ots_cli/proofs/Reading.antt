@@ -1,15 +1,26 @@
 -- What was read of a name is what is under it.
-use Rattle.std.proofs.Common.{◌≡◌, ◌≤◌, ℕ, List, ◌++◌, length, Option, Some, None, refl, sym, ap, ◌∙◌, arith, append-nil, length-append}
-use Rattle.std.specs.Prelude.{Ok, Err, IsSome}
+use Rattle.std.proofs.Common.{◌≡◌, ◌≤◌, ◌<◌, ◌^◌, ℕ, List, ◌++◌, length, Option, Some, None, refl, sym, ap, subst, ◌∙◌, inl, inr, arith, append-nil, length-append}
+use Rattle.std.specs.Prelude.{Result, Ok, Err, IsSome, IsErrAnd}
 use Rattle.std.specs.FinMap as map
 use Rattle.std.specs.Io.KnownBytes.{Consumes, IsAtEnd}
 use Rattle.ots_io.specs.Told.{IfTold}
 use Rattle.ots_io.specs.Shelf.{Names}
+use Rattle.ots_ops.specs.declared.hash_op.HashOp.{HashOp}
 use Rattle.ots_tree.specs.declared.detached.Detached.{Detached}
+use Rattle.ots_detached.specs.File.{IsFileOf}
+use Rattle.ots_detached.specs.FileRead.{ReadsFile}
+use Rattle.ots_detached.specs.SourceHash.{HashesSource}
+use Rattle.ots_detached.specs.declared.hashing.HashError.{HashError}
+use Rattle.ots_detached.specs.declared.hashing.HashError.TheVariants as hashing
 use Rattle.ots_detached.specs.declared.reading.FileError.{FileError}
 use Rattle.ots_detached.specs.declared.reading.FileError.TheVariants as reading
-use Rattle.ots_detached.specs.FileRead.{ReadsFile}
-use Rattle.ots_cli.specs.Found.{IsUnder, ReadsProof, refused_read}
+use Rattle.ots_bitcoin.specs.HeaderTable.{Table}
+use Rattle.ots_bitcoin.specs.TableRead.{IsTableOf, ReadsTable}
+use Rattle.ots_bitcoin.specs.declared.headers.HeadersError.{HeadersError}
+use Rattle.ots_bitcoin.specs.declared.headers.HeadersError.TheVariants as headers
+use Rattle.ots_cli.specs.declared.status.Status.{Status}
+use Rattle.ots_cli.specs.declared.input.InputError.{InputError}
+use Rattle.ots_cli.specs.Found.{IsUnder, IsHashOf, IsRefusal, ReadsInput, RefusesProof, too_big, bad_proof, RefusesTable, cut, too_many, RefusesTarget, refused_headers, refused_proof, refused_target}
 
 -- The bytes that came begin what is under the name, and are all of it where the end was reached.
 record IsFront (told : Option Names) (name came : List ℕ) (whole : Type 0) : Type 0 where
@@ -36,24 +47,61 @@ front (Some names) name left after came some is consumed =
     let f = front_told (map.get names name) left after came some is consumed in
     record { bytes = f.0; under = f.1; longer = f.2; all = f.3 }
 
-pub refused_is : (told : Option Names) (name : List ℕ) (left after : Option (List ℕ)) (e : FileError)
-    → IfTold told (λ names. IsSome (map.get names name)) → IfTold told (λ names. left ≡ map.get names name) → ReadsFile left after (Err e)
-    → ReadsProof told name (Err (refused_read e))
-refused_is told name left after reading.ReadFault some is read = tt
-refused_is told name left after reading.OutOfMemory some is read = tt
-refused_is told name left after reading.TooBig some is read =
-    let f = front told name left after read.came some is read.consumed in
-    let long = read.tells in
-    let longer = f.longer in
-    (f.bytes, f.under, omega arith)
-refused_is told name left after (reading.BadProof fault) some is read =
-    let f = front told name left after read.came some is read.consumed in
-    let all = f.all read.tells.0 in
-    (f.bytes, f.under, rw all (read.tells.1, read.tells.2))
+module _ (told : Option Names) (name : List ℕ) (left after : Option (List ℕ))
+    (some : IfTold told (λ names. IsSome (map.get names name))) (is : IfTold told (λ names. left ≡ map.get names name)) where
+  -- a proof
+  pub proof_refused : (e : FileError) → ReadsFile left after (Err e) → IsRefusal told name RefusesProof (refused_proof e)
+  proof_refused reading.ReadFault read = tt
+  proof_refused reading.OutOfMemory read = tt
+  proof_refused reading.TooBig read =
+      let f = front told name left after read.came some is read.consumed in
+      let long = read.tells in
+      let longer = f.longer in
+      (f.bytes, f.under, too_big (omega arith) refl)
+  proof_refused (reading.BadProof fault) read =
+      let f = front told name left after read.came some is read.consumed in
+      let all = f.all read.tells.0 in
+      (f.bytes, f.under, rw all (bad_proof fault read.tells.1 read.tells.2 refl))
 
-pub proof_is : (told : Option Names) (name : List ℕ) (left after : Option (List ℕ)) (p : Detached)
-    → IfTold told (λ names. IsSome (map.get names name)) → IfTold told (λ names. left ≡ map.get names name) → ReadsFile left after (Ok p)
-    → ReadsProof told name (Ok p)
-proof_is told name left after p some is read =
-    let f = front told name left after read.came some is read.consumed in
-    (f.bytes, f.under, rw (f.all read.tells.0) read.tells.1)
+  pub proof_read : (p : Detached) → ReadsFile left after (Ok p) → ReadsInput told name IsFileOf RefusesProof (Ok p)
+  proof_read p read =
+      let f = front told name left after read.came some is read.consumed in
+      (f.bytes, f.under, rw (f.all read.tells.0) read.tells.1)
+
+  -- headers
+  pub headers_refused : (first : ℕ) (e : HeadersError) → ReadsTable first left after (Err e) → IsRefusal told name RefusesTable (refused_headers e)
+  headers_refused first headers.ReadFault read = tt
+  headers_refused first headers.OutOfMemory read = tt
+  headers_refused first (headers.BadHeaders n) read =
+      let f = front told name left after read.came some is read.consumed in
+      let longer = f.longer in
+      let number = read.tells.0 in
+      elim read.tells.1 [
+        | inl whole ↦ (f.bytes, f.under, rw (f.all whole.0) (rw number (cut (rw (← number) whole.1) refl)))
+        | inr past ↦ (f.bytes, f.under, rw past (too_many (omega arith) refl))
+      ]
+
+  pub headers_read : (first : ℕ) (t : Table) → ReadsTable first left after (Ok t) → ReadsInput told name (IsTableOf first) RefusesTable (Ok t)
+  headers_read first t read =
+      let f = front told name left after read.came some is read.consumed in
+      (f.bytes, f.under, rw (f.all read.tells.0) read.tells.1)
+
+  -- a target
+  pub target_refused : (hash : HashOp) (e : HashError) → HashesSource hash (2 ^ 40) left after (Err e) → IsRefusal told name RefusesTarget (refused_target e)
+  target_refused hash hashing.ReadFault read = tt
+  target_refused hash (hashing.FileTooLong n) read =
+      let f = front told name left after read.came some is read.consumed in
+      let long = read.tells.1 in
+      let longer = f.longer in
+      (f.bytes, f.under, (omega arith, refl))
+
+  pub target_hashed : (hash : HashOp) (d : List ℕ) → HashesSource hash (2 ^ 40) left after (Ok d) → ReadsInput told name (IsHashOf hash) RefusesTarget (Ok d)
+  target_hashed hash d read =
+      let f = front told name left after read.came some is read.consumed in
+      (f.bytes, f.under, rw (f.all read.tells.0) (read.tells.1, read.tells.2))
+
+-- an error that `?` made of a refusal
+pub error_is : {A : Type 0} (told : Option Names) (name : List ℕ) (Gives : List ℕ → A → Type 0) (Refuses : List ℕ → Status → Type 0) (r : Result A InputError) (e : InputError)
+    → IsErrAnd r (λ x. x ≡ e) → IsRefusal told name Refuses e → ReadsInput told name Gives Refuses r
+error_is told name Gives Refuses (Ok x) e is why = absurd is
+error_is told name Gives Refuses (Err x) e is why = subst (IsRefusal told name Refuses) (sym is) why

@@ -4,33 +4,50 @@ use Rattle.std.specs.Io.KnownBytes.{Appends, Keeps}
 use Rattle.ots_io.specs.Shelf.{Names}
 use Rattle.ots_io.specs.Input.{AppendsFront}
 use Rattle.ots_tree.specs.declared.detached.Detached.{Detached}
-use Rattle.ots_reader.specs.declared.fault.Fault.{Fault}
+use Rattle.ots_ops.specs.declared.hash_op.HashOp.{HashOp}
 use Rattle.ots_detached.specs.File.{IsFileOf, file_of}
-use Rattle.ots_detached.specs.FileFault.{HasFault}
+use Rattle.ots_bitcoin.specs.HeaderTable.{Table}
+use Rattle.ots_bitcoin.specs.TableRead.{IsTableOf}
+use Rattle.ots_eval.specs.Confirmed.{IsVerdict}
+use Rattle.ots_eval.specs.declared.verdicts.Verdict.{Verdict}
 use Rattle.ots_cli.specs.declared.status.Status.{Status}
-use Rattle.ots_cli.specs.declared.status.Status.TheVariants.{Done, Usage, BadProof, NoFile, Exists, ReadFault, WriteFault, TooBig, Differs, OutOfMemory}
+use Rattle.ots_cli.specs.declared.status.Status.TheVariants.{Done, No, Usage, BadProof, NoFile, Exists, ReadFault, WriteFault, TooBig, BadHeaders, FileTooLong, Differs, OutOfMemory}
 use Rattle.ots_cli.specs.Ending.{Ending, File, refused, AddsFiles, IsBroken}
-use Rattle.ots_cli.specs.Found.{IsUnder, IsThere, HasUnder}
+use Rattle.ots_cli.specs.Found.{IsUnder, IsThere, HasUnder, IsHashOf, RefusesProof, RefusesTable, RefusesTarget}
 use Rattle.ots_cli.specs.Refusal.{refusal_text}
-use Rattle.ots_cli.specs.Text.{IsInfoText}
+use Rattle.ots_cli.specs.Text.{IsInfoText, verdict_status, verdict_text}
 use Rattle.ots_canon.specs.Join.{HaveOnePair, IsMergeOf}
 use Rattle.ots_cli.specs.Rewritten.{IsRewritten}
 use Rattle.ots_cli.specs.declared.rewriting.Rewriting.TheVariants.{Canon, Prune}
-use Rattle.ots_cli.specs.Words.{Command, info, canon, merge, prune}
+use Rattle.ots_cli.specs.Words.{Command, HeaderFile, Verification, info, canon, merge, prune, verify}
 
 -- ---- what a command comes to where nothing of the outside fails
 
--- The command ends for a name that is not there, or whose input is no proof file.
-pub data RefusesProof (told : Option Names) (name : List ℕ) (e : Ending) : Type 0 where
-  no_file : IsUnder told name None → e ≡ refused name NoFile → RefusesProof told name e
-  too_big : HasUnder told name (λ bytes. 4194304 < length bytes) → e ≡ refused name TooBig → RefusesProof told name e
-  bad_proof : (f : Fault) → HasUnder told name (λ bytes. (length bytes ≤ 4194304) × HasFault bytes f) → e ≡ refused name (BadProof f)
-      → RefusesProof told name e
+-- The command ends for a name that is not there, or whose input is refused.
+pub data RefusesInput (told : Option Names) (name : List ℕ) (Refuses : List ℕ → Status → Type 0) (e : Ending) : Type 0 where
+  no_file : IsUnder told name None → e ≡ refused name NoFile → RefusesInput told name Refuses e
+  refuses : (s : Status) → HasUnder told name (λ bytes. Refuses bytes s) → e ≡ refused name s → RefusesInput told name Refuses e
 
--- The input under a name is read: it is a proof file, and the command goes on with the proof; or it ends there.
-pub data WithProof (told : Option Names) (name : List ℕ) (goes_on : Detached → Ending → Type 0) (e : Ending) : Type 0 where
-  is_proof : (proof : Detached) → HasUnder told name (λ bytes. IsFileOf bytes proof) → goes_on proof e → WithProof told name goes_on e
-  is_refused : RefusesProof told name e → WithProof told name goes_on e
+-- The input under a name is read: the command goes on with what its bytes give; or it ends there.
+pub data WithInput {A : Type 0} (told : Option Names) (name : List ℕ) (Gives : List ℕ → A → Type 0) (Refuses : List ℕ → Status → Type 0)
+    (goes_on : A → Ending → Type 0) (e : Ending) : Type 0 where
+  is_given : (x : A) → HasUnder told name (λ bytes. Gives bytes x) → goes_on x e → WithInput told name Gives Refuses goes_on e
+  is_refused : RefusesInput told name Refuses e → WithInput told name Gives Refuses goes_on e
+
+-- a proof file, a file of headers, and a file that is hashed
+abbrev pub WithProof : Option Names → List ℕ → (Detached → Ending → Type 0) → Ending → Type 0
+WithProof told name = WithInput told name IsFileOf RefusesProof
+
+abbrev pub WithTable : Option Names → HeaderFile → (Table → Ending → Type 0) → Ending → Type 0
+WithTable told file = WithInput told file.name (IsTableOf file.first) RefusesTable
+
+abbrev pub WithTarget : Option Names → List ℕ → HashOp → (List ℕ → Ending → Type 0) → Ending → Type 0
+WithTarget told name hash = WithInput told name (IsHashOf hash) RefusesTarget
+
+-- the headers that may be given
+abbrev pub WithPerhapsTable : Option Names → Option HeaderFile → (Option Table → Ending → Type 0) → Ending → Type 0
+WithPerhapsTable told None goes_on e = goes_on None e
+WithPerhapsTable told (Some file) goes_on e = WithTable told file (λ table. goes_on (Some table)) e
 
 -- Its text is printed.
 pub record PrintsInfo (proof : Detached) (e : Ending) : Type 0 where
@@ -54,6 +71,25 @@ pub data Merges (told : Option Names) (name : List ℕ) (first second : Detached
   differ : (HaveOnePair first second → ⊥) → e ≡ refused [] (Differs first.hash first.digest second.hash second.digest) → Merges told name first second e
   joined : (r : Detached) → IsMergeOf first second r → Writes told name r e → Merges told name first second e
 
+-- The verdict is printed.
+abbrev pub PrintsVerdict : Detached → Table → Option Table → List ℕ → Ending → Type 0
+PrintsVerdict proof bitcoin litecoin digest e =
+    (v : Verdict) × IsVerdict proof digest bitcoin litecoin v × (e ≡ record { status = verdict_status v; text = verdict_text v; files = [] })
+
+-- The headers of Bitcoin are read, those of Litecoin where they are given, then the proof, and the target is hashed by
+-- the hash of the proof.
+abbrev pub VerifiesTarget : Option Names → List ℕ → Table → Option Table → Detached → Ending → Type 0
+VerifiesTarget told target bitcoin litecoin proof = WithTarget told target proof.hash (PrintsVerdict proof bitcoin litecoin)
+
+abbrev pub VerifiesProof : Option Names → Verification → Table → Option Table → Ending → Type 0
+VerifiesProof told v bitcoin litecoin = WithProof told v.proof (VerifiesTarget told v.target bitcoin litecoin)
+
+abbrev pub VerifiesBy : Option Names → Verification → Table → Ending → Type 0
+VerifiesBy told v bitcoin = WithPerhapsTable told v.litecoin (VerifiesProof told v bitcoin)
+
+abbrev pub Verifies : Option Names → Verification → Ending → Type 0
+Verifies told v = WithTable told v.bitcoin (VerifiesBy told v)
+
 -- Words of no command's form are refused.
 abbrev pub Answers : Option Names → Option Command → Ending → Type 0
 Answers told None e = e ≡ refused [] Usage
@@ -61,6 +97,12 @@ Answers told (Some (info proof)) e = WithProof told proof PrintsInfo e
 Answers told (Some (canon from to)) e = WithProof told from (λ p. WritesOf told to (IsRewritten Canon p)) e
 Answers told (Some (merge first second to)) e = WithProof told first (λ p. WithProof told second (Merges told to p)) e
 Answers told (Some (prune from to)) e = WithProof told from (λ p. WritesOf told to (IsRewritten Prune p)) e
+Answers told (Some (verify v)) e = Verifies told v e
+
+-- the name of headers that may be given
+abbrev pub IsNamed : Option HeaderFile → List ℕ → Type 0
+IsNamed None name = ⊥
+IsNamed (Some file) name = name ≡ file.name
 
 -- a name that a command reads
 abbrev pub IsReadBy : Option Command → List ℕ → Type 0
@@ -69,6 +111,7 @@ IsReadBy (Some (info proof)) name = name ≡ proof
 IsReadBy (Some (canon from to)) name = name ≡ from
 IsReadBy (Some (merge first second to)) name = (name ≡ first) ⊎ (name ≡ second)
 IsReadBy (Some (prune from to)) name = name ≡ from
+IsReadBy (Some (verify v)) name = (name ≡ v.bitcoin.name) ⊎ IsNamed v.litecoin name ⊎ (name ≡ v.proof) ⊎ (name ≡ v.target)
 
 -- ---- what it comes to where calls of the shelf may fail, before it is printed
 
@@ -111,9 +154,12 @@ UnlessFailed status ReadFault = Unit {0}
 UnlessFailed status WriteFault = Unit {0}
 UnlessFailed status OutOfMemory = Unit {0}
 UnlessFailed status Done = Done ≡ status
+UnlessFailed status No = No ≡ status
 UnlessFailed status Usage = Usage ≡ status
 UnlessFailed status (BadProof f) = BadProof f ≡ status
 UnlessFailed status NoFile = NoFile ≡ status
 UnlessFailed status Exists = Exists ≡ status
 UnlessFailed status TooBig = TooBig ≡ status
+UnlessFailed status (BadHeaders n) = BadHeaders n ≡ status
+UnlessFailed status FileTooLong = FileTooLong ≡ status
 UnlessFailed status (Differs h d k e) = Differs h d k e ≡ status

@@ -1,19 +1,25 @@
--- What is found under a name.
-use Rattle.std.specs.Prelude.{◌≡◌, ◌<◌, ◌≤◌, ℕ, List, length, Option, Some, None, Result, Ok, Err, IsSome}
+-- What is found under a name, and what reading it answers.
+use Rattle.std.specs.Prelude.{◌≡◌, ◌<◌, ◌≤◌, ◌⊎◌, ◌^◌, ℕ, List, length, Option, Some, None, Result, Ok, Err, IsSome}
 use Rattle.std.specs.FinMap as map
 use Rattle.ots_io.specs.Told.{IfTold}
 use Rattle.ots_io.specs.Shelf.{Names}
 use Rattle.ots_io.specs.declared.shelf.OpenError.{OpenError}
 use Rattle.ots_io.specs.declared.shelf.OpenError.TheVariants as opening
-use Rattle.ots_tree.specs.declared.detached.Detached.{Detached}
-use Rattle.ots_detached.specs.File.{IsFileOf}
+use Rattle.ots_ops.specs.Hashed.{hashed}
+use Rattle.ots_ops.specs.declared.hash_op.HashOp.{HashOp}
+use Rattle.ots_reader.specs.declared.fault.Fault.{Fault}
 use Rattle.ots_detached.specs.FileFault.{HasFault}
+use Rattle.ots_detached.specs.declared.hashing.HashError.{HashError}
+use Rattle.ots_detached.specs.declared.hashing.HashError.TheVariants as hashing
 use Rattle.ots_detached.specs.declared.reading.FileError.{FileError}
 use Rattle.ots_detached.specs.declared.reading.FileError.TheVariants as reading
+use Rattle.ots_bitcoin.specs.TableRead.{IsCut}
+use Rattle.ots_bitcoin.specs.declared.headers.HeadersError.{HeadersError}
+use Rattle.ots_bitcoin.specs.declared.headers.HeadersError.TheVariants as headers
 use Rattle.ots_cli.specs.declared.status.Status.{Status}
 use Rattle.ots_cli.specs.declared.status.Status.TheVariants as status
-use Rattle.ots_cli.specs.declared.proof.ProofError.{ProofError}
-use Rattle.ots_cli.specs.declared.proof.ProofError.TheVariants.{NoFile, ReadFault, TooBig, BadProof, OutOfMemory}
+use Rattle.ots_cli.specs.declared.input.InputError.{InputError}
+use Rattle.ots_cli.specs.declared.input.InputError.TheVariants.{NoFile, ReadFault, TooBig, BadProof, BadHeaders, FileTooLong, OutOfMemory}
 
 -- What is under the name: nothing, or these bytes, as the names say that the shelf tells. Of a shelf
 -- that tells none, as of real files, nothing is said.
@@ -27,30 +33,68 @@ IsThere told name = IfTold told (λ names. IsSome (map.get names name))
 abbrev pub HasUnder : Option Names → List ℕ → (List ℕ → Type 0) → Type 0
 HasUnder told name P = (bytes : List ℕ) × IsUnder told name (Some bytes) × P bytes
 
--- A proof that was read is what the name's input spells; each refusal is that of its input.
-abbrev pub ReadsProof : Option Names → List ℕ → Result Detached ProofError → Type 0
-ReadsProof told name (Ok proof) = HasUnder told name (λ bytes. IsFileOf bytes proof)
-ReadsProof told name (Err NoFile) = IsUnder told name None
-ReadsProof told name (Err TooBig) = HasUnder told name (λ bytes. 4194304 < length bytes)
-ReadsProof told name (Err (BadProof f)) = HasUnder told name (λ bytes. (length bytes ≤ 4194304) × HasFault bytes f)
-ReadsProof told name (Err ReadFault) = Unit {0}
-ReadsProof told name (Err OutOfMemory) = Unit {0}
+-- ---- what bytes give, and with which status they are refused
 
-abbrev pub refused_open : OpenError → ProofError
+-- no proof file
+pub data RefusesProof (bytes : List ℕ) (s : Status) : Type 0 where
+  too_big : 4194304 < length bytes → s ≡ status.TooBig → RefusesProof bytes s
+  bad_proof : (f : Fault) → length bytes ≤ 4194304 → HasFault bytes f → s ≡ status.BadProof f → RefusesProof bytes s
+
+-- No headers, by the number of bytes: none, or no multiple of 80, or more than 83,886,080, of which one past that is told.
+pub data RefusesTable (bytes : List ℕ) (s : Status) : Type 0 where
+  cut : IsCut (length bytes) → s ≡ status.BadHeaders (length bytes) → RefusesTable bytes s
+  too_many : 83886080 < length bytes → s ≡ status.BadHeaders 83886081 → RefusesTable bytes s
+
+-- the digest of a target, which has at most 2^40 bytes
+abbrev pub IsHashOf : HashOp → List ℕ → List ℕ → Type 0
+IsHashOf hash bytes digest = (length bytes ≤ 2 ^ 40) × (digest ≡ hashed hash bytes)
+
+abbrev pub RefusesTarget : List ℕ → Status → Type 0
+RefusesTarget bytes s = (2 ^ 40 < length bytes) × (s ≡ status.FileTooLong)
+
+-- ---- what reading answers
+
+-- why a name gave nothing
+abbrev pub IsRefusal : Option Names → List ℕ → (List ℕ → Status → Type 0) → InputError → Type 0
+IsRefusal told name Refuses NoFile = IsUnder told name None
+IsRefusal told name Refuses ReadFault = Unit {0}
+IsRefusal told name Refuses OutOfMemory = Unit {0}
+IsRefusal told name Refuses TooBig = HasUnder told name (λ bytes. Refuses bytes status.TooBig)
+IsRefusal told name Refuses (BadProof f) = HasUnder told name (λ bytes. Refuses bytes (status.BadProof f))
+IsRefusal told name Refuses (BadHeaders n) = HasUnder told name (λ bytes. Refuses bytes (status.BadHeaders n))
+IsRefusal told name Refuses FileTooLong = HasUnder told name (λ bytes. Refuses bytes status.FileTooLong)
+
+-- What was read is what the name's input gives; each refusal is that of its input.
+abbrev pub ReadsInput : {A : Type 0} → Option Names → List ℕ → (List ℕ → A → Type 0) → (List ℕ → Status → Type 0) → Result A InputError → Type 0
+ReadsInput told name Gives Refuses (Ok x) = HasUnder told name (λ bytes. Gives bytes x)
+ReadsInput told name Gives Refuses (Err e) = IsRefusal told name Refuses e
+
+abbrev pub refused_open : OpenError → InputError
 refused_open opening.NotThere = NoFile
 refused_open opening.Failed = ReadFault
 refused_open opening.OutOfMemory = OutOfMemory
 
-abbrev pub refused_read : FileError → ProofError
-refused_read reading.ReadFault = ReadFault
-refused_read reading.TooBig = TooBig
-refused_read (reading.BadProof f) = BadProof f
-refused_read reading.OutOfMemory = OutOfMemory
+abbrev pub refused_proof : FileError → InputError
+refused_proof reading.ReadFault = ReadFault
+refused_proof reading.TooBig = TooBig
+refused_proof (reading.BadProof f) = BadProof f
+refused_proof reading.OutOfMemory = OutOfMemory
 
--- the status of a name that gave no proof, but for want of memory
-abbrev pub status_of : ProofError → Option Status
+abbrev pub refused_headers : HeadersError → InputError
+refused_headers headers.ReadFault = ReadFault
+refused_headers (headers.BadHeaders n) = BadHeaders n
+refused_headers headers.OutOfMemory = OutOfMemory
+
+abbrev pub refused_target : HashError → InputError
+refused_target hashing.ReadFault = ReadFault
+refused_target (hashing.FileTooLong limit) = FileTooLong
+
+-- the status of a name that gave nothing, but for want of memory
+abbrev pub status_of : InputError → Option Status
 status_of NoFile = Some status.NoFile
 status_of ReadFault = Some status.ReadFault
 status_of TooBig = Some status.TooBig
 status_of (BadProof f) = Some (status.BadProof f)
+status_of (BadHeaders n) = Some (status.BadHeaders n)
+status_of FileTooLong = Some status.FileTooLong
 status_of OutOfMemory = None

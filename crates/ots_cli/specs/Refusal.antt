@@ -2,7 +2,7 @@
 use Rattle.std.specs.Prelude.{ℕ, List, [], ◌++◌, codes, decimal}
 use Rattle.ots_reader.specs.Printed.{printed}
 use Rattle.ots_cli.specs.declared.status.Status.{Status}
-use Rattle.ots_cli.specs.declared.status.Status.TheVariants.{Done, Usage, BadProof, NoFile, Exists, ReadFault, WriteFault, TooBig, Differs, OutOfMemory}
+use Rattle.ots_cli.specs.declared.status.Status.TheVariants.{Done, No, Usage, BadProof, NoFile, Exists, ReadFault, WriteFault, TooBig, BadHeaders, FileTooLong, Differs, OutOfMemory}
 use Rattle.hex.specs.Hex.{encode_lower}
 use Rattle.ots_ops.specs.declared.hash_op.HashOp.{HashOp}
 use Rattle.ots_cli.specs.Text.{hash_words, line}
@@ -22,8 +22,11 @@ refusal_text name NoFile = line (codes "no file " ++ name)
 refusal_text name Exists = line (codes "exists " ++ name)
 refusal_text name ReadFault = line (codes "read fault " ++ name)
 refusal_text name TooBig = line (codes "too big " ++ name)
+refusal_text name (BadHeaders n) = line (codes "bad headers " ++ decimal n)
+refusal_text name FileTooLong = line (codes "file too long " ++ name)
 refusal_text name (Differs first_hash first_digest second_hash second_digest) =
     line (codes "differs " ++ pair_words first_hash first_digest ++ codes " " ++ pair_words second_hash second_digest)
 refusal_text name Done = []
+refusal_text name No = []
 refusal_text name WriteFault = line (codes "write fault " ++ name)
 refusal_text name OutOfMemory = []

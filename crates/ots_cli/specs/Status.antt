@@ -1,10 +1,11 @@
 -- The numbers with which a program ends.
 use Rattle.std.specs.Prelude.{ℕ}
 use Rattle.ots_cli.specs.declared.status.Status.{Status}
-use Rattle.ots_cli.specs.declared.status.Status.TheVariants.{Done, Usage, BadProof, NoFile, Exists, ReadFault, WriteFault, TooBig, Differs, OutOfMemory}
+use Rattle.ots_cli.specs.declared.status.Status.TheVariants.{Done, No, Usage, BadProof, NoFile, Exists, ReadFault, WriteFault, TooBig, BadHeaders, FileTooLong, Differs, OutOfMemory}
 
 abbrev pub number : Status → ℕ
 number Done = 0
+number No = 1
 number Usage = 2
 number (BadProof fault) = 3
 number NoFile = 4
@@ -12,5 +13,7 @@ number Exists = 5
 number ReadFault = 6
 number WriteFault = 7
 number TooBig = 8
+number (BadHeaders length) = 9
+number FileTooLong = 12
 number (Differs first_hash first_digest second_hash second_digest) = 13
 number OutOfMemory = 20

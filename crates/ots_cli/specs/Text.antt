@@ -13,6 +13,11 @@ use Rattle.ots_tree.specs.Listed.{IsListed}
 use Rattle.ots_tree.specs.declared.token.Token.{Token}
 use Rattle.ots_tree.specs.declared.token.Token.TheVariants as token
 use Rattle.ots_tree.specs.declared.token.TokenAt.{TokenAt}
+use Rattle.ots_eval.specs.declared.verdicts.Chain.TheVariants as chain
+use Rattle.ots_eval.specs.declared.verdicts.Verdict.{Verdict}
+use Rattle.ots_eval.specs.declared.verdicts.Verdict.TheVariants.{Yes, NoDigest, NoPath}
+use Rattle.ots_cli.specs.declared.status.Status.{Status}
+use Rattle.ots_cli.specs.declared.status.Status.TheVariants.{Done, No}
 
 abbrev pub hash_words : HashOp → List ℕ
 hash_words hash.Sha1 = codes "sha1"
@@ -59,3 +64,15 @@ file_line h digest = line (codes "file " ++ hash_words h ++ codes " " ++ encode_
 -- `info` prints the line of the file, and then a line for each item in preorder.
 abbrev pub IsInfoText : Detached → List ℕ → Type 0
 IsInfoText proof text = (items : List TokenAt) × IsListed proof.tree items × (text ≡ file_line proof.hash proof.digest ++ flat_map item_line items)
+
+-- the line of a verdict
+abbrev pub verdict_text : Verdict → List ℕ
+verdict_text (Yes chain.Bitcoin height time) = line (codes "yes block " ++ decimal height ++ codes " time " ++ decimal time)
+verdict_text (Yes chain.Litecoin height time) = line (codes "yes litecoin block " ++ decimal height ++ codes " time " ++ decimal time)
+verdict_text NoDigest = line (codes "no digest")
+verdict_text NoPath = line (codes "no path")
+
+abbrev pub verdict_status : Verdict → Status
+verdict_status (Yes chain height time) = Done
+verdict_status NoDigest = No
+verdict_status NoPath = No

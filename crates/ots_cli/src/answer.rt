@@ -2,14 +2,18 @@
 ghost use Rattle.std.specs.Prelude.{◌≡◌, ◌≤◌, ℕ, List, map, string_bytes, None, Some, IfOk};
 ghost use Rattle.ots_io.specs.Cause.{Rose};
 ghost use Rattle.ots_cli.specs.Answer.{Answers, ComesTo, IsReadBy, Leaves};
+ghost use Rattle.ots_cli.specs.Found.{status_of};
 ghost use Rattle.ots_cli.specs.Refusal.{refusal_text};
 ghost use Rattle.ots_cli.specs.Words.{command_of, read_as};
 
+use crate::command::Command;
 use crate::commands::{info, merge, rewrite};
+use crate::input::InputError;
 use crate::refusal::refusal_text;
 use crate::rewriting::Rewriting;
 use crate::status::Status;
-use crate::words::{Command, WordsError, read_words};
+use crate::verifying::verify;
+use crate::words::{WordsError, read_words};
 use ots_io::{OutOfMemory, Shelf};
 use std::alloc::Global;
 
@@ -57,6 +61,7 @@ fn carry_out<S: Shelf>(
         Command::Canon(from, to) => rewrite(alloc, Rewriting::Canon, from, to, shelf),
         Command::Merge(first, second, to) => merge(alloc, first, second, to, shelf),
         Command::Prune(from, to) => rewrite(alloc, Rewriting::Prune, from, to, shelf),
+        Command::Verify(verification) => verify(alloc, verification, shelf),
     }
 }
 
@@ -69,4 +74,20 @@ pub fn refusal(alloc: Global, name: &str, status: Status) -> Result<Answer, OutO
         status,
         text: refusal_text(alloc, name, status)?,
     })
+}
+
+/// The refusal of a name that gave no input.
+pub fn input_refusal(alloc: Global, name: &str, error: InputError) -> Result<Answer, OutOfMemory>
+    ensures status { IfOk result (λ a. Some a.status ≡ status_of error) }
+    ensures text { IfOk result (λ a. string_bytes a.text ≡ refusal_text name.now a.status) }
+{
+    match error {
+        InputError::NoFile => refusal(alloc, name, Status::NoFile),
+        InputError::ReadFault => refusal(alloc, name, Status::ReadFault),
+        InputError::TooBig => refusal(alloc, name, Status::TooBig),
+        InputError::BadProof(fault) => refusal(alloc, name, Status::BadProof(fault)),
+        InputError::BadHeaders(length) => refusal(alloc, name, Status::BadHeaders(length)),
+        InputError::FileTooLong => refusal(alloc, name, Status::FileTooLong),
+        InputError::OutOfMemory => Err(OutOfMemory),
+    }
 }

@@ -2,14 +2,12 @@
 ghost use Rattle.std.specs.Prelude.{◌≡◌, ◌≤◌, ◌⊎◌, ℕ, string_bytes, Some, IfOk};
 ghost use Rattle.ots_io.specs.Cause.{Rose};
 ghost use Rattle.ots_cli.specs.Answer.{ComesTo, Leaves, Merges, PrintsInfo, WithProof, Writes, WritesOf};
-ghost use Rattle.ots_cli.specs.Found.{status_of};
-ghost use Rattle.ots_cli.specs.Refusal.{refusal_text};
 ghost use Rattle.ots_cli.specs.Rewritten.{IsRewritten};
 ghost use Rattle.ots_cli.specs.declared.status.Status.TheVariants.{Differs};
 
-use crate::answer::{Answer, refusal};
+use crate::answer::{Answer, input_refusal, refusal};
+use crate::input::read_proof;
 use crate::output::{OutputError, write_proof};
-use crate::proof::{ProofError, read_proof};
 use crate::rewriting::{Rewriting, rewritten};
 use crate::status::Status;
 use crate::text::info_text;
@@ -31,7 +29,7 @@ pub fn info<S: Shelf>(alloc: Global, name: &str, shelf: &mut S) -> Result<Answer
             status: Status::Done,
             text: info_text(alloc, &proof)?,
         }),
-        Err(error) => proof_refusal(alloc, name, error),
+        Err(error) => input_refusal(alloc, name, error),
     }
 }
 
@@ -54,7 +52,7 @@ pub fn rewrite<S: Shelf>(
             let result = rewritten(alloc, way, &proof)?;
             write_result(alloc, to, &result, shelf)
         }
-        Err(error) => proof_refusal(alloc, from, error),
+        Err(error) => input_refusal(alloc, from, error),
     }
 }
 
@@ -74,7 +72,7 @@ pub fn merge<S: Shelf>(
 {
     match read_proof(alloc, first, shelf) {
         Ok(proof) => merge_with(alloc, &proof, second, to, shelf),
-        Err(error) => proof_refusal(alloc, first, error),
+        Err(error) => input_refusal(alloc, first, error),
     }
 }
 
@@ -94,7 +92,7 @@ fn merge_with<S: Shelf>(
 {
     match read_proof(alloc, second, shelf) {
         Ok(proof) => write_joined(alloc, first, &proof, to, shelf),
-        Err(error) => proof_refusal(alloc, second, error),
+        Err(error) => input_refusal(alloc, second, error),
     }
 }
 
@@ -153,19 +151,5 @@ fn write_result<S: Shelf>(
         Err(OutputError::Exists) => refusal(alloc, name, Status::Exists),
         Err(OutputError::WriteFault) => refusal(alloc, name, Status::WriteFault),
         Err(OutputError::OutOfMemory) => Err(OutOfMemory),
-    }
-}
-
-/// The refusal of a name that gave no proof.
-fn proof_refusal(alloc: Global, name: &str, error: ProofError) -> Result<Answer, OutOfMemory>
-    ensures status { IfOk result (λ a. Some a.status ≡ status_of error) }
-    ensures text { IfOk result (λ a. string_bytes a.text ≡ refusal_text name.now a.status) }
-{
-    match error {
-        ProofError::NoFile => refusal(alloc, name, Status::NoFile),
-        ProofError::ReadFault => refusal(alloc, name, Status::ReadFault),
-        ProofError::TooBig => refusal(alloc, name, Status::TooBig),
-        ProofError::BadProof(fault) => refusal(alloc, name, Status::BadProof(fault)),
-        ProofError::OutOfMemory => Err(OutOfMemory),
     }
 }

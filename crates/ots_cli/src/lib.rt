@@ -3,14 +3,17 @@
 #![tactic(auto)]
 
 mod answer;
+mod arguments;
+mod command;
 mod commands;
+mod input;
 mod output;
-mod proof;
 mod refusal;
 mod rewriting;
 mod run;
 mod status;
 mod text;
+mod verifying;
 mod words;
 
 pub use run::run_client;

@@ -23,13 +23,15 @@ pub fn refusal_text(alloc: Global, name: &str, status: Status) -> Result<String,
         Status::ReadFault => Ok(format!(in alloc; "read fault {name}\n")?),
         Status::WriteFault => Ok(format!(in alloc; "write fault {name}\n")?),
         Status::TooBig => Ok(format!(in alloc; "too big {name}\n")?),
+        Status::BadHeaders(length) => Ok(format!(in alloc; "bad headers {length}\n")?),
+        Status::FileTooLong => Ok(format!(in alloc; "file too long {name}\n")?),
         Status::Differs {
             first_hash,
             first_digest,
             second_hash,
             second_digest,
         } => differs_text(alloc, first_hash, first_digest, second_hash, second_digest),
-        Status::Done | Status::OutOfMemory => Ok(String::new(alloc)),
+        Status::Done | Status::No | Status::OutOfMemory => Ok(String::new(alloc)),
     }
 }
 

@@ -9,6 +9,9 @@ use ots_reader::Fault;
 pub enum Status {
     /// The command did its work.
     Done,
+    /// `verify`: no path of the proof takes the file's digest to the Merkle root of a block that it
+    /// attests, or the proof is of another digest.
+    No,
     /// The words are not of a command's form.
     Usage,
     /// The input is no proof file: where and why.
@@ -23,6 +26,11 @@ pub enum Status {
     WriteFault,
     /// A proof file has more than 4,194,304 bytes: an input, or the result.
     TooBig,
+    /// A file of headers has so many bytes: none, or no multiple of 80, or 83,886,081 where it has
+    /// more than 83,886,080.
+    BadHeaders(u64),
+    /// The file that a proof is about has more than 2^40 bytes.
+    FileTooLong,
     /// Two proofs are of different digests, or their digests are made by different hashes.
     Differs {
         /// The hash of the first proof.
@@ -45,6 +53,7 @@ impl Status {
     {
         match self {
             Status::Done => 0,
+            Status::No => 1,
             Status::Usage => 2,
             Status::BadProof(_) => 3,
             Status::NoFile => 4,
@@ -52,6 +61,8 @@ impl Status {
             Status::ReadFault => 6,
             Status::WriteFault => 7,
             Status::TooBig => 8,
+            Status::BadHeaders(_) => 9,
+            Status::FileTooLong => 12,
             Status::Differs { .. } => 13,
             Status::OutOfMemory => 20,
         }

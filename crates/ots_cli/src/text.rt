@@ -2,9 +2,12 @@
 ghost use Rattle.std.specs.Prelude.{◌≡◌, ◌++◌, string_bytes, IfOk, OnOk};
 ghost use Rattle.std.specs.List.{flat_map};
 ghost use Rattle.hex.specs.Hex.{encode_lower};
-ghost use Rattle.ots_cli.specs.Text.{hash_words, op_words, attestation_words, item_line, file_line, or_dash, IsInfoText};
+ghost use Rattle.ots_eval.specs.declared.verdicts.Verdict.TheVariants.{Yes};
+ghost use Rattle.ots_cli.specs.Text.{hash_words, op_words, attestation_words, item_line, file_line, or_dash, verdict_status, verdict_text, IsInfoText};
 
+use crate::status::Status;
 use ots_attest::Attestation;
+use ots_eval::{Chain, Verdict};
 use ots_io::OutOfMemory;
 use ots_ops::{Digest, HashOp, Op};
 use ots_tree::{Detached, Token, TokenAt, listed};
@@ -141,4 +144,39 @@ fn push_items(text: &mut String, items: &[TokenAt]) -> Result<(), OutOfMemory>
         push_item(text, item)?;
     }
     Ok(())
+}
+
+/// The line of a verdict.
+pub fn verdict_text(alloc: Global, verdict: Verdict) -> Result<String, OutOfMemory>
+    ensures { IfOk result (λ text. string_bytes text ≡ verdict_text verdict) }
+{
+    match verdict {
+        Verdict::Yes {
+            chain,
+            height,
+            time,
+        } => yes_text(alloc, chain, height, time),
+        Verdict::NoDigest => Ok(format!(in alloc; "no digest\n")?),
+        Verdict::NoPath => Ok(format!(in alloc; "no path\n")?),
+    }
+}
+
+/// The line of a yes.
+fn yes_text(alloc: Global, chain: Chain, height: u64, time: u32) -> Result<String, OutOfMemory>
+    ensures { IfOk result (λ text. string_bytes text ≡ verdict_text (Yes chain height time)) }
+{
+    match chain {
+        Chain::Bitcoin => Ok(format!(in alloc; "yes block {height} time {time}\n")?),
+        Chain::Litecoin => Ok(format!(in alloc; "yes litecoin block {height} time {time}\n")?),
+    }
+}
+
+/// The status of a verdict.
+pub fn verdict_status(verdict: Verdict) -> Status
+    ensures { result ≡ verdict_status verdict }
+{
+    match verdict {
+        Verdict::Yes { .. } => Status::Done,
+        Verdict::NoDigest | Verdict::NoPath => Status::No,
+    }
 }

@@ -1,26 +1,15 @@
 //! The words of the command line.
-ghost use Rattle.std.specs.Prelude.{◌≡◌, ◌≢◌, None, Some, true, map, string_bytes, IfErr, IfOk, MatchOption, MatchResult};
+ghost use Rattle.std.specs.Prelude.{◌≡◌, None, Some, map, string_bytes, MatchResult};
 ghost use Rattle.std.specs.Option.{option_map};
-ghost use Rattle.clap.specs.Words.{found_of, is_simple_and_free, matches_of, rows_of};
-ghost use Rattle.clap.specs.Walk.{texts};
-ghost use Rattle.ots_cli.specs.Words.{arguments_of, command_in, command_of, form_of, is_taken, name_in, nonempty, read_as, read_form, simple, word_of};
+ghost use Rattle.clap.specs.Words.{found_of, rows_of};
+ghost use Rattle.ots_cli.specs.Words.{arguments_of, command_in, command_of, described, form_of, read_as, read_form, read_verification, verification_in, word_of};
 
-use clap::error::ErrorKind;
-use clap::{Arg, ArgAction, ArgMatches};
+use crate::arguments::{
+    Argument, Kind, file_name, header_file, litecoin_file, read_arguments, value,
+};
+use crate::command::{Command, Verification};
+use clap::ArgMatches;
 use std::alloc::{AllocError, Global};
-
-/// What the words ask for.
-#[derive(Clone, Copy)]
-pub enum Command<'a> {
-    /// `info PROOF`: print what this proof says.
-    Info(&'a str),
-    /// `canon IN OUT`: write the canonical form of the proof under the first name as the second.
-    Canon(&'a str, &'a str),
-    /// `merge A B OUT`: join the proofs under the first two names, and write that as the third.
-    Merge(&'a str, &'a str, &'a str),
-    /// `prune IN OUT`: prune the proof under the first name, and write that as the second.
-    Prune(&'a str, &'a str),
-}
 
 /// The commands by their first words.
 #[derive(Clone, Copy)]
@@ -29,6 +18,7 @@ enum Form {
     Canon,
     Merge,
     Prune,
+    Verify,
 }
 
 /// Why words ask for nothing.
@@ -51,61 +41,43 @@ impl From<AllocError> for WordsError {
     }
 }
 
-/// What `clap` makes of the words for the command of this name, whose arguments are required and
-/// have one value each, in this order. The first word stands for the command.
-fn read_arguments<'a>(
-    alloc: Global,
-    name: &'a str,
-    ids: &'a [&'a str],
-    words: &'a [String],
-) -> Result<ArgMatches<'a>, WordsError>
-    requires { is_simple_and_free (simple name.now (texts ids.now)) ≡ true }
-    ensures taken { IfOk result (λ m. is_taken (simple name.entry.now (texts ids.entry.now)) (map string_bytes words.entry.now) ≡ true) }
-    ensures values { IfOk result (λ m. rows_of (found_of m) ≡ matches_of (simple name.entry.now (texts ids.entry.now)) (map string_bytes words.entry.now)) }
-    ensures refused { IfErr result (λ e. e ≡ WordsError.Usage → is_taken (simple name.entry.now (texts ids.entry.now)) (map string_bytes words.entry.now) ≢ true) }
+/// What `verify` is to check, by the values of its arguments.
+fn verification<'a>(matches: &ArgMatches<'a>) -> Option<Verification<'a>>
+    ensures { option_map read_verification result ≡ verification_in (rows_of (found_of matches.now)) }
 {
-    let mut command = clap::Command::new(alloc, name);
-    for id in ids {
-        let argument = Arg::new(alloc, id).required(true).action(ArgAction::Set);
-        command = command.arg(argument)?;
-    }
-    match command.try_get_matches_from(words) {
-        Ok(matches) => Ok(matches),
-        Err(error) => match error.kind() {
-            ErrorKind::OutOfMemory => Err(WordsError::OutOfMemory),
-            _ => Err(WordsError::Usage),
-        },
-    }
-}
-
-/// The name of a file that an argument gives, where it isn't empty.
-fn file_name<'a>(matches: &ArgMatches<'a>, id: &str) -> Option<&'a str>
-    ensures { option_map (λ s. s.now) result ≡ name_in (rows_of (found_of matches.now)) id.now }
-{
-    match matches.get_str(id) {
-        Some(name) => nonempty(name),
-        None => None,
-    }
-}
-
-/// A name that isn't empty.
-fn nonempty(name: &str) -> Option<&str>
-    ensures { option_map (λ s. s.now) result ≡ nonempty name.entry.now }
-{
-    if name.is_empty() {
-        return None;
-    }
-    Some(name)
+    Some(Verification {
+        target: file_name(matches, "file")?,
+        proof: file_name(matches, "proof")?,
+        bitcoin: header_file(value(matches, "headers")?, value(matches, "from")?)?,
+        litecoin: litecoin_file(value(matches, "litecoin"), value(matches, "litecoin-from"))?,
+    })
 }
 
 /// The arguments of `info`.
-static INFO: [&str; 1] = ["proof"];
+static INFO: [Argument; 1] = [Argument("proof", Kind::Positional)];
 
 /// The arguments of `canon` and `prune`.
-static REWRITING: [&str; 2] = ["in", "out"];
+static REWRITING: [Argument; 2] = [
+    Argument("in", Kind::Positional),
+    Argument("out", Kind::Positional),
+];
 
 /// The arguments of `merge`.
-static MERGE: [&str; 3] = ["a", "b", "out"];
+static MERGE: [Argument; 3] = [
+    Argument("a", Kind::Positional),
+    Argument("b", Kind::Positional),
+    Argument("out", Kind::Positional),
+];
+
+/// The arguments of `verify`.
+static VERIFY: [Argument; 6] = [
+    Argument("file", Kind::Positional),
+    Argument("proof", Kind::Positional),
+    Argument("headers", Kind::Positional),
+    Argument("from", Kind::Required),
+    Argument("litecoin", Kind::Optional),
+    Argument("litecoin-from", Kind::Optional),
+];
 
 impl Form {
     /// The command with this word.
@@ -117,6 +89,7 @@ impl Form {
             "canon" => Some(Form::Canon),
             "merge" => Some(Form::Merge),
             "prune" => Some(Form::Prune),
+            "verify" => Some(Form::Verify),
             _ => None,
         }
     }
@@ -130,17 +103,19 @@ impl Form {
             Form::Canon => "canon",
             Form::Merge => "merge",
             Form::Prune => "prune",
+            Form::Verify => "verify",
         }
     }
 
-    /// What its arguments are called.
-    fn arguments(self) -> &'static [&'static str]
-        ensures { texts result.now ≡ arguments_of self }
+    /// Its arguments.
+    fn arguments(self) -> &'static [Argument]
+        ensures { map described result.now ≡ arguments_of self }
     {
         match self {
             Form::Info => INFO.as_slice(),
             Form::Canon | Form::Prune => REWRITING.as_slice(),
             Form::Merge => MERGE.as_slice(),
+            Form::Verify => VERIFY.as_slice(),
         }
     }
 
@@ -163,6 +138,7 @@ impl Form {
                 file_name(matches, "in")?,
                 file_name(matches, "out")?,
             )),
+            Form::Verify => Some(Command::Verify(verification(matches)?)),
         }
     }
 }

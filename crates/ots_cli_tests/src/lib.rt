@@ -3,10 +3,14 @@
 #![tactic(auto)]
 
 #[cfg(test)]
+mod genesis;
+#[cfg(test)]
 mod info;
 #[cfg(test)]
 mod proofs;
 #[cfg(test)]
 mod runs;
+#[cfg(test)]
+mod verifying;
 #[cfg(test)]
 mod writing;

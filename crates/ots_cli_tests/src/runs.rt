@@ -35,7 +35,7 @@ pub struct Ended {
     pub out: BytesSink,
 }
 
-/// A run where the shelf holds these files, and has room for one more and two slots. The calls of
+/// A run where the shelf holds these files, and has room for one more and four slots. The calls of
 /// the shelf and the writes of the sink that are listed fail.
 pub fn run_on(
     alloc: Global,
@@ -52,7 +52,7 @@ pub fn run_on(
         names: files.len() + 1,
         name_length: 1,
         bytes: longest,
-        slots: 3,
+        slots: 4,
     };
     let mut shelf = MapShelf::new(alloc, room, failing)?;
     for (name, bytes) in files {

@@ -23,3 +23,6 @@ returns-in-Prune-clause-leaves g c = same_leaves _ _ _ _ (ap (λ z. Some (read_a
 
 pub returns-in-Prune-clause-comes : goal.returns-in-Prune-clause-comes
 returns-in-Prune-clause-comes g c = same_comes _ _ _ _ _ c.rewrite-in-Prune.result (ap (λ z. Some (read_as z)) c.in-Prune.is) c.rewrite-in-Prune.ensures.comes
+
+pub returns-in-Verify-clause-comes : goal.returns-in-Verify-clause-comes
+returns-in-Verify-clause-comes g c = same_comes _ _ _ _ _ c.verify.result (ap (λ z. Some (read_as z)) c.in-Verify.is) c.verify.ensures.comes

@@ -9,5 +9,5 @@ returns-in_ok-info_text-in-Ok-clause-comes g c =
 
 pub returns-in-Err-clause-comes : goal.returns-in-Err-clause-comes
 returns-in-Err-clause-comes g c =
-    refused_comes _ _ _ _ _ c.args.name.now c.in-Err.error c.proof_refusal.result refl (λ d h. is_refused h)
-    c.proof_refusal.ensures.status c.proof_refusal.ensures.text c.in-Err.ensures.answer (λ h. c.in-Err.ensures.cause.rose (search (rules, h))) c.in-Err.ensures.names
+    refused_comes _ _ _ _ _ _ c.args.name.now refl (λ d h. is_refused h) c.in-Err.ensures.names c.in-Err.error c.input_refusal.result
+    c.input_refusal.ensures.status c.input_refusal.ensures.text c.in-Err.ensures.answer (λ h. c.in-Err.ensures.cause.rose (search (rules, h)))

@@ -1,20 +1,20 @@
 use Rattle.std.proofs.Common.{refl, rules, inl, inr}
-use Rattle.ots_cli.specs.Answer.{Merges, WithProof, is_proof, is_refused}
+use Rattle.ots_cli.specs.Answer.{Merges, WithProof, is_given, is_refused}
 use Rattle.ots_cli.proofs.Endings.{later_comes, later_leaves, refused_comes, rose_later}
 use Rattle.ots_cli.proofs.commands.merge.Goals as goal
 
 pub returns-in-Ok-clause-leaves : goal.returns-in-Ok-clause-leaves
 returns-in-Ok-clause-leaves g c =
     later_leaves _ _ _ (λ z. WithProof z c.args.second.now (Merges z c.args.to.now c.in-Ok.proof)) _ c.in-Ok.ensures.names
-    (λ e h. is_proof c.in-Ok.proof c.in-Ok.ensures.answer h) c.merge_with.ensures.leaves
+    (λ e h. is_given c.in-Ok.proof c.in-Ok.ensures.answer h) c.merge_with.ensures.leaves
 
 pub returns-in-Ok-clause-comes : goal.returns-in-Ok-clause-comes
 returns-in-Ok-clause-comes g c =
     later_comes _ _ _ (λ z. WithProof z c.args.second.now (Merges z c.args.to.now c.in-Ok.proof)) _ _ _ _ _ c.merge_with.result c.in-Ok.ensures.names
-    (λ e h. is_proof c.in-Ok.proof c.in-Ok.ensures.answer h)
+    (λ e h. is_given c.in-Ok.proof c.in-Ok.ensures.answer h)
     (λ name read. inr read) (λ rose. rose_later _ _ _ c.in-Ok.ensures.cause.later rose) c.merge_with.ensures.comes
 
 pub returns-in-Err-clause-comes : goal.returns-in-Err-clause-comes
 returns-in-Err-clause-comes g c =
-    refused_comes _ _ _ _ _ c.args.first.now c.in-Err.error c.proof_refusal.result (inl refl) (λ d h. is_refused h)
-    c.proof_refusal.ensures.status c.proof_refusal.ensures.text c.in-Err.ensures.answer (λ h. c.in-Err.ensures.cause.rose (search (rules, h))) c.in-Err.ensures.names
+    refused_comes _ _ _ _ _ _ c.args.first.now (inl refl) (λ d h. is_refused h) c.in-Err.ensures.names c.in-Err.error c.input_refusal.result
+    c.input_refusal.ensures.status c.input_refusal.ensures.text c.in-Err.ensures.answer (λ h. c.in-Err.ensures.cause.rose (search (rules, h)))

@@ -1,20 +1,20 @@
 use Rattle.std.proofs.Common.{refl, rules}
-use Rattle.ots_cli.specs.Answer.{Writes, is_proof, is_refused}
+use Rattle.ots_cli.specs.Answer.{Writes, is_given, is_refused}
 use Rattle.ots_cli.proofs.Endings.{later_comes, later_leaves, refused_comes, rose_later}
 use Rattle.ots_cli.proofs.commands.rewrite.Goals as goal
 
 pub returns-in_ok-result-in-Ok-clause-leaves : goal.returns-in_ok-result-in-Ok-clause-leaves
 returns-in_ok-result-in-Ok-clause-leaves g c =
     later_leaves _ _ _ (λ z. Writes z c.args.to.now c.in_ok-result-in-Ok.result) _ c.in-Ok.ensures.names
-    (λ e h. is_proof c.in-Ok.proof c.in-Ok.ensures.answer (c.in_ok-result-in-Ok.result, c.in_ok-result-in-Ok.ensures, h)) c.write_result.ensures.leaves
+    (λ e h. is_given c.in-Ok.proof c.in-Ok.ensures.answer (c.in_ok-result-in-Ok.result, c.in_ok-result-in-Ok.ensures, h)) c.write_result.ensures.leaves
 
 pub returns-in_ok-result-in-Ok-clause-comes : goal.returns-in_ok-result-in-Ok-clause-comes
 returns-in_ok-result-in-Ok-clause-comes g c =
     later_comes _ _ _ (λ z. Writes z c.args.to.now c.in_ok-result-in-Ok.result) _ _ _ _ _ c.write_result.result c.in-Ok.ensures.names
-    (λ e h. is_proof c.in-Ok.proof c.in-Ok.ensures.answer (c.in_ok-result-in-Ok.result, c.in_ok-result-in-Ok.ensures, h))
+    (λ e h. is_given c.in-Ok.proof c.in-Ok.ensures.answer (c.in_ok-result-in-Ok.result, c.in_ok-result-in-Ok.ensures, h))
     (λ name none. absurd none) (λ rose. rose_later _ _ _ c.in-Ok.ensures.cause.later rose) c.write_result.ensures.comes
 
 pub returns-in-Err-clause-comes : goal.returns-in-Err-clause-comes
 returns-in-Err-clause-comes g c =
-    refused_comes _ _ _ _ _ c.args.from.now c.in-Err.error c.proof_refusal.result refl (λ d h. is_refused h)
-    c.proof_refusal.ensures.status c.proof_refusal.ensures.text c.in-Err.ensures.answer (λ h. c.in-Err.ensures.cause.rose (search (rules, h))) c.in-Err.ensures.names
+    refused_comes _ _ _ _ _ _ c.args.from.now refl (λ d h. is_refused h) c.in-Err.ensures.names c.in-Err.error c.input_refusal.result
+    c.input_refusal.ensures.status c.input_refusal.ensures.text c.in-Err.ensures.answer (λ h. c.in-Err.ensures.cause.rose (search (rules, h)))

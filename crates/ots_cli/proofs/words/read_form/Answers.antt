@@ -1,7 +1,7 @@
 use Rattle.std.proofs.Common.{◌∙◌, ap, sym}
 use Rattle.std.specs.Prelude.{option_map}
 use Rattle.ots_cli.specs.Words.{read_as}
-use Rattle.ots_cli.proofs.Arguments.{are_simple, form_taken, form_refused}
+use Rattle.ots_cli.proofs.Parsed.{are_simple, form_taken, form_refused}
 use Rattle.ots_cli.proofs.words.read_form.Goals as goal
 
 pub read_arguments-requires : goal.read_arguments-requires

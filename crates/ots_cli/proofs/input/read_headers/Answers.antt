@@ -1,0 +1,8 @@
+use Rattle.ots_cli.specs.Found.{RefusesTable}
+use Rattle.ots_cli.proofs.Reading.{error_is, headers_refused}
+use Rattle.ots_cli.proofs.input.read_headers.Goals as goal
+
+pub returns-in_err-read-clause-answer : goal.returns-in_err-read-clause-answer
+returns-in_err-read-clause-answer g c =
+    error_is _ c.args.file.name.now _ RefusesTable c.from_residual-in_err-read.result _ c.from_residual-in_err-read.ensures.1
+    (headers_refused _ _ _ _ c.in_ok-slot.ensures.not_there (rw (c.new.ensures.shelf, c.new.ensures.slot) c.in_ok-slot.ensures.ok.left) c.args.file.first c.in_err-read.field-0.0 c.in_err-read.ensures.input)
