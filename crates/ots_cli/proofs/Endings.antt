@@ -13,9 +13,10 @@ use Rattle.ots_cli.specs.declared.input.InputError.{InputError}
 use Rattle.ots_cli.specs.declared.input.InputError.TheVariants as input
 use Rattle.ots_cli.specs.declared.status.Status.{Status}
 use Rattle.ots_cli.specs.declared.status.Status.TheVariants.{Done, Usage, BadProof, NoFile, Exists, ReadFault, WriteFault, TooBig, BadHeaders, FileTooLong, Differs}
-use Rattle.ots_cli.specs.Answer.{Answers, ComesTo, ends, reads_no_more, writes_no_more, Ends, prints, prints_a_front, IsReadBy, Leaves, no_file_made, all_made, some_made, Prints, PrintsInfo, RefusesInput, no_file, refuses, IsNamed, WithPerhapsTable, WithProof, WithTable, is_given, Writes, too_long, exists, is_made, Merges, differ}
+use Rattle.ots_cli.specs.Answer.{Answers, ComesTo, ends, reads_no_more, writes_no_more, Ends, prints, prints_a_front, Leaves, no_file_made, all_made, some_made, Prints, PrintsInfo, RefusesInput, no_file, refuses, WithPerhapsTable, WithProof, WithTable, is_given, Writes, too_long, exists, is_made, Merges, differ}
 use Rattle.ots_cli.specs.Ending.{Ending, File, refused, AddsFiles, IsBroken, not_created, not_whole}
 use Rattle.ots_cli.specs.Found.{HasUnder, IsRefusal, ReadsInput, RefusesProof, status_of}
+use Rattle.ots_cli.specs.Opened.{OpensFront, StopsAt, names_read}
 use Rattle.ots_cli.specs.Output.{Outputs}
 use Rattle.ots_cli.specs.Refusal.{refusal_text}
 use Rattle.ots_cli.specs.Rewritten.{IsTreeOf}
@@ -119,9 +120,6 @@ pub some_given : (told : Option Names) (o : Option HeaderFile) (file : HeaderFil
     → o ≡ Some file → WithTable told file (λ t. P (Some t)) e → WithPerhapsTable told o P e
 some_given told o file P e some h = subst (λ (z : Option HeaderFile). WithPerhapsTable told z P e) (sym some) h
 
-pub is_named : (o : Option HeaderFile) (file : HeaderFile) → o ≡ Some file → IsNamed o file.name
-is_named o file some = subst (λ (z : Option HeaderFile). IsNamed z file.name) (sym some) refl
-
 -- a refusal that is defined, where no file is made
 pub refusal_comes : (old new : Option Names) (A : Ending → Type 0) (R : List ℕ → Type 0) (rose : Type 0) (name : List ℕ) (s : Status) (r : Result Answer Short)
     → A (refused name s) → new ≡ old → IfOk r (λ a. a.status ≡ s) → IfOk r (λ a. string_bytes a.text ≡ refusal_text name s)
@@ -199,11 +197,14 @@ usage_comes old command R rose r none is printed =
 pub same_leaves : (old new : Option Names) (c d : Option Command) → c ≡ d → Leaves old new (Answers old d) → Leaves old new (Answers old c)
 same_leaves old new c d same h = subst (λ (z : Option Command). Leaves old new (Answers old z)) (sym same) h
 
-pub same_comes : (old new : Option Names) (c d : Option Command) (rose : Type 0) (r : Result Answer Short) → c ≡ d
-    → IfOk r (λ a. ComesTo old new (Answers old d) (IsReadBy d) rose a.status (string_bytes a.text))
-    → IfOk r (λ a. ComesTo old new (Answers old c) (IsReadBy c) rose a.status (string_bytes a.text))
-same_comes old new c d rose r same h =
-    subst (λ (z : Option Command). IfOk r (λ a. ComesTo old new (Answers old z) (IsReadBy z) rose a.status (string_bytes a.text))) (sym same) h
+pub same_comes : (old new : Option Names) (before after : Option (List (List ℕ))) (c d : Option Command) (rose : Type 0) (r : Result Answer Short) → c ≡ d
+    → IfOk r (λ a. ComesTo old new (Answers old d) (StopsAt (names_read d) before after) rose a.status (string_bytes a.text))
+    → IfOk r (λ a. ComesTo old new (Answers old c) (StopsAt (names_read c) before after) rose a.status (string_bytes a.text))
+same_comes old new before after c d rose r same h =
+    subst (λ (z : Option Command). IfOk r (λ a. ComesTo old new (Answers old z) (StopsAt (names_read z) before after) rose a.status (string_bytes a.text))) (sym same) h
+
+pub same_opened : (before after : Option (List (List ℕ))) (c d : Option Command) → c ≡ d → OpensFront (names_read d) before after → OpensFront (names_read c) before after
+same_opened before after c d same h = subst (λ (z : Option Command). OpensFront (names_read z) before after) (sym same) h
 
 -- ---- what is printed
 

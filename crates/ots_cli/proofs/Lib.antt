@@ -4,3 +4,4 @@ pub mod Parsed
 pub mod Endings
 pub mod Outputs
 pub mod Numbers
+pub mod Opened

@@ -99,32 +99,18 @@ Answers told (Some (merge first second to)) e = WithProof told first (λ p. With
 Answers told (Some (prune from to)) e = WithProof told from (λ p. WritesOf told to (IsRewritten Prune p)) e
 Answers told (Some (verify v)) e = Verifies told v e
 
--- the name of headers that may be given
-abbrev pub IsNamed : Option HeaderFile → List ℕ → Type 0
-IsNamed None name = ⊥
-IsNamed (Some file) name = name ≡ file.name
-
--- a name that a command reads
-abbrev pub IsReadBy : Option Command → List ℕ → Type 0
-IsReadBy None name = ⊥
-IsReadBy (Some (info proof)) name = name ≡ proof
-IsReadBy (Some (canon from to)) name = name ≡ from
-IsReadBy (Some (merge first second to)) name = (name ≡ first) ⊎ (name ≡ second)
-IsReadBy (Some (prune from to)) name = name ≡ from
-IsReadBy (Some (verify v)) name = (name ≡ v.bitcoin.name) ⊎ IsNamed v.litecoin name ⊎ (name ≡ v.proof) ⊎ (name ≡ v.target)
-
 -- ---- what it comes to where calls of the shelf may fail, before it is printed
 
--- `answers` says how it ends where nothing fails, and `reads` of a name that it is read.
-pub data ComesTo (old new : Option Names) (answers : Ending → Type 0) (reads : List ℕ → Type 0) (rose : Type 0) (status : Status) (text : List ℕ) : Type 0 where
+-- `answers` says how it ends where nothing fails, and `stops_at` of a name that reading stopped there.
+pub data ComesTo (old new : Option Names) (answers : Ending → Type 0) (stops_at : List ℕ → Type 0) (rose : Type 0) (status : Status) (text : List ℕ) : Type 0 where
   -- it ends as it is defined
-  ends : (e : Ending) → answers e → status ≡ e.status → text ≡ e.text → AddsFiles e.files old new → ComesTo old new answers reads rose status text
+  ends : (e : Ending) → answers e → status ≡ e.status → text ≡ e.text → AddsFiles e.files old new → ComesTo old new answers stops_at rose status text
   -- a read failed, and no file is made
-  reads_no_more : (name : List ℕ) → reads name → rose → status ≡ ReadFault → text ≡ refusal_text name ReadFault → new ≡ old
-      → ComesTo old new answers reads rose status text
+  reads_no_more : (name : List ℕ) → stops_at name → rose → status ≡ ReadFault → text ≡ refusal_text name ReadFault → new ≡ old
+      → ComesTo old new answers stops_at rose status text
   -- a file was to be made, which is not whole
   writes_no_more : (e : Ending) (name : List ℕ) (made : List File) → answers e → IsBroken name e.files made → rose → status ≡ WriteFault
-      → text ≡ refusal_text name WriteFault → AddsFiles made old new → ComesTo old new answers reads rose status text
+      → text ≡ refusal_text name WriteFault → AddsFiles made old new → ComesTo old new answers stops_at rose status text
 
 -- However it ends, no name changes but for the files that it is to make, and these in order.
 pub data Leaves (old new : Option Names) (answers : Ending → Type 0) : Type 0 where

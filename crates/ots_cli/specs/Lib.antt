@@ -1,5 +1,6 @@
 pub mod Status
 pub mod Words
+pub mod Opened
 pub mod Text
 pub mod Found
 pub mod Refusal

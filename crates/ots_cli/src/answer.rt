@@ -1,7 +1,8 @@
 //! What a command answers and prints.
 ghost use Rattle.std.specs.Prelude.{◌≡◌, ◌≤◌, ℕ, List, map, string_bytes, None, Some, IfOk};
 ghost use Rattle.ots_io.specs.Cause.{Rose};
-ghost use Rattle.ots_cli.specs.Answer.{Answers, ComesTo, IsReadBy, Leaves};
+ghost use Rattle.ots_cli.specs.Answer.{Answers, ComesTo, Leaves};
+ghost use Rattle.ots_cli.specs.Opened.{OpensFront, StopsAt, names_read};
 ghost use Rattle.ots_cli.specs.Found.{status_of};
 ghost use Rattle.ots_cli.specs.Refusal.{refusal_text};
 ghost use Rattle.ots_cli.specs.Words.{command_of, read_as};
@@ -32,10 +33,12 @@ pub fn answer_to<S: Shelf>(
     shelf: &mut S,
 ) -> Result<Answer, OutOfMemory>
     ensures leaves { Leaves (S.told shelf.old).names (S.told shelf.new).names (Answers (S.told shelf.old).names (command_of (map string_bytes words.now))) }
+    ensures opened { OpensFront (names_read (command_of (map string_bytes words.now))) (S.told shelf.old).opened (S.told shelf.new).opened }
+    ensures short { IfOk result (λ _. (S.told shelf.new).short ≡ (S.told shelf.old).short) }
     ensures slots { (k : ℕ) → (S.told shelf.new).slots k ≡ (S.told shelf.old).slots k }
     ensures later { S.faults shelf.old ≤ S.faults shelf.new }
     ensures comes { IfOk result (λ a. ComesTo (S.told shelf.old).names (S.told shelf.new).names (Answers (S.told shelf.old).names (command_of (map string_bytes words.now)))
-        (IsReadBy (command_of (map string_bytes words.now))) (Rose (S.faults shelf.old) (S.faults shelf.new)) a.status (string_bytes a.text)) }
+        (StopsAt (names_read (command_of (map string_bytes words.now))) (S.told shelf.old).opened (S.told shelf.new).opened) (Rose (S.faults shelf.old) (S.faults shelf.new)) a.status (string_bytes a.text)) }
 {
     match read_words(alloc, words) {
         Ok(command) => carry_out(alloc, command, shelf),
@@ -51,10 +54,12 @@ fn carry_out<S: Shelf>(
     shelf: &mut S,
 ) -> Result<Answer, OutOfMemory>
     ensures leaves { Leaves (S.told shelf.old).names (S.told shelf.new).names (Answers (S.told shelf.old).names (Some (read_as command.entry))) }
+    ensures opened { OpensFront (names_read (Some (read_as command.entry))) (S.told shelf.old).opened (S.told shelf.new).opened }
+    ensures short { IfOk result (λ _. (S.told shelf.new).short ≡ (S.told shelf.old).short) }
     ensures slots { (k : ℕ) → (S.told shelf.new).slots k ≡ (S.told shelf.old).slots k }
     ensures later { S.faults shelf.old ≤ S.faults shelf.new }
     ensures comes { IfOk result (λ a. ComesTo (S.told shelf.old).names (S.told shelf.new).names (Answers (S.told shelf.old).names (Some (read_as command.entry)))
-        (IsReadBy (Some (read_as command.entry))) (Rose (S.faults shelf.old) (S.faults shelf.new)) a.status (string_bytes a.text)) }
+        (StopsAt (names_read (Some (read_as command.entry))) (S.told shelf.old).opened (S.told shelf.new).opened) (Rose (S.faults shelf.old) (S.faults shelf.new)) a.status (string_bytes a.text)) }
 {
     match command {
         Command::Info(proof) => info(alloc, proof, shelf),

@@ -1,7 +1,8 @@
 //! The commands.
-ghost use Rattle.std.specs.Prelude.{◌≡◌, ◌≤◌, ◌⊎◌, ℕ, string_bytes, Some, IfOk};
+ghost use Rattle.std.specs.Prelude.{◌≡◌, ◌≤◌, ℕ, [], ◌∷◌, string_bytes, Some, IfOk};
 ghost use Rattle.ots_io.specs.Cause.{Rose};
 ghost use Rattle.ots_cli.specs.Answer.{ComesTo, Leaves, Merges, PrintsInfo, WithProof, Writes, WritesOf};
+ghost use Rattle.ots_cli.specs.Opened.{OpensFront, StopsAt};
 ghost use Rattle.ots_cli.specs.Rewritten.{IsRewritten};
 ghost use Rattle.ots_cli.specs.declared.status.Status.TheVariants.{Differs};
 
@@ -19,10 +20,12 @@ use std::alloc::Global;
 /// `info`: the text of the proof, or why there is none.
 pub fn info<S: Shelf>(alloc: Global, name: &str, shelf: &mut S) -> Result<Answer, OutOfMemory>
     ensures names { (S.told shelf.new).names ≡ (S.told shelf.old).names }
+    ensures opened { OpensFront (name.now ∷ []) (S.told shelf.old).opened (S.told shelf.new).opened }
+    ensures short { IfOk result (λ _. (S.told shelf.new).short ≡ (S.told shelf.old).short) }
     ensures slots { (k : ℕ) → (S.told shelf.new).slots k ≡ (S.told shelf.old).slots k }
     ensures later { S.faults shelf.old ≤ S.faults shelf.new }
     ensures comes { IfOk result (λ a. ComesTo (S.told shelf.old).names (S.told shelf.new).names (WithProof (S.told shelf.old).names name.now PrintsInfo)
-        (λ read. read ≡ name.now) (Rose (S.faults shelf.old) (S.faults shelf.new)) a.status (string_bytes a.text)) }
+        (StopsAt (name.now ∷ []) (S.told shelf.old).opened (S.told shelf.new).opened) (Rose (S.faults shelf.old) (S.faults shelf.new)) a.status (string_bytes a.text)) }
 {
     match read_proof(alloc, name, shelf) {
         Ok(proof) => Ok(Answer {
@@ -42,10 +45,12 @@ pub fn rewrite<S: Shelf>(
     shelf: &mut S,
 ) -> Result<Answer, OutOfMemory>
     ensures leaves { Leaves (S.told shelf.old).names (S.told shelf.new).names (WithProof (S.told shelf.old).names from.now (λ p. WritesOf (S.told shelf.old).names to.now (IsRewritten way p))) }
+    ensures opened { OpensFront (from.now ∷ []) (S.told shelf.old).opened (S.told shelf.new).opened }
+    ensures short { IfOk result (λ _. (S.told shelf.new).short ≡ (S.told shelf.old).short) }
     ensures slots { (k : ℕ) → (S.told shelf.new).slots k ≡ (S.told shelf.old).slots k }
     ensures later { S.faults shelf.old ≤ S.faults shelf.new }
     ensures comes { IfOk result (λ a. ComesTo (S.told shelf.old).names (S.told shelf.new).names (WithProof (S.told shelf.old).names from.now (λ p. WritesOf (S.told shelf.old).names to.now (IsRewritten way p)))
-        (λ read. read ≡ from.now) (Rose (S.faults shelf.old) (S.faults shelf.new)) a.status (string_bytes a.text)) }
+        (StopsAt (from.now ∷ []) (S.told shelf.old).opened (S.told shelf.new).opened) (Rose (S.faults shelf.old) (S.faults shelf.new)) a.status (string_bytes a.text)) }
 {
     match read_proof(alloc, from, shelf) {
         Ok(proof) => {
@@ -65,10 +70,12 @@ pub fn merge<S: Shelf>(
     shelf: &mut S,
 ) -> Result<Answer, OutOfMemory>
     ensures leaves { Leaves (S.told shelf.old).names (S.told shelf.new).names (WithProof (S.told shelf.old).names first.now (λ p. WithProof (S.told shelf.old).names second.now (Merges (S.told shelf.old).names to.now p))) }
+    ensures opened { OpensFront (first.now ∷ second.now ∷ []) (S.told shelf.old).opened (S.told shelf.new).opened }
+    ensures short { IfOk result (λ _. (S.told shelf.new).short ≡ (S.told shelf.old).short) }
     ensures slots { (k : ℕ) → (S.told shelf.new).slots k ≡ (S.told shelf.old).slots k }
     ensures later { S.faults shelf.old ≤ S.faults shelf.new }
     ensures comes { IfOk result (λ a. ComesTo (S.told shelf.old).names (S.told shelf.new).names (WithProof (S.told shelf.old).names first.now (λ p. WithProof (S.told shelf.old).names second.now (Merges (S.told shelf.old).names to.now p)))
-        (λ read. (read ≡ first.now) ⊎ (read ≡ second.now)) (Rose (S.faults shelf.old) (S.faults shelf.new)) a.status (string_bytes a.text)) }
+        (StopsAt (first.now ∷ second.now ∷ []) (S.told shelf.old).opened (S.told shelf.new).opened) (Rose (S.faults shelf.old) (S.faults shelf.new)) a.status (string_bytes a.text)) }
 {
     match read_proof(alloc, first, shelf) {
         Ok(proof) => merge_with(alloc, &proof, second, to, shelf),
@@ -85,10 +92,12 @@ fn merge_with<S: Shelf>(
     shelf: &mut S,
 ) -> Result<Answer, OutOfMemory>
     ensures leaves { Leaves (S.told shelf.old).names (S.told shelf.new).names (WithProof (S.told shelf.old).names second.now (Merges (S.told shelf.old).names to.now first.now)) }
+    ensures opened { OpensFront (second.now ∷ []) (S.told shelf.old).opened (S.told shelf.new).opened }
+    ensures short { IfOk result (λ _. (S.told shelf.new).short ≡ (S.told shelf.old).short) }
     ensures slots { (k : ℕ) → (S.told shelf.new).slots k ≡ (S.told shelf.old).slots k }
     ensures later { S.faults shelf.old ≤ S.faults shelf.new }
     ensures comes { IfOk result (λ a. ComesTo (S.told shelf.old).names (S.told shelf.new).names (WithProof (S.told shelf.old).names second.now (Merges (S.told shelf.old).names to.now first.now))
-        (λ read. read ≡ second.now) (Rose (S.faults shelf.old) (S.faults shelf.new)) a.status (string_bytes a.text)) }
+        (StopsAt (second.now ∷ []) (S.told shelf.old).opened (S.told shelf.new).opened) (Rose (S.faults shelf.old) (S.faults shelf.new)) a.status (string_bytes a.text)) }
 {
     match read_proof(alloc, second, shelf) {
         Ok(proof) => write_joined(alloc, first, &proof, to, shelf),
@@ -105,6 +114,8 @@ fn write_joined<S: Shelf>(
     shelf: &mut S,
 ) -> Result<Answer, OutOfMemory>
     ensures leaves { Leaves (S.told shelf.old).names (S.told shelf.new).names (Merges (S.told shelf.old).names to.now first.now second.now) }
+    ensures opened { (S.told shelf.new).opened ≡ (S.told shelf.old).opened }
+    ensures short { IfOk result (λ _. (S.told shelf.new).short ≡ (S.told shelf.old).short) }
     ensures slots { (k : ℕ) → (S.told shelf.new).slots k ≡ (S.told shelf.old).slots k }
     ensures later { S.faults shelf.old ≤ S.faults shelf.new }
     ensures comes { IfOk result (λ a. ComesTo (S.told shelf.old).names (S.told shelf.new).names (Merges (S.told shelf.old).names to.now first.now second.now)
@@ -137,6 +148,8 @@ fn write_result<S: Shelf>(
     shelf: &mut S,
 ) -> Result<Answer, OutOfMemory>
     ensures leaves { Leaves (S.told shelf.old).names (S.told shelf.new).names (Writes (S.told shelf.old).names name.now proof.now) }
+    ensures opened { (S.told shelf.new).opened ≡ (S.told shelf.old).opened }
+    ensures short { IfOk result (λ _. (S.told shelf.new).short ≡ (S.told shelf.old).short) }
     ensures slots { (k : ℕ) → (S.told shelf.new).slots k ≡ (S.told shelf.old).slots k }
     ensures later { S.faults shelf.old ≤ S.faults shelf.new }
     ensures comes { IfOk result (λ a. ComesTo (S.told shelf.old).names (S.told shelf.new).names (Writes (S.told shelf.old).names name.now proof.now)

@@ -3,6 +3,7 @@ ghost use Rattle.std.specs.Prelude.{◌≡◌, ◌≤◌, ◌-◌, ◌^◌, ℕ,
 ghost use Rattle.ots_io.specs.Cause.{HasCauseWhere};
 ghost use Rattle.ots_detached.specs.File.{IsFileOf};
 ghost use Rattle.ots_bitcoin.specs.TableRead.{IsTableOf};
+ghost use Rattle.ots_cli.specs.Opened.{OpensName};
 ghost use Rattle.ots_cli.specs.Found.{IsHashOf, ReadsInput, RefusesProof, RefusesTable, RefusesTarget, refused_headers, refused_open, refused_proof, refused_target};
 
 use crate::command::HeaderFile;
@@ -91,6 +92,8 @@ pub fn read_proof<S: Shelf>(
     shelf: &mut S,
 ) -> Result<Detached, InputError>
     ensures names { (S.told shelf.new).names ≡ (S.told shelf.old).names }
+    ensures opened { OpensName name.now (S.told shelf.old).opened (S.told shelf.new).opened result }
+    ensures short { ¬ IsErrOf result InputError.OutOfMemory → (S.told shelf.new).short ≡ (S.told shelf.old).short }
     ensures slots { (k : ℕ) → (S.told shelf.new).slots k ≡ (S.told shelf.old).slots k }
     ensures answer { ReadsInput (S.told shelf.old).names name.now IsFileOf RefusesProof result }
     ensures cause { HasCauseWhere (IsErrOf result InputError.ReadFault) (S.faults shelf.old) (S.faults shelf.new) }
@@ -109,6 +112,8 @@ pub fn read_headers<S: Shelf>(
 ) -> Result<Headers, InputError>
     requires { file.first ≤ 2 ^ 63 - 1 }
     ensures names { (S.told shelf.new).names ≡ (S.told shelf.old).names }
+    ensures opened { OpensName file.entry.name.now (S.told shelf.old).opened (S.told shelf.new).opened result }
+    ensures short { ¬ IsErrOf result InputError.OutOfMemory → (S.told shelf.new).short ≡ (S.told shelf.old).short }
     ensures slots { (k : ℕ) → (S.told shelf.new).slots k ≡ (S.told shelf.old).slots k }
     ensures answer { ReadsInput (S.told shelf.old).names file.entry.name.now (IsTableOf file.entry.first) RefusesTable result }
     ensures cause { HasCauseWhere (IsErrOf result InputError.ReadFault) (S.faults shelf.old) (S.faults shelf.new) }
@@ -123,6 +128,8 @@ pub fn read_headers<S: Shelf>(
 /// stays.
 pub fn hash_target<S: Shelf>(name: &str, hash: HashOp, shelf: &mut S) -> Result<Digest, InputError>
     ensures names { (S.told shelf.new).names ≡ (S.told shelf.old).names }
+    ensures opened { OpensName name.now (S.told shelf.old).opened (S.told shelf.new).opened result }
+    ensures short { ¬ IsErrOf result InputError.OutOfMemory → (S.told shelf.new).short ≡ (S.told shelf.old).short }
     ensures slots { (k : ℕ) → (S.told shelf.new).slots k ≡ (S.told shelf.old).slots k }
     ensures answer { ReadsInput (S.told shelf.old).names name.now (IsHashOf hash) RefusesTarget result }
     ensures cause { HasCauseWhere (IsErrOf result InputError.ReadFault) (S.faults shelf.old) (S.faults shelf.new) }

@@ -41,6 +41,8 @@ impl From<CreateError> for OutputError {
 /// slots stays.
 pub fn write_proof<S: Shelf>(name: &str, proof: &Detached, shelf: &mut S) -> Result<(), OutputError>
     ensures names { Outputs name.now (file_of proof.now) (S.told shelf.old).names (S.told shelf.new).names result }
+    ensures opened { (S.told shelf.new).opened ≡ (S.told shelf.old).opened }
+    ensures short { ¬ IsErrOf result OutputError.OutOfMemory → (S.told shelf.new).short ≡ (S.told shelf.old).short }
     ensures slots { (k : ℕ) → (S.told shelf.new).slots k ≡ (S.told shelf.old).slots k }
     ensures cause { HasCauseWhere (IsErrOf result OutputError.WriteFault) (S.faults shelf.old) (S.faults shelf.new) }
 {

@@ -1,8 +1,9 @@
 //! The top call.
-ghost use Rattle.std.specs.Prelude.{◌≡◌, ◌≤◌, ℕ, map, string_bytes, IsSome};
+ghost use Rattle.std.specs.Prelude.{◌≡◌, ◌≢◌, ◌≤◌, ℕ, map, string_bytes, IsSome};
 ghost use Rattle.ots_io.specs.Cause.{Rose};
-ghost use Rattle.ots_cli.specs.Answer.{Answers, ComesTo, Ends, IsReadBy, Leaves, Prints, UnlessFailed};
+ghost use Rattle.ots_cli.specs.Answer.{Answers, ComesTo, Ends, Leaves, Prints, UnlessFailed};
 ghost use Rattle.ots_cli.specs.Ending.{Ending};
+ghost use Rattle.ots_cli.specs.Opened.{OpensFront, StopsAt, names_read};
 ghost use Rattle.ots_cli.specs.Words.{command_of};
 
 use crate::answer::{Answer, answer_to};
@@ -21,6 +22,8 @@ pub fn run_client<S: Shelf, K: Sink, D: Dialer, N: Nonces>(
     nonces: &mut N,
 ) -> Status
     ensures leaves { Leaves (S.told shelf.old).names (S.told shelf.new).names (Answers (S.told shelf.old).names (command_of (map string_bytes words.now))) }
+    ensures opened { OpensFront (names_read (command_of (map string_bytes words.now))) (S.told shelf.old).opened (S.told shelf.new).opened }
+    ensures short { result ≢ Status.OutOfMemory → (S.told shelf.new).short ≡ (S.told shelf.old).short }
     ensures slots { (k : ℕ) → (S.told shelf.new).slots k ≡ (S.told shelf.old).slots k }
     ensures faults { S.faults shelf.old ≤ S.faults shelf.new }
     ensures out_faults { K.faults out.old ≤ K.faults out.new }
@@ -28,7 +31,7 @@ pub fn run_client<S: Shelf, K: Sink, D: Dialer, N: Nonces>(
     ensures dialer { dialer.new ≡ dialer.old }
     ensures nonces { nonces.new ≡ nonces.old }
     ensures ends { Ends (ComesTo (S.told shelf.old).names (S.told shelf.new).names (Answers (S.told shelf.old).names (command_of (map string_bytes words.now)))
-        (IsReadBy (command_of (map string_bytes words.now))) (Rose (S.faults shelf.old) (S.faults shelf.new)))
+        (StopsAt (names_read (command_of (map string_bytes words.now))) (S.told shelf.old).opened (S.told shelf.new).opened) (Rose (S.faults shelf.old) (S.faults shelf.new)))
         (Rose (K.faults out.old) (K.faults out.new)) (K.taken out.old) (K.taken out.new) result }
     ensures exact { (e : Ending) → IsSome (S.told shelf.old).names
         → Answers (S.told shelf.old).names (command_of (map string_bytes words.now)) e → UnlessFailed e.status result }

@@ -1,9 +1,10 @@
 //! `verify`.
-ghost use Rattle.std.specs.Prelude.{◌≡◌, ◌≤◌, ◌⊎◌, ℕ, [], string_bytes, Some, IfOk};
+ghost use Rattle.std.specs.Prelude.{◌≡◌, ◌≤◌, ◌++◌, ℕ, [], ◌∷◌, string_bytes, Some, IfOk};
 ghost use Rattle.std.specs.Option.{option_copied};
 ghost use Rattle.ots_io.specs.Cause.{Rose};
-ghost use Rattle.ots_cli.specs.Answer.{ComesTo, IsNamed, IsReadBy, PrintsVerdict, Verifies, VerifiesBy, VerifiesProof, VerifiesTarget};
-ghost use Rattle.ots_cli.specs.Words.{read_header_file, read_verification, verify};
+ghost use Rattle.ots_cli.specs.Answer.{ComesTo, PrintsVerdict, Verifies, VerifiesBy, VerifiesProof, VerifiesTarget};
+ghost use Rattle.ots_cli.specs.Opened.{OpensFront, StopsAt, names_of, names_read};
+ghost use Rattle.ots_cli.specs.Words.{read_verification, verify};
 
 use crate::answer::{Answer, input_refusal};
 use crate::command::{HeaderFile, Verification};
@@ -23,10 +24,12 @@ pub fn verify<S: Shelf>(
     shelf: &mut S,
 ) -> Result<Answer, OutOfMemory>
     ensures names { (S.told shelf.new).names ≡ (S.told shelf.old).names }
+    ensures opened { OpensFront (names_read (Some (verify (read_verification verification.entry)))) (S.told shelf.old).opened (S.told shelf.new).opened }
+    ensures short { IfOk result (λ _. (S.told shelf.new).short ≡ (S.told shelf.old).short) }
     ensures slots { (k : ℕ) → (S.told shelf.new).slots k ≡ (S.told shelf.old).slots k }
     ensures later { S.faults shelf.old ≤ S.faults shelf.new }
     ensures comes { IfOk result (λ a. ComesTo (S.told shelf.old).names (S.told shelf.new).names (Verifies (S.told shelf.old).names (read_verification verification.entry))
-        (IsReadBy (Some (verify (read_verification verification.entry)))) (Rose (S.faults shelf.old) (S.faults shelf.new)) a.status (string_bytes a.text)) }
+        (StopsAt (names_read (Some (verify (read_verification verification.entry)))) (S.told shelf.old).opened (S.told shelf.new).opened) (Rose (S.faults shelf.old) (S.faults shelf.new)) a.status (string_bytes a.text)) }
 {
     match read_headers(alloc, verification.bitcoin, shelf) {
         Ok(bitcoin) => verify_by(alloc, verification, &bitcoin, shelf),
@@ -42,10 +45,12 @@ fn verify_by<S: Shelf>(
     shelf: &mut S,
 ) -> Result<Answer, OutOfMemory>
     ensures names { (S.told shelf.new).names ≡ (S.told shelf.old).names }
+    ensures opened { OpensFront (names_of (read_verification verification.entry).litecoin ++ verification.entry.proof.now ∷ verification.entry.target.now ∷ []) (S.told shelf.old).opened (S.told shelf.new).opened }
+    ensures short { IfOk result (λ _. (S.told shelf.new).short ≡ (S.told shelf.old).short) }
     ensures slots { (k : ℕ) → (S.told shelf.new).slots k ≡ (S.told shelf.old).slots k }
     ensures later { S.faults shelf.old ≤ S.faults shelf.new }
     ensures comes { IfOk result (λ a. ComesTo (S.told shelf.old).names (S.told shelf.new).names (VerifiesBy (S.told shelf.old).names (read_verification verification.entry) bitcoin.now)
-        (λ name. IsNamed (read_verification verification.entry).litecoin name ⊎ (name ≡ verification.entry.proof.now) ⊎ (name ≡ verification.entry.target.now))
+        (StopsAt (names_of (read_verification verification.entry).litecoin ++ verification.entry.proof.now ∷ verification.entry.target.now ∷ []) (S.told shelf.old).opened (S.told shelf.new).opened)
         (Rose (S.faults shelf.old) (S.faults shelf.new)) a.status (string_bytes a.text)) }
 {
     let Some(file) = verification.litecoin else {
@@ -66,10 +71,12 @@ fn verify_proof<S: Shelf>(
     shelf: &mut S,
 ) -> Result<Answer, OutOfMemory>
     ensures names { (S.told shelf.new).names ≡ (S.told shelf.old).names }
+    ensures opened { OpensFront (verification.entry.proof.now ∷ verification.entry.target.now ∷ []) (S.told shelf.old).opened (S.told shelf.new).opened }
+    ensures short { IfOk result (λ _. (S.told shelf.new).short ≡ (S.told shelf.old).short) }
     ensures slots { (k : ℕ) → (S.told shelf.new).slots k ≡ (S.told shelf.old).slots k }
     ensures later { S.faults shelf.old ≤ S.faults shelf.new }
     ensures comes { IfOk result (λ a. ComesTo (S.told shelf.old).names (S.told shelf.new).names (VerifiesProof (S.told shelf.old).names (read_verification verification.entry) bitcoin.now (option_copied litecoin.entry))
-        (λ name. (name ≡ verification.entry.proof.now) ⊎ (name ≡ verification.entry.target.now)) (Rose (S.faults shelf.old) (S.faults shelf.new)) a.status (string_bytes a.text)) }
+        (StopsAt (verification.entry.proof.now ∷ verification.entry.target.now ∷ []) (S.told shelf.old).opened (S.told shelf.new).opened) (Rose (S.faults shelf.old) (S.faults shelf.new)) a.status (string_bytes a.text)) }
 {
     match read_proof(alloc, verification.proof, shelf) {
         Ok(proof) => verify_target(alloc, verification.target, &proof, bitcoin, litecoin, shelf),
@@ -87,10 +94,12 @@ fn verify_target<S: Shelf>(
     shelf: &mut S,
 ) -> Result<Answer, OutOfMemory>
     ensures names { (S.told shelf.new).names ≡ (S.told shelf.old).names }
+    ensures opened { OpensFront (target.now ∷ []) (S.told shelf.old).opened (S.told shelf.new).opened }
+    ensures short { IfOk result (λ _. (S.told shelf.new).short ≡ (S.told shelf.old).short) }
     ensures slots { (k : ℕ) → (S.told shelf.new).slots k ≡ (S.told shelf.old).slots k }
     ensures later { S.faults shelf.old ≤ S.faults shelf.new }
     ensures comes { IfOk result (λ a. ComesTo (S.told shelf.old).names (S.told shelf.new).names (VerifiesTarget (S.told shelf.old).names target.now bitcoin.now (option_copied litecoin.entry) proof.now)
-        (λ name. name ≡ target.now) (Rose (S.faults shelf.old) (S.faults shelf.new)) a.status (string_bytes a.text)) }
+        (StopsAt (target.now ∷ []) (S.told shelf.old).opened (S.told shelf.new).opened) (Rose (S.faults shelf.old) (S.faults shelf.new)) a.status (string_bytes a.text)) }
 {
     match hash_target(target, proof.hash, shelf) {
         Ok(digest) => verdict_answer(alloc, proof, &digest, bitcoin, litecoin),

@@ -1,5 +1,6 @@
-use Rattle.std.proofs.Common.{refl, rules}
+use Rattle.std.proofs.Common.{rules}
 use Rattle.ots_cli.specs.Answer.{is_refused}
+use Rattle.ots_cli.proofs.Opened.{stops_here}
 use Rattle.ots_cli.proofs.Endings.{info_comes, refused_comes}
 use Rattle.ots_cli.proofs.commands.info.Goals as goal
 
@@ -9,5 +10,5 @@ returns-in_ok-info_text-in-Ok-clause-comes g c =
 
 pub returns-in-Err-clause-comes : goal.returns-in-Err-clause-comes
 returns-in-Err-clause-comes g c =
-    refused_comes _ _ _ _ _ _ c.args.name.now refl (λ d h. is_refused h) c.in-Err.ensures.names c.in-Err.error c.input_refusal.result
+    refused_comes _ _ _ _ _ _ c.args.name.now (stops_here _ _ _ _ c.in-Err.ensures.opened) (λ d h. is_refused h) c.in-Err.ensures.names c.in-Err.error c.input_refusal.result
     c.input_refusal.ensures.status c.input_refusal.ensures.text c.in-Err.ensures.answer (λ h. c.in-Err.ensures.cause.rose (search (rules, h)))

@@ -1,5 +1,6 @@
-use Rattle.std.proofs.Common.{refl, rules}
+use Rattle.std.proofs.Common.{rules, [], ◌∷◌}
 use Rattle.ots_cli.specs.Answer.{Merges, is_given, is_refused}
+use Rattle.ots_cli.proofs.Opened.{stops_here, then_opened, none_opened}
 use Rattle.ots_cli.proofs.Endings.{later_comes, later_leaves, refused_comes, rose_later}
 use Rattle.ots_cli.proofs.commands.merge_with.Goals as goal
 
@@ -16,5 +17,8 @@ returns-in-Ok-clause-comes g c =
 
 pub returns-in-Err-clause-comes : goal.returns-in-Err-clause-comes
 returns-in-Err-clause-comes g c =
-    refused_comes _ _ _ _ _ _ c.args.second.now refl (λ d h. is_refused h) c.in-Err.ensures.names c.in-Err.error c.input_refusal.result
+    refused_comes _ _ _ _ _ _ c.args.second.now (stops_here _ _ _ _ c.in-Err.ensures.opened) (λ d h. is_refused h) c.in-Err.ensures.names c.in-Err.error c.input_refusal.result
     c.input_refusal.ensures.status c.input_refusal.ensures.text c.in-Err.ensures.answer (λ h. c.in-Err.ensures.cause.rose (search (rules, h)))
+
+pub returns-in-Ok-clause-opened : goal.returns-in-Ok-clause-opened
+returns-in-Ok-clause-opened g c = then_opened _ [] _ _ _ c.in-Ok.ensures.opened (none_opened [] _ _ c.write_joined.ensures.opened)
