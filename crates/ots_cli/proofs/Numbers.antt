@@ -1,5 +1,5 @@
 -- Words that are the decimal text of a number.
-use Rattle.std.proofs.Common.{◌≡◌, ◌<◌, ◌^◌, ◌-◌, ◌≤◌, ◌&&◌, ℕ, Bool, true, false, List, Some, None, Result, Ok, Err, Option, bytes_eq, nat_lt, not, lt-ltb, ltb-true, refl, sym, ap, subst, ◌∙◌, arith}
+use Rattle.std.proofs.Common.{◌≡◌, ◌<◌, ◌^◌, ◌-◌, ◌≤◌, ◌&&◌, ℕ, Bool, true, false, List, Some, None, Result, Option, bytes_eq, nat_lt, not, lt-ltb, ltb-true, refl, sym, ap, ◌∙◌, arith}
 use Rattle.std.specs.Prelude.{decimal, if◌then◌else◌}
 use Rattle.std.specs.Result.{result_ok}
 use Rattle.std.specs.Str.Parse.{ParsesUnsigned, digits_value}

@@ -1,6 +1,5 @@
 -- Which names were opened, read after read.
-use Rattle.std.proofs.Common.{◌≡◌, ◌⊎◌, ℕ, zero, suc, List, [], ◌∷◌, ◌++◌, take, Option, Some, None, option_map, refl, sym, ap, subst, ◌∙◌, inl, inr, append-nil, append_assoc}
-use Rattle.std.specs.Prelude.{Result, Ok, Err}
+use Rattle.std.proofs.Common.{◌≡◌, ◌⊎◌, ℕ, suc, List, [], ◌∷◌, ◌++◌, take, Option, Some, None, option_map, refl, sym, ap, subst, ◌∙◌, inl, inr, append-nil, append_assoc}
 use Rattle.ots_cli.specs.Opened.{Opens, OpensFront, StopsAt, not_opened, opened_last, names_of}
 use Rattle.ots_cli.specs.Words.{HeaderFile}
 

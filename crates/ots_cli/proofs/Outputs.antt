@@ -1,5 +1,5 @@
 -- A name is created, written and closed.
-use Rattle.std.proofs.Common.{◌≡◌, ◌≤◌, ℕ, List, length, take, Option, Some, None, true≢false, refl, sym, subst, ◌∙◌, inl, inr}
+use Rattle.std.proofs.Common.{◌≡◌, ℕ, List, take, Option, Some, None, true≢false, refl, subst, ◌∙◌, inr}
 use Rattle.std.specs.Prelude.{◌⊎◌, IsNone}
 use Rattle.std.specs.FinMap as map
 use Rattle.std.specs.Io.KnownBytes.{Appends}
@@ -7,7 +7,7 @@ use Rattle.ots_io.specs.Input.{AppendsFront}
 use Rattle.ots_io.specs.Shelf.{Names, ShelfTold, Creates, SameButSlot, closed}
 use Rattle.ots_io.specs.Told.{IfTold}
 use Rattle.ots_io.specs.Written.{SameButSlotBytes, slot_bytes, with_name}
-use Rattle.ots_io.proofs.Names.{writes_name, writes_front}
+use Rattle.ots_io.proofs.Names.{writes_name}
 use Rattle.ots_cli.specs.Found.{IsUnder}
 
 is_none : (o : Option (List ℕ)) → IsNone o → o ≡ None

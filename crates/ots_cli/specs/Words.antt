@@ -1,7 +1,7 @@
 -- The form of the words, each seen as its bytes. The first word picks the command. Which words follow it is said by a
 -- simple command of the library clap, whose arguments have one value each; words that clap takes for something else, as
 -- a call for help, are of no form.
-use Rattle.std.specs.Prelude.{ℕ, ◌^◌, ◌&&◌, Bool, true, List, [], ◌∷◌, map, bytes_eq, nat_lt, codes, decimal, Option, Some, None, if◌then◌else◌}
+use Rattle.std.specs.Prelude.{ℕ, ◌^◌, ◌&&◌, Bool, true, List, [], ◌∷◌, bytes_eq, nat_lt, codes, decimal, Option, Some, None, if◌then◌else◌}
 use Rattle.std.specs.Str.Parse.{digits_value}
 use Rattle.std.specs.Option.{option_map, option_and_then}
 use Rattle.clap.specs.Walk.{Row, is_empty}

@@ -11,8 +11,14 @@ use crate::status::Status;
 use ots_io::{Dialer, Failed, Nonces, OutOfMemory, Shelf, Sink, write_all};
 use std::alloc::Global;
 
-/// Does what the words ask for, prints on the sink, and answers how it ended. No command of these
-/// asks a calendar or draws a nonce, so the dialer and the nonces stay as they are.
+/// Does what the words behind the program's name ask for, prints on the sink, and answers how it
+/// ended. [`Status`] says when each status comes; where several of them could, the first in the
+/// order of reading does. Each has one line, or the command's text, but want of memory and a sink
+/// that failed.
+///
+/// It opens the files that the command reads, in order, creates its output last, and changes no
+/// other name. No command of these asks a calendar or draws a nonce, so the dialer and the nonces
+/// stay as they are.
 pub fn run_client<S: Shelf, K: Sink, D: Dialer, N: Nonces>(
     alloc: Global,
     words: &[String],

@@ -1,4 +1,4 @@
-use Rattle.std.proofs.Common.{◌≡◌, ◌∙◌, ap, [], get_or, rules}
+use Rattle.std.proofs.Common.{◌∙◌, ap, rules}
 use Rattle.clap.specs.Words.{app_of, with_rule}
 use Rattle.ots_cli.proofs.Parsed.{none_added, one_added, all_added, values_are, taken_at, refused_at}
 use Rattle.ots_cli.proofs.arguments.read_arguments.Goals as goal

@@ -1,4 +1,4 @@
-use Rattle.std.proofs.Common.{rules, [], ◌∷◌}
+use Rattle.std.proofs.Common.{rules, []}
 use Rattle.ots_cli.specs.Answer.{Merges, is_given, is_refused}
 use Rattle.ots_cli.proofs.Opened.{stops_here, then_opened, none_opened}
 use Rattle.ots_cli.proofs.Endings.{later_comes, later_leaves, refused_comes, rose_later}

@@ -1,5 +1,5 @@
-use Rattle.std.proofs.Common.{refl, ap, ◌∙◌}
-use Rattle.ots_cli.specs.Answer.{Writes, differ, joined}
+use Rattle.std.proofs.Common.{refl}
+use Rattle.ots_cli.specs.Answer.{Writes, joined}
 use Rattle.ots_cli.proofs.Endings.{later_comes, later_leaves, differs_comes}
 use Rattle.ots_cli.proofs.commands.write_joined.Goals as goal
 

@@ -1,7 +1,7 @@
-use Rattle.std.proofs.Common.{◌≡◌, refl, ap, rules, Some, None, Option, option_map}
+use Rattle.std.proofs.Common.{refl, ap, rules, Some, None, option_map}
 use Rattle.ots_cli.specs.Answer.{is_given, is_refused, VerifiesProof}
 use Rattle.ots_cli.specs.Found.{RefusesTable}
-use Rattle.ots_cli.specs.Words.{HeaderFile, read_header_file, read_verification}
+use Rattle.ots_cli.specs.Words.{read_header_file, read_verification}
 use Rattle.ots_cli.proofs.Endings.{later_comes, refused_comes, rose_later, none_given, some_given}
 use Rattle.ots_cli.proofs.Opened as opened
 use Rattle.ots_cli.proofs.verifying.verify_by.Goals as goal
