@@ -1,5 +1,5 @@
 //! The verdict on a file.
-ghost use Rattle.std.specs.Prelude.{IfOk};
+ghost use Rattle.std.specs.Prelude.{◌≡◌, IfErr, IfOk};
 ghost use Rattle.std.specs.Option.{option_copied};
 ghost use Rattle.ots_eval.specs.Confirmed.{IsVerdict};
 
@@ -20,7 +20,8 @@ use std::alloc::Global;
 /// `NoPath`. A height outside the table confirms nothing.
 ///
 /// Each operation of the tree is applied once. At a time it keeps one message in memory of `alloc`
-/// for each fork whose node is open, at most 256 of them, and one more.
+/// for each fork whose node is open, at most 256 of them, and one more. That the digest is another is
+/// told without memory.
 pub fn verdict(
     alloc: Global,
     proof: &Detached,
@@ -28,7 +29,8 @@ pub fn verdict(
     bitcoin: &Headers,
     litecoin: Option<&Headers>,
 ) -> Result<Verdict, OutOfMemory>
-    ensures { IfOk result (IsVerdict proof.now target.now bitcoin.now (option_copied litecoin.entry)) }
+    ensures verdict { IfOk result (IsVerdict proof.now target.now bitcoin.now (option_copied litecoin.entry)) }
+    ensures short { IfErr result (λ _. target.now ≡ proof.now.digest) }
 {
     if *target != proof.digest {
         return Ok(Verdict::NoDigest);

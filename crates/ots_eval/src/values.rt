@@ -1,5 +1,5 @@
 //! The value of operations on a message.
-ghost use Rattle.std.specs.Prelude.{◌≡◌, ◌≢◌, ◌≤◌, length};
+ghost use Rattle.std.specs.Prelude.{◌≡◌, ◌≢◌, ◌≤◌, length, None};
 ghost use Rattle.std.specs.Result.{result_ok, result_err};
 ghost use Rattle.ots_eval.specs.Value.{value, value_refusal};
 
@@ -10,11 +10,12 @@ use std::alloc::Global;
 /// `alloc`, which the value keeps.
 ///
 /// The refusal is that of `result_length` for the first operation in order that it refuses.
-/// `OutOfMemory` may come in place of the value or of a refusal.
+/// `OutOfMemory` may come in place of the value, and never of a refusal.
 pub fn value(alloc: Global, ops: &[Op], message: &[u8]) -> Result<Message, OpError>
     requires { length message.now ≤ 4096 }
     ensures value { result ≢ Err OpError.OutOfMemory → result_ok result ≡ value ops.now message.now }
     ensures refusal { result ≢ Err OpError.OutOfMemory → result_err result ≡ value_refusal ops.now message.now }
+    ensures short { result ≡ Err OpError.OutOfMemory → value_refusal ops.now message.now ≡ None }
 {
     let mut buffer = [0; 4096];
     let mut filled = message.len();
