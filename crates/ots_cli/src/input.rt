@@ -1,5 +1,5 @@
 //! Reading an input by its name.
-ghost use Rattle.std.specs.Prelude.{◌≡◌, ◌≤◌, ◌-◌, ◌^◌, ℕ, IsErrOf};
+ghost use Rattle.std.specs.Prelude.{◌≡◌, ℕ, IsErrOf};
 ghost use Rattle.ots_io.specs.Cause.{HasCauseWhere};
 ghost use Rattle.ots_detached.specs.File.{IsFileOf};
 ghost use Rattle.ots_bitcoin.specs.TableRead.{IsTableOf};
@@ -110,7 +110,6 @@ pub fn read_headers<S: Shelf>(
     file: HeaderFile<'_>,
     shelf: &mut S,
 ) -> Result<Headers, InputError>
-    requires { file.first ≤ 2 ^ 63 - 1 }
     ensures names { (S.told shelf.new).names ≡ (S.told shelf.old).names }
     ensures opened { OpensName file.entry.name.now (S.told shelf.old).opened (S.told shelf.new).opened result }
     ensures short { ¬ IsErrOf result InputError.OutOfMemory → (S.told shelf.new).short ≡ (S.told shelf.old).short }
