@@ -5,3 +5,4 @@ pub mod Endings
 pub mod Outputs
 pub mod Numbers
 pub mod Opened
+pub mod Yes

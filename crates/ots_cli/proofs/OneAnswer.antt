@@ -22,7 +22,7 @@ use Rattle.ots_cli.specs.declared.rewriting.Rewriting.{Rewriting}
 use Rattle.ots_cli.specs.declared.rewriting.Rewriting.TheVariants.{Canon, Prune}
 use Rattle.ots_canon.specs.Join.{IsMergeOf}
 use Rattle.ots_canon.proofs.Lawful.{one_form, one_join, one_prune}
-use Rattle.ots_cli.specs.Found.{IsHashOf, RefusesProof, too_big, bad_proof, RefusesTable, cut, too_many, RefusesTarget}
+use Rattle.ots_cli.specs.Found.{HasUnder, IsHashOf, RefusesProof, too_big, bad_proof, RefusesTable, cut, too_many, RefusesTarget}
 use Rattle.ots_cli.specs.Text.{verdict_status}
 use Rattle.ots_cli.specs.Words.{Command, HeaderFile, Verification, info, canon, merge, prune, verify}
 use Rattle.ots_cli.specs.Answer.{Answers, ComesTo, ends, reads_no_more, writes_no_more, Ends, prints_nothing, prints_a_front, prints, PrintsInfo, UnlessFailed, PrintsVerdict, RefusesInput, no_file, refuses, WithInput, is_given, is_refused, WithProof, WithTable, WithPerhapsTable, WithTarget, VerifiesTarget, VerifiesProof, VerifiesBy, Verifies, Writes, too_long, exists, is_made, WritesOf, Merges, differ, joined}
@@ -60,6 +60,12 @@ module _ {A : Type 0} (names : Names) (name : List ℕ) (Gives : List ℕ → A 
   one_input P d e one (is_refused r) (is_given y (b, at, is) h) = absurd (not_refused b y d at is r)
   one_input P d e one (is_refused r) (is_refused r') = one_refusal d e r r'
 
+  -- what is given
+  given : (P : A → Ending → Type 0) (x : A) (e : Ending) → (b : List ℕ) → map.get names name ≡ Some b → Gives b x → WithInput (Some names) name Gives Refuses P e → P x e
+  given P x e b at is (is_given y (c, too, as_well) h) =
+      subst (λ (z : A). P z e) (sym (one_given b x y is (subst (λ (z : List ℕ). Gives z y) (one_under names name c b too at) as_well))) h
+  given P x e b at is (is_refused r) = absurd (not_refused b x e at is r)
+
 -- a proof
 proof_refusal : (b : List ℕ) (s t : Status) → RefusesProof b s → RefusesProof b t → s ≡ t
 proof_refusal b s t (too_big long f) (too_big long' g) = f ∙ sym g
@@ -74,6 +80,10 @@ proof_or_not b p s is (bad_proof k fits h f) = no_fault b p k is h
 with_proof : (names : Names) (name : List ℕ) (P : Detached → Ending → Type 0) (d e : Ending) → ((p : Detached) → P p d → P p e → d.status ≡ e.status)
     → WithProof (Some names) name P d → WithProof (Some names) name P e → d.status ≡ e.status
 with_proof names name = one_input names name IsFileOf RefusesProof (λ b p q f g. one_file b p q f g) proof_refusal proof_or_not
+
+pub given_proof : (names : Names) (name : List ℕ) (P : Detached → Ending → Type 0) (p : Detached) (e : Ending) → HasUnder (Some names) name (λ b. IsFileOf b p)
+    → WithProof (Some names) name P e → P p e
+given_proof names name P p e has = given names name IsFileOf RefusesProof (λ b x y f g. one_file b x y f g) proof_refusal proof_or_not P p e has.0 has.1 has.2
 
 -- headers
 table_refusal : (b : List ℕ) (s t : Status) → RefusesTable b s → RefusesTable b t → s ≡ t
@@ -94,17 +104,32 @@ with_table : (names : Names) (file : HeaderFile) (P : Table → Ending → Type 
 with_table names file =
     one_input names file.name (IsTableOf file.first) RefusesTable (λ b t u f g. one_table_lem file.first b t u f g) table_refusal (table_or_not file.first)
 
+pub given_table : (names : Names) (file : HeaderFile) (P : Table → Ending → Type 0) (t : Table) (e : Ending) → HasUnder (Some names) file.name (λ b. IsTableOf file.first b t)
+    → WithTable (Some names) file P e → P t e
+given_table names file P t e has =
+    given names file.name (IsTableOf file.first) RefusesTable (λ b x y f g. one_table_lem file.first b x y f g) table_refusal (table_or_not file.first) P t e has.0 has.1 has.2
+
 with_perhaps_table : (names : Names) (file : Option HeaderFile) (P : Option Table → Ending → Type 0) (d e : Ending)
     → ((t : Option Table) → P t d → P t e → d.status ≡ e.status) → WithPerhapsTable (Some names) file P d → WithPerhapsTable (Some names) file P e → d.status ≡ e.status
 with_perhaps_table names None P d e one f g = one None f g
 with_perhaps_table names (Some file) P d e one f g = with_table names file (λ t. P (Some t)) d e (λ t. one (Some t)) f g
 
 -- a target
+target_refusal : (b : List ℕ) (s t : Status) → RefusesTarget b s → RefusesTarget b t → s ≡ t
+target_refusal b s t f g = f.1 ∙ sym g.1
+
+target_or_not : (hash : HashOp) (b x : List ℕ) (s : Status) → IsHashOf hash b x → RefusesTarget b s → ⊥
+target_or_not hash b x s f g = let fits = f.0 in let long = g.0 in omega arith
+
+pub given_target : (names : Names) (name : List ℕ) (hash : HashOp) (P : List ℕ → Ending → Type 0) (d : List ℕ) (e : Ending) → HasUnder (Some names) name (λ b. IsHashOf hash b d)
+    → WithTarget (Some names) name hash P e → P d e
+given_target names name hash P d e has =
+    given names name (IsHashOf hash) RefusesTarget (λ b x y f g. f.1 ∙ sym g.1) target_refusal (target_or_not hash) P d e has.0 has.1 has.2
+
 with_target : (names : Names) (name : List ℕ) (hash : HashOp) (P : List ℕ → Ending → Type 0) (d e : Ending) → ((x : List ℕ) → P x d → P x e → d.status ≡ e.status)
     → WithTarget (Some names) name hash P d → WithTarget (Some names) name hash P e → d.status ≡ e.status
 with_target names name hash =
-    one_input names name (IsHashOf hash) RefusesTarget (λ b x y f g. f.1 ∙ sym g.1) (λ b s t f g. f.1 ∙ sym g.1)
-    (λ b x s f g. let fits = f.0 in let long = g.0 in omega arith)
+    one_input names name (IsHashOf hash) RefusesTarget (λ b x y f g. f.1 ∙ sym g.1) target_refusal (target_or_not hash)
 
 -- a proof is written in one way
 is_there : (o : Option (List ℕ)) → IsSome o → o ≡ None → ⊥

@@ -8,3 +8,4 @@ pub mod Output
 pub mod Rewritten
 pub mod Ending
 pub mod Answer
+pub mod Yes

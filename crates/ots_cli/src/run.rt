@@ -1,10 +1,15 @@
 //! The top call.
-ghost use Rattle.std.specs.Prelude.{◌≡◌, ◌≢◌, ◌≤◌, ℕ, map, string_bytes, IsSome};
+ghost use Rattle.std.specs.Prelude.{◌≡◌, ◌≢◌, ◌≤◌, ℕ, List, Some, map, string_bytes, IsSome};
+ghost use Rattle.std.specs.declared.option.Option.{Option};
 ghost use Rattle.ots_io.specs.Cause.{Rose};
 ghost use Rattle.ots_cli.specs.Answer.{Answers, ComesTo, Ends, Leaves, Prints, UnlessFailed};
 ghost use Rattle.ots_cli.specs.Ending.{Ending};
 ghost use Rattle.ots_cli.specs.Opened.{OpensFront, StopsAt, names_read};
-ghost use Rattle.ots_cli.specs.Words.{command_of};
+ghost use Rattle.ots_cli.specs.Words.{Verification, command_of, verify};
+ghost use Rattle.ots_cli.specs.Yes.{HasFiles, IsDoneExactlyWhere, SaysYes};
+ghost use Rattle.ots_bitcoin.specs.HeaderTable.{Table};
+ghost use Rattle.ots_tree.specs.declared.detached.Detached.{Detached};
+ghost use Rattle.ots_io.specs.Shelf.{Names};
 
 use crate::answer::{Answer, answer_to};
 use crate::status::Status;
@@ -39,6 +44,9 @@ pub fn run_client<S: Shelf, K: Sink, D: Dialer, N: Nonces>(
     ensures ends { Ends (ComesTo (S.told shelf.old).names (S.told shelf.new).names (Answers (S.told shelf.old).names (command_of (map string_bytes words.now)))
         (StopsAt (names_read (command_of (map string_bytes words.now))) (S.told shelf.old).opened (S.told shelf.new).opened) (Rose (S.faults shelf.old) (S.faults shelf.new)))
         (Rose (K.faults out.old) (K.faults out.new)) (K.taken out.old) (K.taken out.new) result }
+    ensures yes { (names : Names) (v : Verification) (bitcoin : Table) (litecoin : Option Table) (proof : Detached) (target : List ℕ)
+        → (S.told shelf.old).names ≡ Some names → command_of (map string_bytes words.now) ≡ Some (verify v) → HasFiles names v bitcoin litecoin proof target
+        → IsDoneExactlyWhere (SaysYes proof target bitcoin litecoin) result }
     ensures exact { (e : Ending) → IsSome (S.told shelf.old).names
         → Answers (S.told shelf.old).names (command_of (map string_bytes words.now)) e → UnlessFailed e.status result }
 {
