@@ -6,3 +6,4 @@ pub mod Outputs
 pub mod Numbers
 pub mod Opened
 pub mod Yes
+pub mod Taken

@@ -9,3 +9,4 @@ pub mod Rewritten
 pub mod Ending
 pub mod Answer
 pub mod Yes
+pub mod Taken

@@ -5,7 +5,8 @@ ghost use Rattle.ots_io.specs.Cause.{Rose};
 ghost use Rattle.ots_cli.specs.Answer.{Answers, ComesTo, Ends, Leaves, Prints, UnlessFailed};
 ghost use Rattle.ots_cli.specs.Ending.{Ending};
 ghost use Rattle.ots_cli.specs.Opened.{OpensFront, StopsAt, names_read};
-ghost use Rattle.ots_cli.specs.Words.{Verification, command_of, verify};
+ghost use Rattle.ots_cli.specs.Taken.{TakesProofs, proofs_read};
+ghost use Rattle.ots_cli.specs.Words.{Command, Verification, command_of, verify};
 ghost use Rattle.ots_cli.specs.Yes.{HasFiles, IsDoneExactlyWhere, SaysYes};
 ghost use Rattle.ots_bitcoin.specs.HeaderTable.{Table};
 ghost use Rattle.ots_tree.specs.declared.detached.Detached.{Detached};
@@ -44,6 +45,8 @@ pub fn run_client<S: Shelf, K: Sink, D: Dialer, N: Nonces>(
     ensures ends { Ends (ComesTo (S.told shelf.old).names (S.told shelf.new).names (Answers (S.told shelf.old).names (command_of (map string_bytes words.now)))
         (StopsAt (names_read (command_of (map string_bytes words.now))) (S.told shelf.old).opened (S.told shelf.new).opened) (Rose (S.faults shelf.old) (S.faults shelf.new)))
         (Rose (K.faults out.old) (K.faults out.new)) (K.taken out.old) (K.taken out.new) result }
+    ensures takes { (names : Names) (c : Command) → (S.told shelf.old).names ≡ Some names → command_of (map string_bytes words.now) ≡ Some c
+        → TakesProofs names (proofs_read c) result }
     ensures yes { (names : Names) (v : Verification) (bitcoin : Table) (litecoin : Option Table) (proof : Detached) (target : List ℕ)
         → (S.told shelf.old).names ≡ Some names → command_of (map string_bytes words.now) ≡ Some (verify v) → HasFiles names v bitcoin litecoin proof target
         → IsDoneExactlyWhere (SaysYes proof target bitcoin litecoin) result }

@@ -1,5 +1,6 @@
 use Rattle.ots_cli.proofs.Endings.{printed}
 use Rattle.ots_cli.proofs.OneAnswer as one
+use Rattle.ots_cli.proofs.Taken.{are_taken}
 use Rattle.ots_cli.proofs.Yes.{done_exactly}
 use Rattle.ots_cli.proofs.run.run_client.Goals as goal
 
@@ -12,3 +13,7 @@ returns-in-Ok-clause-exact g c = λ e known is. one.exact _ _ _ _ _ _ _ _ _ e (p
 pub returns-in-Ok-clause-yes : goal.returns-in-Ok-clause-yes
 returns-in-Ok-clause-yes g c = λ names v b l p target told asks has.
     done_exactly names v b l p target has _ _ _ _ _ _ _ _ _ told asks (printed _ _ _ _ _ _ _ c.in-Ok.ensures.comes c.print.ensures.printed)
+
+pub returns-in-Ok-clause-takes : goal.returns-in-Ok-clause-takes
+returns-in-Ok-clause-takes g c = λ names command told asks.
+    are_taken names command _ _ _ _ _ _ _ _ _ told asks (printed _ _ _ _ _ _ _ c.in-Ok.ensures.comes c.print.ensures.printed)

@@ -1,0 +1,38 @@
+-- Which proof files a command takes, in one sentence: those whose bytes spell a sound proof; the first that spells none
+-- is refused at the place and for the reason of its one fault.
+use Rattle.std.specs.Prelude.{◌≤◌, ◌⊎◌, ℕ, List, [], ◌∷◌, length, Some}
+use Rattle.std.specs.List.{AllByRecursion}
+use Rattle.ots_io.specs.Shelf.{Names}
+use Rattle.ots_tree.specs.declared.detached.Detached.{Detached}
+use Rattle.ots_reader.specs.declared.fault.Fault.{Fault}
+use Rattle.ots_detached.specs.File.{IsFileOf}
+use Rattle.ots_detached.specs.FileFault.{HasFault}
+use Rattle.ots_cli.specs.declared.status.Status.{Status}
+use Rattle.ots_cli.specs.declared.status.Status.TheVariants.{Done, No, BadProof}
+use Rattle.ots_cli.specs.Found.{HasUnder}
+use Rattle.ots_cli.specs.Words.{Command, info, canon, merge, prune, verify}
+
+-- the names of the proofs that a command reads, in order
+abbrev pub proofs_read : Command → List (List ℕ)
+proofs_read (info proof) = proof ∷ []
+proofs_read (canon from to) = from ∷ []
+proofs_read (merge first second to) = first ∷ second ∷ []
+proofs_read (prune from to) = from ∷ []
+proofs_read (verify v) = v.proof ∷ []
+
+-- The bytes under the name spell a sound proof.
+abbrev pub IsProof : Names → List ℕ → Type 0
+IsProof names name = HasUnder (Some names) name (λ bytes. (proof : Detached) × IsFileOf bytes proof)
+
+-- Of these names all up to one are proofs, and the bytes under that one have this fault.
+abbrev pub IsFirstFault : Names → List (List ℕ) → Fault → Type 0
+IsFirstFault names [] f = ⊥
+IsFirstFault names (name ∷ rest) f =
+    HasUnder (Some names) name (λ bytes. (length bytes ≤ 4194304) × HasFault bytes f) ⊎ (IsProof names name × IsFirstFault names rest f)
+
+-- What a status says of the proofs: all were taken, or the first that is none was refused, or nothing.
+abbrev pub TakesProofs : Names → List (List ℕ) → Status → Type 0
+TakesProofs names proofs Done = AllByRecursion (IsProof names) proofs
+TakesProofs names proofs No = AllByRecursion (IsProof names) proofs
+TakesProofs names proofs (BadProof f) = IsFirstFault names proofs f
+TakesProofs names proofs other = Unit {0}
