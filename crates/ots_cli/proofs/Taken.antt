@@ -26,13 +26,13 @@ one_more names name rest No is h = (is, h)
 one_more names name rest (BadProof f) is h = inr (is, h)
 one_more names name rest Usage is h = tt
 one_more names name rest NoFile is h = tt
-one_more names name rest Exists is h = tt
+one_more names name rest Exists is h = (is, h)
 one_more names name rest ReadFault is h = tt
 one_more names name rest WriteFault is h = tt
 one_more names name rest TooBig is h = tt
 one_more names name rest (BadHeaders n) is h = tt
-one_more names name rest FileTooLong is h = tt
-one_more names name rest (Differs h d k e) is g = tt
+one_more names name rest FileTooLong is h = (is, h)
+one_more names name rest (Differs h d k e) is g = (is, g)
 one_more names name rest OutOfMemory is h = tt
 
 status_of_ending : (d e : Ending) → d ≡ e → d.status ≡ e.status

@@ -3,11 +3,12 @@ use Rattle.std.specs.Prelude.{◌≡◌, ◌⊎◌, ℕ, List, [], ◌∷◌, �
 use Rattle.std.specs.Option.{option_map}
 use Rattle.ots_cli.specs.Words.{Command, HeaderFile, info, canon, merge, prune, verify}
 
--- the names that a command reads, in order
+-- the name of headers that may be given
 abbrev pub names_of : Option HeaderFile → List (List ℕ)
 names_of None = []
 names_of (Some file) = file.name ∷ []
 
+-- the names that a command reads, in order
 abbrev pub names_read : Option Command → List (List ℕ)
 names_read None = []
 names_read (Some (info proof)) = proof ∷ []

@@ -1,5 +1,5 @@
--- Which proof files a command takes, in one sentence: those whose bytes spell a sound proof; the first that spells none
--- is refused at the place and for the reason of its one fault.
+-- What a status says of the proof files that a command reads. One that comes behind them says that the bytes under each
+-- spell a sound proof; BadProof says that the first that spell none have this fault. Which status comes is said by `exact`.
 use Rattle.std.specs.Prelude.{◌≤◌, ◌⊎◌, ℕ, List, [], ◌∷◌, length, Some}
 use Rattle.std.specs.List.{AllByRecursion}
 use Rattle.ots_io.specs.Shelf.{Names}
@@ -8,7 +8,7 @@ use Rattle.ots_reader.specs.declared.fault.Fault.{Fault}
 use Rattle.ots_detached.specs.File.{IsFileOf}
 use Rattle.ots_detached.specs.FileFault.{HasFault}
 use Rattle.ots_cli.specs.declared.status.Status.{Status}
-use Rattle.ots_cli.specs.declared.status.Status.TheVariants.{Done, No, BadProof}
+use Rattle.ots_cli.specs.declared.status.Status.TheVariants.{Done, No, BadProof, Exists, FileTooLong, Differs}
 use Rattle.ots_cli.specs.Found.{HasUnder}
 use Rattle.ots_cli.specs.Words.{Command, info, canon, merge, prune, verify}
 
@@ -30,9 +30,12 @@ IsFirstFault names [] f = ⊥
 IsFirstFault names (name ∷ rest) f =
     HasUnder (Some names) name (λ bytes. (length bytes ≤ 4194304) × HasFault bytes f) ⊎ (IsProof names name × IsFirstFault names rest f)
 
--- What a status says of the proofs: all were taken, or the first that is none was refused, or nothing.
+-- All were taken, or the first that is none was refused, or nothing is said.
 abbrev pub TakesProofs : Names → List (List ℕ) → Status → Type 0
 TakesProofs names proofs Done = AllByRecursion (IsProof names) proofs
 TakesProofs names proofs No = AllByRecursion (IsProof names) proofs
+TakesProofs names proofs Exists = AllByRecursion (IsProof names) proofs
+TakesProofs names proofs FileTooLong = AllByRecursion (IsProof names) proofs
+TakesProofs names proofs (Differs first_hash first_digest second_hash second_digest) = AllByRecursion (IsProof names) proofs
 TakesProofs names proofs (BadProof f) = IsFirstFault names proofs f
 TakesProofs names proofs other = Unit {0}
