@@ -8,7 +8,7 @@ here=$(cd "$(dirname "$0")" && pwd)
 work=$(mktemp -d)
 trap 'rm -rf "$work"' EXIT
 mkdir -p "$work/crates/verdict_speed/src" "$work/crates/verdict_speed/specs"
-for name in ots_io ots_varint ots_ripemd ots_ops ots_attest ots_tree ots_reader ots_detached ots_bitcoin ots_eval; do
+for name in ots_base ots_outside ots_memory ots_real ots_io ots_varint ots_ripemd ots_ops ots_attest ots_tree ots_reader ots_detached ots_bitcoin ots_eval; do
     cp -r "$here/../crates/$name" "$work/crates/$name"
     grep "^$name:" "$here/../crates.txt" >> "$work/crates.txt"
 done

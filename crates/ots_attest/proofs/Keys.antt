@@ -1,13 +1,18 @@
 -- The order of attestations.
 use Rattle.std.proofs.Common.{◌≡◌, ℕ, List, [], ◌∷◌, ◌++◌, length, refl, sym, ap, ◌∙◌, arith}
+use Rattle.std.specs.Prelude.{◌≢◌}
 use Rattle.std.specs.Ordering.{nat_cmp, ordering_then}
+use Rattle.std.specs.Cmp.{nat_cmp_is}
 use Rattle.std.specs.declared.cmp.Ordering.{Ordering}
 use Rattle.std.specs.declared.cmp.Ordering.TheVariants.{Less, Equal, Greater}
 use Rattle.std.specs.Cmp.Lexicographic.{slice_cmp, same_text}
 use Rattle.std.specs.Ordering.{is_eq}
 use Rattle.std.proofs.lemmas.Map.Text.{is_eq-slice_cmp}
 use Rattle.ots_varint.proofs.OneNumber.{parts_equal}
+use Rattle.ots_attest.specs.Kind.{pending_kind, bitcoin_kind, litecoin_kind}
+use Rattle.ots_attest.specs.declared.other.Other.{Other}
 use Rattle.ots_attest.specs.declared.attestation.Attestation.{Attestation}
+use Rattle.ots_attest.specs.declared.attestation.Attestation.TheVariants.{Pending, Bitcoin, Litecoin, Unknown}
 use Rattle.ots_attest.specs.Attestation.{kind, held, key, attestation_cmp, IsAttestation}
 use Rattle.ots_attest.proofs.OneAttestation.{kind-len, same_by, heads}
 
@@ -46,3 +51,38 @@ unless_equal Greater p h = refl
 -- else the kinds do
 pub by_kind : (a b : Attestation) → length (kind a) ≡ length (kind b) → (slice_cmp nat_cmp (kind a) (kind b) ≡ Equal → ⊥) → slice_cmp nat_cmp (kind a) (kind b) ≡ attestation_cmp a b
 by_kind a b len h = unless_equal (slice_cmp nat_cmp (kind a) (kind b)) (slice_cmp nat_cmp (held a) (held b)) h ∙ sym (slice_cmp-append (kind a) (kind b) (held a) (held b) len)
+
+-- ---- the order, kind by kind
+
+one_number : (n : ℕ) → nat_cmp n n ≡ Equal
+one_number n = sym (nat_cmp_is n n Equal refl)
+
+-- the same list before both decides nothing
+same_front : (k x y : List ℕ) → slice_cmp nat_cmp (k ++ x) (k ++ y) ≡ slice_cmp nat_cmp x y
+same_front [] x y = refl
+same_front (n ∷ k) x y = rw (one_number n) (same_front k x y)
+
+-- one number each
+numbers : (m n : ℕ) → slice_cmp nat_cmp (m ∷ []) (n ∷ []) ≡ nat_cmp m n
+numbers m n = last (nat_cmp m n)
+  where
+    last : (o : Ordering) → ordering_then o Equal ≡ o
+    last Less = refl
+    last Equal = refl
+    last Greater = refl
+
+pub two_kinds : (a b : Attestation) → IsAttestation a → IsAttestation b → kind a ≢ kind b → attestation_cmp a b ≡ slice_cmp nat_cmp (kind a) (kind b)
+two_kinds a b ha hb apart =
+    sym (by_kind a b (kind-len a ha ∙ sym (kind-len b hb)) (λ e. apart (equal_kinds (kind a) (kind b) (sym e))))
+
+pub two_uris : (u v : List ℕ) → attestation_cmp (Pending u) (Pending v) ≡ slice_cmp nat_cmp u v
+two_uris u v = same_front pending_kind u v
+
+pub two_bitcoin_heights : (m n : ℕ) → attestation_cmp (Bitcoin m) (Bitcoin n) ≡ nat_cmp m n
+two_bitcoin_heights m n = same_front bitcoin_kind (m ∷ []) (n ∷ []) ∙ numbers m n
+
+pub two_litecoin_heights : (m n : ℕ) → attestation_cmp (Litecoin m) (Litecoin n) ≡ nat_cmp m n
+two_litecoin_heights m n = same_front litecoin_kind (m ∷ []) (n ∷ []) ∙ numbers m n
+
+pub two_payloads : (o p : Other) → o.kind ≡ p.kind → attestation_cmp (Unknown o) (Unknown p) ≡ slice_cmp nat_cmp o.payload p.payload
+two_payloads o p same = rw same (same_front p.kind o.payload p.payload)

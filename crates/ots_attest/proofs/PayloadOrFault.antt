@@ -5,7 +5,7 @@ use Rattle.std.specs.List.{AllByRecursion, list_all}
 use Rattle.std.specs.Cmp.Lexicographic.{same_text}
 use Rattle.std.proofs.lemmas.Bool.{ltb-false, false≢true}
 use Rattle.std.proofs.lemmas.List.{drop_all, append-nil}
-use Rattle.ots_io.specs.Table.{line, first_line}
+use Rattle.ots_base.specs.Table.{line, first_line}
 use Rattle.ots_varint.specs.declared.reading.VaruintRead.{VaruintRead}
 use Rattle.ots_varint.specs.declared.reading.VaruintRead.TheVariants.{Value, Short, NonMinimal, TooLarge}
 use Rattle.ots_varint.specs.Varuint.{varuint, varbytes}

@@ -1,6 +1,7 @@
 -- What bytes are as the URI of a pending attestation.
 use Rattle.std.specs.Prelude.{ℕ, List, length, not, nat_lt, if◌then◌else◌, Option, Some, None, Result, Ok, Err}
 use Rattle.std.specs.List.{position_from}
+use Rattle.ots_base.specs.declared.limits.TheConstants.{MAX_URI}
 use Rattle.ots_attest.specs.declared.uri.Uri.{Uri}
 use Rattle.ots_attest.specs.declared.uri.UriError.{UriError}
 use Rattle.ots_attest.specs.declared.uri.UriError.TheVariants.{TooLong, BadChar}
@@ -18,7 +19,7 @@ unless_bad (Some place) value = Err (BadChar place)
 -- the value, unless the bytes are too many, or one of them is not allowed, the first of which is named
 abbrev pub where_uri : {A : Type 0} → List ℕ → A → Result A UriError
 where_uri bytes value =
-    if nat_lt 1000 (length bytes) then Err (TooLong (length bytes))
+    if nat_lt MAX_URI (length bytes) then Err (TooLong (length bytes))
     else unless_bad (first_bad bytes) value
 
 abbrev pub uri_check : List ℕ → Result (Unit {0}) UriError

@@ -1,7 +1,8 @@
 -- What is wrong with a payload of a known kind: the first line of its kind's table that fits.
 use Rattle.std.specs.Prelude.{◌≡◌, ℕ, ◌+◌, List, [], ◌∷◌, length, take, drop, not, nat_lt, bytes_eq, Option, Some, None, if◌then◌else◌}
 use Rattle.std.specs.List.{list_all}
-use Rattle.ots_io.specs.Table.{line, first_line}
+use Rattle.ots_base.specs.Table.{line, first_line}
+use Rattle.ots_base.specs.declared.limits.TheConstants.{MAX_URI}
 use Rattle.ots_varint.specs.declared.reading.VaruintRead.{VaruintRead}
 use Rattle.ots_varint.specs.declared.reading.VaruintRead.TheVariants.{Value, Short, NonMinimal, TooLarge}
 use Rattle.ots_varint.specs.Reading.{reading}
@@ -22,7 +23,7 @@ number_fault TooLarge = Some PayloadVaruint
 -- of a URI's payload p that begins with this number, its length
 abbrev pub uri_fault : VaruintRead → List ℕ → Option PayloadError
 uri_fault (Value n used) p = first_line (
-    line (nat_lt 1000 n) BadUri
+    line (nat_lt MAX_URI n) BadUri
     ∷ line (nat_lt (length p) (used + n)) PayloadShort
     ∷ line (not (list_all is_uri_byte (take n (drop used p)))) BadUri
     ∷ line (nat_lt (used + n) (length p)) PayloadRest

@@ -5,7 +5,7 @@ ghost use Rattle.ots_attest.specs.Attestation.{kind, payload, spell, IsAttestati
 
 use crate::other::{Other, copy_kind};
 use crate::uri::Uri;
-use ots_io::OutOfMemory;
+use ots_base::{MAX_PAYLOAD, OutOfMemory};
 use ots_varint::varuint_length;
 
 /// What a path of operations ends in.
@@ -37,7 +37,7 @@ impl Attestation {
         })
     }
 
-    /// How many bytes the spelling has: 10 to 8203. It takes no memory.
+    /// How many bytes the spelling has: 10 to `MAX_SPELLED_ATTESTATION`, 8203. It takes no memory.
     #[tactic(auto, using(crate::proofs::Lengths::spelled_length, crate::proofs::Lengths::lengths))]
     pub fn spelled_length(&self) -> usize
         ensures length { result ≡ length (spell self.now) }
@@ -46,11 +46,11 @@ impl Attestation {
         9 + varbytes_length(self.payload_length())
     }
 
-    /// How many bytes the payload has: 0 to 8192.
+    /// How many bytes the payload has: 0 to `MAX_PAYLOAD`, 8192.
     #[tactic(auto, using(crate::proofs::Lengths::lengths))]
     fn payload_length(&self) -> usize
         ensures length { result ≡ length (payload self.now) }
-        ensures few { result ≤ 8192 }
+        ensures few { result ≤ MAX_PAYLOAD }
         ensures limits { IsAttestation self.now }
     {
         match self {
@@ -89,7 +89,7 @@ pub(crate) const LITECOIN: [u8; 8] = [0x06, 0x86, 0x9a, 0x0d, 0x73, 0xd7, 0x1b, 
 /// How many bytes so many bytes behind their length have.
 #[tactic(auto, using(crate::proofs::Lengths::lengths))]
 fn varbytes_length(count: usize) -> usize
-    requires { count ≤ 8192 }
+    requires { count ≤ MAX_PAYLOAD }
     ensures { result ≡ length (varuint count) + count }
 {
     varuint_length(count as u64) + count

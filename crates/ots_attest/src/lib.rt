@@ -14,8 +14,8 @@ mod spelling;
 mod uri;
 
 pub use attestation::Attestation;
-pub use laws::{one_attestation, one_fault, one_key};
+pub use laws::{limits_of_attestation, one_attestation, one_fault, one_key, order_of_attestations};
 pub use other::{Other, Payload};
 pub use payload::{PayloadError, from_payload};
-pub use spelling::spell_attestation;
+pub use spelling::{MAX_SPELLED_ATTESTATION, spell_attestation};
 pub use uri::{Uri, UriError};

@@ -4,11 +4,11 @@ ghost use Rattle.std.specs.List.{AllByRecursion};
 ghost use Rattle.ots_attest.specs.Kind.{IsUnknown};
 ghost use Rattle.ots_attest.specs.Payload.{IsPayload};
 
-use ots_io::OutOfMemory;
+use ots_base::{MAX_PAYLOAD, OutOfMemory};
 use std::alloc::{AllocError, Global};
 use std::marker::Model;
 
-/// The payload of an attestation of an unknown kind: 0 to 8192 bytes, kept unread.
+/// The payload of an attestation of an unknown kind: 0 to `MAX_PAYLOAD` bytes, 8192, kept unread.
 ///
 /// Contracts see the list of these bytes.
 #[derive(Debug, Drop)]
@@ -38,7 +38,7 @@ impl Payload {
 
     /// The payload of these bytes.
     pub(crate) fn new(alloc: Global, bytes: &[u8]) -> Result<Payload, AllocError>
-        requires { length bytes.now ≤ 8192 }
+        requires { length bytes.now ≤ MAX_PAYLOAD }
         ensures { IfOk result (λ p. (p ≡ bytes.now) × IsPayload p) }
     {
         let bytes = Vec::from_slice(alloc, bytes)?;

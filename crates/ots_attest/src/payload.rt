@@ -1,7 +1,7 @@
 //! Reading an attestation from its kind and payload.
 ghost use Rattle.std.specs.Prelude.{◌≡◌, ◌≤◌, length, Some, Ok, Err, IfOk, IfErr};
 ghost use Rattle.std.specs.List.{list_all};
-ghost use Rattle.ots_io.specs.Memory.{UnlessShort};
+ghost use Rattle.ots_base.specs.Memory.{UnlessOutOfMemory};
 ghost use Rattle.ots_varint.specs.Reading.{reading, IsSpelledAt};
 ghost use Rattle.ots_varint.specs.declared.reading.VaruintRead.TheVariants.{Value};
 ghost use Rattle.ots_attest.specs.Kind.{IsUnknown};
@@ -13,6 +13,7 @@ ghost use Rattle.ots_attest.specs.declared.attestation.Attestation.{Attestation}
 use crate::attestation::{Attestation, BITCOIN, LITECOIN, PENDING};
 use crate::other::{Other, Payload, copy_kind};
 use crate::uri::{Uri, UriError};
+use ots_base::{MAX_PAYLOAD, MAX_URI};
 use ots_varint::{VaruintRead, read_varuint};
 use std::alloc::Global;
 use thiserror::Error;
@@ -37,20 +38,20 @@ pub enum PayloadError {
     OutOfMemory,
 }
 
-/// The attestation of this kind and payload, which has at most 8192 bytes. It is answered exactly
-/// where there is one, and otherwise what is wrong with the payload, of which the first fault is
-/// named: first its number, then the URI's length, the bytes that are there, the URI's characters,
-/// and bytes that follow. A payload of an unknown kind has no fault.
+/// The attestation of this kind and payload, which has at most `MAX_PAYLOAD` bytes, 8192. It is
+/// answered exactly where there is one, and otherwise what is wrong with the payload, of which the
+/// first fault is named: first its number, then the URI's length, the bytes that are there, the
+/// URI's characters, and bytes that follow. A payload of an unknown kind has no fault.
 pub fn from_payload(
     alloc: Global,
     kind: [u8; 8],
     payload: &[u8],
 ) -> Result<Attestation, PayloadError>
-    requires { length payload.now ≤ 8192 }
+    requires { length payload.now ≤ MAX_PAYLOAD }
     ensures ok { IfOk result (λ a. IsOf kind payload.now a) }
     ensures err { IfErr result (λ e. IsFault (payload_fault kind payload.now) e) }
-    ensures accepts { (a : Attestation) → IsOf kind payload.now a → UnlessShort PayloadError.OutOfMemory result (Ok a) }
-    ensures refuses { (e : PayloadError) → payload_fault kind payload.now ≡ Some e → UnlessShort PayloadError.OutOfMemory result (Err e) }
+    ensures accepts { (a : Attestation) → IsOf kind payload.now a → UnlessOutOfMemory PayloadError.OutOfMemory result (Ok a) }
+    ensures refuses { (e : PayloadError) → payload_fault kind payload.now ≡ Some e → UnlessOutOfMemory PayloadError.OutOfMemory result (Err e) }
 {
     read_payload(alloc, kind, payload)
 }
@@ -58,7 +59,7 @@ pub fn from_payload(
 /// The attestation of this kind and payload, or what is wrong.
 #[tactic(auto, using(crate::proofs::PayloadOrFault::not_kind), unfolding(crate::specs::PayloadFault::payload_fault))]
 fn read_payload(alloc: Global, kind: [u8; 8], payload: &[u8]) -> Result<Attestation, PayloadError>
-    requires { length payload.now ≤ 8192 }
+    requires { length payload.now ≤ MAX_PAYLOAD }
     ensures ok { IfOk result (λ a. IsOf kind payload.now a) }
     ensures err { IfErr result (λ e. IsFault (payload_fault kind payload.now) e) }
 {
@@ -77,7 +78,7 @@ fn read_payload(alloc: Global, kind: [u8; 8], payload: &[u8]) -> Result<Attestat
 /// The attestation of this unknown kind.
 fn read_other(alloc: Global, kind: [u8; 8], payload: &[u8]) -> Result<Attestation, PayloadError>
     requires unknown { IsUnknown kind }
-    requires few { length payload.now ≤ 8192 }
+    requires few { length payload.now ≤ MAX_PAYLOAD }
     ensures ok { IfOk result (λ a. IsOf kind payload.now a) }
     ensures err { IfErr result (λ e. e ≡ PayloadError.OutOfMemory) }
 {
@@ -104,7 +105,7 @@ fn uri_behind(alloc: Global, payload: &[u8], length: u64, used: usize) -> Result
     requires { IsSpelledAt payload.now length used }
     ensures { UriGives payload.now (Value length used) result }
 {
-    if length > 1000 {
+    if length > MAX_URI as u64 {
         return Err(PayloadError::BadUri);
     }
     let end = used + length as usize;

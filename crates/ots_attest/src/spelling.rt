@@ -1,14 +1,22 @@
 //! How an attestation is spelled.
-ghost use Rattle.std.specs.Prelude.{◌≡◌, ◌≤◌, ◌++◌, length, drop};
+ghost use Rattle.std.specs.Prelude.{◌≡◌, ◌≤◌, ◌-◌, ◌++◌, length, drop};
 ghost use Rattle.ots_varint.specs.Varuint.{varuint, varbytes};
 ghost use Rattle.ots_attest.specs.Attestation.{spell, payload, kind, IsAttestation};
 
 use crate::attestation::Attestation;
-use ots_varint::{put_number, put_varbytes};
+use ots_base::{MAX_PAYLOAD, MAX_URI};
+use ots_varint::{MAX_SPELLED_NUMBER, put_number, put_varbytes};
+
+/// The most bytes of an attestation's spelling, 8203: the tag, the eight bytes of the kind, and the
+/// longest payload behind its length, which two bytes spell.
+pub const MAX_SPELLED_ATTESTATION: usize = 11 + MAX_PAYLOAD;
 
 /// Writes the spelling of an attestation at the front, leaves the bytes behind it as they are, and
-/// answers how many bytes it has: 10 to 8203. It takes no memory.
-pub fn spell_attestation(attestation: &Attestation, out: &mut [u8; 8203]) -> usize
+/// answers how many bytes it has: 10 to `MAX_SPELLED_ATTESTATION`. It takes no memory.
+pub fn spell_attestation(
+    attestation: &Attestation,
+    out: &mut [u8; MAX_SPELLED_ATTESTATION],
+) -> usize
     ensures length { result ≡ length (spell attestation.now) }
     ensures spelled { out.new ≡ spell attestation.now ++ drop (length (spell attestation.now)) out.old }
 {
@@ -23,7 +31,7 @@ pub fn spell_attestation(attestation: &Attestation, out: &mut [u8; 8203]) -> usi
 #[tactic(auto, using(crate::proofs::Lengths::spelled_length))]
 fn put_behind_tag(attestation: &Attestation, out: &mut [u8])
     requires limits { IsAttestation attestation.now }
-    requires room { length out.old ≡ 8202 }
+    requires room { length out.old ≡ MAX_SPELLED_ATTESTATION - 1 }
     ensures { out.new ≡ (kind attestation.now ++ varbytes (payload attestation.now))
         ++ drop (length (kind attestation.now ++ varbytes (payload attestation.now))) out.old }
 {
@@ -40,12 +48,12 @@ fn put_payload(attestation: &Attestation, out: &mut [u8])
 {
     match attestation {
         Attestation::Pending(uri) => {
-            let mut spelled = [0; 1010];
+            let mut spelled = [0; MAX_SPELLED_NUMBER + MAX_URI];
             let length = put_varbytes(uri.text().as_bytes(), &mut spelled);
             put_varbytes(&spelled[..length], out);
         }
         Attestation::Bitcoin(height) | Attestation::Litecoin(height) => {
-            let mut spelled = [0; 10];
+            let mut spelled = [0; MAX_SPELLED_NUMBER];
             let length = put_number(*height, &mut spelled);
             put_varbytes(&spelled[..length], out);
         }

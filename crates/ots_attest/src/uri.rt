@@ -1,16 +1,16 @@
 //! The URI of a pending attestation.
 ghost use Rattle.std.specs.Prelude.{◌≡◌, IfOk, string_bytes};
-ghost use Rattle.ots_io.specs.Memory.{UnlessShort};
+ghost use Rattle.ots_base.specs.Memory.{UnlessOutOfMemory};
 ghost use Rattle.ots_attest.specs.Uri.{is_uri_byte, IsUri};
 ghost use Rattle.ots_attest.specs.NewUri.{first_bad, uri_check, new_uri};
 
-use ots_io::OutOfMemory;
+use ots_base::{MAX_URI, OutOfMemory};
 use std::alloc::Global;
 use std::marker::Model;
 use thiserror::Error;
 
-/// The URI at which a pending timestamp is to be asked for: 0 to 1000 bytes out of letters, digits,
-/// `-`, `.`, `_`, `/` and `:`.
+/// The URI at which a pending timestamp is to be asked for: 0 to `MAX_URI` bytes, 1000, out of
+/// letters, digits, `-`, `.`, `_`, `/` and `:`.
 ///
 /// Contracts see the list of these bytes.
 #[derive(Debug, Drop)]
@@ -50,7 +50,7 @@ impl Uri {
     pub fn check(bytes: &[u8]) -> Result<(), UriError>
         ensures { result ≡ uri_check bytes.now }
     {
-        if bytes.len() > 1000 {
+        if bytes.len() > MAX_URI {
             return Err(UriError::TooLong(bytes.len() as u64));
         }
         match first_bad(bytes) {
@@ -59,9 +59,10 @@ impl Uri {
         }
     }
 
-    /// The URI of this text, or the refusal of `check`.
+    /// The URI of this text, or the refusal of `check`, in whose place `OutOfMemory` never comes.
     pub fn new(alloc: Global, text: &str) -> Result<Uri, UriError>
-        ensures { UnlessShort UriError.OutOfMemory result (new_uri text.now) }
+        ensures value { UnlessOutOfMemory UriError.OutOfMemory result (new_uri text.now) }
+        ensures short { result ≡ Err UriError.OutOfMemory → new_uri text.now ≡ Ok text.now }
     {
         Uri::check(text.as_bytes())?;
         match String::from_str(alloc, text) {

@@ -1,6 +1,8 @@
 -- What reading a header table answers.
-use Rattle.std.specs.Prelude.{◌≡◌, ◌≢◌, ◌≤◌, ◌⊎◌, ◌%◌, ℕ, List, length, Option, Result, Ok, Err}
-use Rattle.std.specs.Io.KnownBytes.{Consumes, IsAtEnd}
+use Rattle.std.specs.Prelude.{◌≡◌, ◌≢◌, ◌+◌, ◌≤◌, ◌⊎◌, ◌%◌, ℕ, List, length, Option, Result, Ok, Err}
+use Rattle.std.specs.Io.KnownBytes.{IsAtEnd}
+use Rattle.ots_base.specs.declared.limits.TheConstants.{MAX_HEADER_FILE}
+use Rattle.ots_outside.specs.Streams.{Gives}
 use Rattle.ots_bitcoin.specs.declared.headers.HeadersError.{HeadersError}
 use Rattle.ots_bitcoin.specs.declared.headers.HeadersError.TheVariants.{ReadFault, BadHeaders, OutOfMemory}
 use Rattle.ots_bitcoin.specs.HeaderTable.{Table, IsTable, all_serialized}
@@ -13,7 +15,7 @@ pub record IsTableOf (height : ℕ) (b : List ℕ) (t : Table) : Type 0 where
 
 -- So many bytes are no headers, though not too many: none, or a last header that is cut.
 abbrev pub IsCut : ℕ → Type 0
-IsCut n = (n ≤ 83886080) × ((n ≡ 0) ⊎ (n % 80 ≢ 0))
+IsCut n = (n ≤ MAX_HEADER_FILE) × ((n ≡ 0) ⊎ (n % 80 ≢ 0))
 
 -- the refusal of so many bytes
 abbrev pub IsCutError : ℕ → HeadersError → Type 0
@@ -25,13 +27,13 @@ IsCutError n OutOfMemory = ⊥
 -- Where more than 83,886,080 bytes are there, one byte past that number came.
 abbrev pub Tells : ℕ → List ℕ → Type 0 → Result Table HeadersError → Type 0
 Tells first came whole (Ok table) = whole × IsTableOf first came table
-Tells first came whole (Err (BadHeaders n)) = (n ≡ length came) × ((whole × IsCut n) ⊎ (n ≡ 83886081))
+Tells first came whole (Err (BadHeaders n)) = (n ≡ length came) × ((whole × IsCut n) ⊎ (n ≡ MAX_HEADER_FILE + 1))
 Tells first came whole (Err ReadFault) = Unit {0}
 Tells first came whole (Err OutOfMemory) = Unit {0}
 
 pub record ReadsTable (first : ℕ) (old new : Option (List ℕ)) (result : Result Table HeadersError) : Type 0 where
   -- what the reads gave
   pub came : List ℕ
-  pub consumed : Consumes old new came
-  pub at_most : length came ≤ 83886081
+  pub gave : Gives old new came
+  pub at_most : length came ≤ MAX_HEADER_FILE + 1
   pub tells : Tells first came (IsAtEnd new) result

@@ -1,17 +1,15 @@
 //! A table of block headers by height.
 ghost use Rattle.std.specs.Prelude.{◌≡◌, ◌+◌, ◌-◌, ◌^◌, ◌≤◌, ℕ, length, drop, IfOk, IfErr, IsErrOf};
-ghost use Rattle.ots_io.specs.Cause.{HasCauseWhere};
+ghost use Rattle.ots_base.specs.Cause.{HasCauseWhere};
 ghost use Rattle.ots_bitcoin.specs.Header.{header_in};
 ghost use Rattle.ots_bitcoin.specs.HeaderTable.{header_at, table_in, IsTable};
 ghost use Rattle.ots_bitcoin.specs.TableRead.{IsTableOf, IsCutError, ReadsTable};
 
 use crate::header::Header;
-use ots_io::{ReadAllError, Source, read_all};
+use ots_base::MAX_HEADER_FILE;
+use ots_outside::{ReadAllError, Source, read_all};
 use std::alloc::Global;
 use std::marker::Model;
-
-/// The greatest length of a table, in bytes: 1,048,576 headers.
-const LIMIT: u64 = 83_886_080;
 
 /// Why no header table was read.
 #[derive(Clone, Copy, Debug, PartialEq, Eq)]
@@ -58,10 +56,10 @@ impl Headers {
         ensures cause { HasCauseWhere (IsErrOf result HeadersError.ReadFault) (S.faults source.old) (S.faults source.new) }
         ensures same { S.same source.old source.new }
     {
-        match read_all(alloc, source, LIMIT) {
+        match read_all(alloc, source, MAX_HEADER_FILE) {
             Ok(bytes) => table_of(first, bytes),
             Err(ReadAllError::ReadFault) => Err(HeadersError::ReadFault),
-            Err(ReadAllError::TooBig) => Err(HeadersError::BadHeaders(LIMIT + 1)),
+            Err(ReadAllError::TooBig) => Err(HeadersError::BadHeaders(MAX_HEADER_FILE + 1)),
             Err(ReadAllError::OutOfMemory) => Err(HeadersError::OutOfMemory),
         }
     }
@@ -100,7 +98,7 @@ impl Headers {
 /// The table that these bytes are.
 fn table_of(first: u64, bytes: Vec<u8>) -> Result<Headers, HeadersError>
     requires first { first ≤ 2 ^ 63 - 1 }
-    requires length { length bytes.items ≤ 83886080 }
+    requires length { length bytes.items ≤ MAX_HEADER_FILE }
     ensures ok { IfOk result (IsTableOf first bytes.items) }
     ensures err { IfErr result (IsCutError (length bytes.items)) }
 {
@@ -110,7 +108,7 @@ fn table_of(first: u64, bytes: Vec<u8>) -> Result<Headers, HeadersError>
 
 /// Whether there are so many bytes that they are whole headers, and at least one.
 fn check_length(bytes: &[u8]) -> Result<(), HeadersError>
-    requires { length bytes.now ≤ 83886080 }
+    requires { length bytes.now ≤ MAX_HEADER_FILE }
     ensures ok { IfOk result (λ _. (first : ℕ) → first ≤ 2 ^ 63 - 1 → IsTableOf first bytes.now (table_in first bytes.now)) }
     ensures err { IfErr result (IsCutError (length bytes.now)) }
 {

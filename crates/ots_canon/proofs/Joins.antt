@@ -10,9 +10,9 @@ use Rattle.std.proofs.lemmas.Cmp.{tied_itself}
 use Rattle.std.proofs.lemmas.List.{take_more_same, get_or_default}
 use Rattle.ots_tree.specs.declared.token.Token.{Token}
 use Rattle.ots_tree.specs.declared.token.Token.TheVariants as token
-use Rattle.ots_tree.specs.Wire.{Node, Path, paths, pre, IsPre, IsToken}
+use Rattle.ots_tree.specs.Wire.{Node, Path, paths, pre, spelled, IsPre, IsToken}
 use Rattle.ots_tree.specs.Sound.{IsSoundPath, IsSoundPre}
-use Rattle.ots_tree.proofs.Determined.{same_pre}
+use Rattle.ots_tree.proofs.Determined.{bytes-apart, same_pre}
 use Rattle.ots_canon.specs.Order.{step_cmp, Has, HaveSame}
 use Rattle.ots_canon.specs.Canonical.{IsTreeOf, IsCanonTree, IsCanonOf}
 use Rattle.ots_canon.specs.Join.{HaveSamePaths, IsJoinOf}
@@ -160,3 +160,15 @@ same_digest x y e = same_text x y (turned (bytes_eq x y) e)
     turned : (b : Bool) → false ≡ not b → true ≡ b
     turned true f = refl
     turned false f = absurd cc
+
+-- The bytes of two canonical trees are the same exactly where their tokens are.
+pub same_bytes : (ts us vs ws : List Token) → IsCanonOf ts vs → IsCanonOf us ws → AllByRecursion IsToken vs → AllByRecursion IsToken ws
+    → (spelled vs ≡ spelled ws) ↔ HaveSamePaths ts us
+same_bytes ts us vs ws f g fit also =
+    let law = same_forms ts us vs ws f g in (
+      (λ e.
+          let both = bytes-apart f.form.node g.form.node [] [] (subst (AllByRecursion IsToken) (sym f.form.are) fit) (subst (AllByRecursion IsToken) (sym g.form.are) also)
+          (ap (λ (z : List ℕ). z ++ []) (ap spelled f.form.are ∙ e ∙ sym (ap spelled g.form.are))) in
+          law.0 (sym f.form.are ∙ ap pre both.0 ∙ g.form.are)),
+      (λ h. ap spelled (law.1 h)),
+    )

@@ -4,7 +4,7 @@ ghost use Rattle.ots_canon.specs.Charted.{ArePlaces, AreEnds};
 ghost use Rattle.ots_canon.specs.Ways.{paths_of_all};
 ghost use Rattle.ots_canon.specs.Behind.{behind};
 
-use ots_io::OutOfMemory;
+use ots_base::OutOfMemory;
 use ots_tree::Token;
 use std::alloc::Global;
 

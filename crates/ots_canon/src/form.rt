@@ -9,7 +9,7 @@ use crate::chart::{ends_of, places_of};
 use crate::meeting::Chart;
 use crate::sorting::sort_ends;
 use crate::writing::tree_tokens;
-use ots_io::OutOfMemory;
+use ots_base::OutOfMemory;
 use ots_tree::{Token, Tree, from_tokens};
 use std::alloc::Global;
 

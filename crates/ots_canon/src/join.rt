@@ -6,7 +6,7 @@ ghost use Rattle.ots_canon.specs.Join.{HaveSamePaths, IsMergeOf, IsMergeError, I
 
 use crate::form::{canon, canonical_tokens};
 use crate::meeting::compare_steps;
-use ots_io::OutOfMemory;
+use ots_base::OutOfMemory;
 use ots_ops::{Digest, HashOp};
 use ots_tree::{Detached, Token, Tree, from_tokens, limits_of_detached};
 use std::alloc::Global;

@@ -13,7 +13,7 @@ use crate::form::canon;
 use crate::meeting::Chart;
 use crate::writing::tree_tokens;
 use ots_attest::Attestation;
-use ots_io::OutOfMemory;
+use ots_base::OutOfMemory;
 use ots_tree::{Token, Tree, from_tokens};
 use std::alloc::Global;
 

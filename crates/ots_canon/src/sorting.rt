@@ -5,7 +5,7 @@ ghost use Rattle.ots_canon.specs.Charted.{ArePlaces};
 ghost use Rattle.ots_canon.specs.Falling.{IsFalling};
 
 use crate::meeting::Chart;
-use ots_io::OutOfMemory;
+use ots_base::OutOfMemory;
 
 /// Puts the ends of paths in the order of the paths, the last one first.
 pub(crate) fn sort_ends(chart: &Chart, ends: &mut Vec<usize>) -> Result<(), OutOfMemory>

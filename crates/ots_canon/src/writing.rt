@@ -8,7 +8,7 @@ ghost use Rattle.ots_canon.specs.Ways.{all_steps_at};
 ghost use Rattle.ots_canon.specs.Written.{HavePaths, IsTreeOfEnds, IsPutOrSame, IsShut, stepped};
 
 use crate::meeting::Chart;
-use ots_io::OutOfMemory;
+use ots_base::OutOfMemory;
 use ots_tree::Token;
 use std::alloc::Global;
 use std::cmp::Ordering;

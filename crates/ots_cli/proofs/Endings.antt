@@ -1,10 +1,11 @@
 -- How a command comes to its end.
-use Rattle.std.proofs.Common.{◌≡◌, ℕ, ◌≤◌, List, [], ◌∷◌, take, arith, Option, Some, None, refl, sym, ap, subst, ◌∙◌, inl, inr}
+use Rattle.std.proofs.Common.{◌≡◌, ℕ, ◌≤◌, length, List, [], ◌∷◌, take, Option, Some, None, refl, sym, ap, subst, ◌∙◌, inl, inr}
 use Rattle.std.specs.Prelude.{Result, Ok, Err, IfOk, string_bytes}
-use Rattle.ots_io.specs.Cause.{Rose}
-use Rattle.ots_io.specs.Shelf.{Names}
-use Rattle.ots_io.specs.Written.{with_name}
-use Rattle.ots_io.specs.declared.out_of_memory.OutOfMemory.{OutOfMemory as Short}
+use Rattle.ots_base.specs.Cause.{Rose}
+use Rattle.ots_base.specs.declared.limits.TheConstants.{MAX_PROOF_FILE}
+use Rattle.ots_outside.specs.Shelf.{Names, ShelfFaults}
+use Rattle.ots_outside.specs.Written.{with_name}
+use Rattle.ots_base.specs.declared.out_of_memory.OutOfMemory.{OutOfMemory as Short}
 use Rattle.ots_tree.specs.declared.detached.Detached.{Detached}
 use Rattle.ots_detached.specs.File.{IsFileOf, file_of}
 use Rattle.ots_cli.specs.declared.answer.Answer.{Answer}
@@ -43,7 +44,7 @@ some_is s t e = cc
 pub wider : (old new : Option Names) (A B : Ending → Type 0) (R Q : List ℕ → Type 0) (rose risen : Type 0) (s : Status) (text : List ℕ)
     → ((e : Ending) → A e → B e) → ((name : List ℕ) → R name → Q name) → (rose → risen) → ComesTo old new A R rose s text → ComesTo old new B Q risen s text
 wider old new A B R Q rose risen s text f g h (ends e a status printed files) = ends e (f e a) status printed files
-wider old new A B R Q rose risen s text f g h (reads_no_more name read fault status printed same) = reads_no_more name (g name read) (h fault) status printed same
+wider old new A B R Q rose risen s text f g h (reads_no_more name read status printed same) = reads_no_more name (g name read) status printed same
 wider old new A B R Q rose risen s text f g h (writes_no_more e name made a broken fault status printed files) =
     writes_no_more e name made (f e a) broken (h fault) status printed files
 
@@ -52,9 +53,9 @@ wider_leaves old new A B f (no_file_made same) = no_file_made same
 wider_leaves old new A B f (all_made e a files) = all_made e (f e a) files
 wider_leaves old new A B f (some_made e name made a broken files) = some_made e name made (f e a) broken files
 
--- a count that rose later, or earlier, rose
-pub rose_later : (a b c : ℕ) → a ≤ b → Rose b c → Rose a c
-rose_later a b c before rose = omega arith
+-- what failed behind a read, failed
+pub behind_a_read : (a b c : ℕ) → b ≡ a → Rose b c → Rose a c
+behind_a_read a b c same rose = subst (λ (n : ℕ). Rose n c) same rose
 
 -- what comes behind a read, which leaves the names
 pub later_comes : (old mid new : Option Names) (A : Option Names → Ending → Type 0) (B : Ending → Type 0) (R Q : List ℕ → Type 0) (rose risen : Type 0) (r : Result Answer Short)
@@ -71,16 +72,16 @@ later_leaves old mid new A B same f h = wider_leaves old new (A old) B f (subst 
 
 -- what a command comes to that ends with the refusal of a name that it reads
 module _ (old new : Option Names) (Refuses : List ℕ → Status → Type 0) (A : Ending → Type 0) (R : List ℕ → Type 0) (rose : Type 0) (name : List ℕ)
-    (reads : R name) (answers : (d : Ending) → RefusesInput old name Refuses d → A d) (same : new ≡ old) where
+    (answers : (d : Ending) → RefusesInput old name Refuses d → A d) (same : new ≡ old) where
   bytes_refused : (s t : Status) (text : List ℕ) → s ≡ t → text ≡ refusal_text name s → HasUnder old name (λ bytes. Refuses bytes t) → ComesTo old new A R rose s text
   bytes_refused s t text is printed why =
       ends (refused name t) (answers (refused name t) (refuses t why refl)) is (printed ∙ ap (refusal_text name) is) (adds_none old new same)
 
   refused_at : (e : InputError) (s : Status) (text : List ℕ) → Some s ≡ status_of e → text ≡ refusal_text name s
-      → IsRefusal old name Refuses e → (e ≡ input.ReadFault → rose) → ComesTo old new A R rose s text
+      → IsRefusal old name Refuses e → (e ≡ input.ReadFault → R name) → ComesTo old new A R rose s text
   refused_at input.ReadFault s text is printed read fault =
       let status = some_is s ReadFault is in
-      reads_no_more name reads (fault refl) status (printed ∙ ap (refusal_text name) status) same
+      reads_no_more name (fault refl) status (printed ∙ ap (refusal_text name) status) same
   refused_at input.NoFile s text is printed read fault =
       let status = some_is s NoFile is in
       ends (refused name NoFile) (answers (refused name NoFile) (no_file read refl)) status (printed ∙ ap (refusal_text name) status) (adds_none old new same)
@@ -92,7 +93,7 @@ module _ (old new : Option Names) (Refuses : List ℕ → Status → Type 0) (A 
 
   pub refused_comes : (e : InputError) (r : Result Answer Short)
       → IfOk r (λ a. Some a.status ≡ status_of e) → IfOk r (λ a. string_bytes a.text ≡ refusal_text name a.status)
-      → IsRefusal old name Refuses e → (e ≡ input.ReadFault → rose) → IfOk r (λ a. ComesTo old new A R rose a.status (string_bytes a.text))
+      → IsRefusal old name Refuses e → (e ≡ input.ReadFault → R name) → IfOk r (λ a. ComesTo old new A R rose a.status (string_bytes a.text))
   refused_comes e (Ok a) is printed read fault = refused_at e a.status (string_bytes a.text) is printed read fault
   refused_comes e (Err x) is printed read fault = tt
 
@@ -140,15 +141,15 @@ adds_one : (old new : Option Names) (f : File) → new ≡ with_name f.name f.by
 adds_one None new f is = is
 adds_one (Some names) new f is = is
 
-is_done : (old new : Option Names) (name : List ℕ) (p : Detached) → Outputs name (file_of p) old new (Ok tt) → Writes old name p (done name p)
-is_done old new name p h = is_made h.0 h.1 refl
+is_done : (old new : Option Names) (name : List ℕ) (p : Detached) → (length (file_of p) ≤ MAX_PROOF_FILE → IsFileOf (file_of p) p) → Outputs name (file_of p) old new (Ok tt) → Writes old name p (done name p)
+is_done old new name p reads h = is_made (reads h.0) h.1 refl
 
 pub written_comes : (old new : Option Names) (name : List ℕ) (p : Detached) (R : List ℕ → Type 0) (rose : Type 0) (text : List ℕ)
-    → Outputs name (file_of p) old new (Ok tt) → text ≡ [] → ComesTo old new (Writes old name p) R rose Done text
-written_comes old new name p R rose text h none = ends (done name p) (is_done old new name p h) refl none (adds_one old new (made name p) h.2)
+    → (length (file_of p) ≤ MAX_PROOF_FILE → IsFileOf (file_of p) p) → Outputs name (file_of p) old new (Ok tt) → text ≡ [] → ComesTo old new (Writes old name p) R rose Done text
+written_comes old new name p R rose text reads h none = ends (done name p) (is_done old new name p reads h) refl none (adds_one old new (made name p) h.2)
 
-pub written_leaves : (old new : Option Names) (name : List ℕ) (p : Detached) → Outputs name (file_of p) old new (Ok tt) → Leaves old new (Writes old name p)
-written_leaves old new name p h = all_made (done name p) (is_done old new name p h) (adds_one old new (made name p) h.2)
+pub written_leaves : (old new : Option Names) (name : List ℕ) (p : Detached) → (length (file_of p) ≤ MAX_PROOF_FILE → IsFileOf (file_of p) p) → Outputs name (file_of p) old new (Ok tt) → Leaves old new (Writes old name p)
+written_leaves old new name p reads h = all_made (done name p) (is_done old new name p reads h) (adds_one old new (made name p) h.2)
 
 pub too_long_comes : (old new : Option Names) (name : List ℕ) (p : Detached) (R : List ℕ → Type 0) (rose : Type 0) (r : Result Answer Short)
     → Outputs name (file_of p) old new (Err output.TooBig) → IfOk r (λ a. a.status ≡ TooBig) → IfOk r (λ a. string_bytes a.text ≡ refusal_text name TooBig)
@@ -169,20 +170,20 @@ broken_with old new name p P f (size, absent, inr (n, is)) =
     f (front ∷ []) (not_whole [] [] (made name p) n refl refl refl) (adds_one old new front is)
 
 fault_comes : (old new : Option Names) (name : List ℕ) (p : Detached) (R : List ℕ → Type 0) (rose : Type 0) (s : Status) (text : List ℕ)
-    → Outputs name (file_of p) old new (Err output.WriteFault) → rose → s ≡ WriteFault → text ≡ refusal_text name WriteFault → ComesTo old new (Writes old name p) R rose s text
-fault_comes old new name p R rose s text h fault is printed =
+    → (length (file_of p) ≤ MAX_PROOF_FILE → IsFileOf (file_of p) p) → Outputs name (file_of p) old new (Err output.WriteFault) → rose → s ≡ WriteFault → text ≡ refusal_text name WriteFault → ComesTo old new (Writes old name p) R rose s text
+fault_comes old new name p R rose s text reads h fault is printed =
     broken_with old new name p (ComesTo old new (Writes old name p) R rose s text)
-    (λ some broken adds. writes_no_more (done name p) name some (is_made h.0 h.1 refl) broken fault is printed adds) h
+    (λ some broken adds. writes_no_more (done name p) name some (is_made (reads h.0) h.1 refl) broken fault is printed adds) h
 
 pub write_fault_comes : (old new : Option Names) (name : List ℕ) (p : Detached) (R : List ℕ → Type 0) (rose : Type 0) (r : Result Answer Short)
-    → Outputs name (file_of p) old new (Err output.WriteFault) → rose → IfOk r (λ a. a.status ≡ WriteFault)
+    → (length (file_of p) ≤ MAX_PROOF_FILE → IsFileOf (file_of p) p) → Outputs name (file_of p) old new (Err output.WriteFault) → rose → IfOk r (λ a. a.status ≡ WriteFault)
     → IfOk r (λ a. string_bytes a.text ≡ refusal_text name WriteFault) → IfOk r (λ a. ComesTo old new (Writes old name p) R rose a.status (string_bytes a.text))
-write_fault_comes old new name p R rose (Ok a) h fault is printed = fault_comes old new name p R rose a.status (string_bytes a.text) h fault is printed
-write_fault_comes old new name p R rose (Err x) h fault is printed = tt
+write_fault_comes old new name p R rose (Ok a) reads h fault is printed = fault_comes old new name p R rose a.status (string_bytes a.text) reads h fault is printed
+write_fault_comes old new name p R rose (Err x) reads h fault is printed = tt
 
-pub write_fault_leaves : (old new : Option Names) (name : List ℕ) (p : Detached) → Outputs name (file_of p) old new (Err output.WriteFault) → Leaves old new (Writes old name p)
-write_fault_leaves old new name p h =
-    broken_with old new name p (Leaves old new (Writes old name p)) (λ some broken adds. some_made (done name p) name some (is_made h.0 h.1 refl) broken adds) h
+pub write_fault_leaves : (old new : Option Names) (name : List ℕ) (p : Detached) → (length (file_of p) ≤ MAX_PROOF_FILE → IsFileOf (file_of p) p) → Outputs name (file_of p) old new (Err output.WriteFault) → Leaves old new (Writes old name p)
+write_fault_leaves old new name p reads h =
+    broken_with old new name p (Leaves old new (Writes old name p)) (λ some broken adds. some_made (done name p) name some (is_made (reads h.0) h.1 refl) broken adds) h
 
 -- ---- the words
 
@@ -197,11 +198,11 @@ usage_comes old command R rose r none is printed =
 pub same_leaves : (old new : Option Names) (c d : Option Command) → c ≡ d → Leaves old new (Answers old d) → Leaves old new (Answers old c)
 same_leaves old new c d same h = subst (λ (z : Option Command). Leaves old new (Answers old z)) (sym same) h
 
-pub same_comes : (old new : Option Names) (before after : Option (List (List ℕ))) (c d : Option Command) (rose : Type 0) (r : Result Answer Short) → c ≡ d
-    → IfOk r (λ a. ComesTo old new (Answers old d) (StopsAt (names_read d) before after) rose a.status (string_bytes a.text))
-    → IfOk r (λ a. ComesTo old new (Answers old c) (StopsAt (names_read c) before after) rose a.status (string_bytes a.text))
-same_comes old new before after c d rose r same h =
-    subst (λ (z : Option Command). IfOk r (λ a. ComesTo old new (Answers old z) (StopsAt (names_read z) before after) rose a.status (string_bytes a.text))) (sym same) h
+pub same_comes : (old new : Option Names) (before after : Option (List (List ℕ))) (f g : ShelfFaults) (c d : Option Command) (rose : Type 0) (r : Result Answer Short) → c ≡ d
+    → IfOk r (λ a. ComesTo old new (Answers old d) (StopsAt (names_read d) before after f g) rose a.status (string_bytes a.text))
+    → IfOk r (λ a. ComesTo old new (Answers old c) (StopsAt (names_read c) before after f g) rose a.status (string_bytes a.text))
+same_comes old new before after f g c d rose r same h =
+    subst (λ (z : Option Command). IfOk r (λ a. ComesTo old new (Answers old z) (StopsAt (names_read z) before after f g) rose a.status (string_bytes a.text))) (sym same) h
 
 pub same_opened : (before after : Option (List (List ℕ))) (c d : Option Command) → c ≡ d → OpensFront (names_read d) before after → OpensFront (names_read c) before after
 same_opened before after c d same h = subst (λ (z : Option Command). OpensFront (names_read z) before after) (sym same) h

@@ -7,3 +7,4 @@ pub mod Numbers
 pub mod Opened
 pub mod Yes
 pub mod Taken
+pub mod ReadsBack

@@ -3,7 +3,7 @@ use Rattle.std.proofs.Common.{◌≡◌, ℕ, List, Option, Some, None, inl, inr
 use Rattle.std.specs.Prelude.{IsSome}
 use Rattle.std.proofs.lemmas.Bool.{false≢true}
 use Rattle.std.specs.FinMap as map
-use Rattle.ots_io.specs.Shelf.{Names}
+use Rattle.ots_outside.specs.Shelf.{Names}
 use Rattle.ots_tree.specs.declared.detached.Detached.{Detached}
 use Rattle.ots_reader.specs.declared.fault.Fault.{Fault}
 use Rattle.ots_detached.specs.File.{IsFileOf}
@@ -139,11 +139,11 @@ is_there (Some b) some none = cc
 one_writing : (names : Names) (name : List ℕ) (r : Detached) (d e : Ending) → Writes (Some names) name r d → Writes (Some names) name r e → d.status ≡ e.status
 one_writing names name r d e (too_long long f) (too_long long' g) = ap (λ (z : Ending). z.status) (f ∙ sym g)
 one_writing names name r d e (too_long long f) (exists fits there g) = absurd (omega arith)
-one_writing names name r d e (too_long long f) (is_made fits absent g) = absurd (omega arith)
+one_writing names name r d e (too_long long f) (is_made is absent g) = absurd (let fits = file_size _ r is in omega arith)
 one_writing names name r d e (exists fits there f) (too_long long g) = absurd (omega arith)
 one_writing names name r d e (exists fits there f) (exists fits' there' g) = ap (λ (z : Ending). z.status) (f ∙ sym g)
 one_writing names name r d e (exists fits there f) (is_made fits' absent g) = absurd (is_there (map.get names name) there absent)
-one_writing names name r d e (is_made fits absent f) (too_long long g) = absurd (omega arith)
+one_writing names name r d e (is_made is absent f) (too_long long g) = absurd (let fits = file_size _ r is in omega arith)
 one_writing names name r d e (is_made fits absent f) (exists fits' there g) = absurd (is_there (map.get names name) there absent)
 one_writing names name r d e (is_made fits absent f) (is_made fits' absent' g) = ap (λ (z : Ending). z.status) (f ∙ sym g)
 
@@ -209,7 +209,7 @@ unless s OutOfMemory e = tt
 comes_exact : (old new : Option Names) (command : Option Command) (R : List ℕ → Type 0) (rose : Type 0) (r : Status) (t : List ℕ) (e : Ending)
     → ComesTo old new (Answers old command) R rose r t → IsSome old → Answers old command e → UnlessFailed e.status r
 comes_exact old new command R rose r t e (ends d h status text files) known is = unless e.status r (status ∙ one_status old command d e known h is)
-comes_exact old new command R rose r t e (reads_no_more name read fault status text names) known is = subst (UnlessFailed e.status) (sym status) tt
+comes_exact old new command R rose r t e (reads_no_more name read status text names) known is = subst (UnlessFailed e.status) (sym status) tt
 comes_exact old new command R rose r t e (writes_no_more d name made h broken fault status text names) known is = subst (UnlessFailed e.status) (sym status) tt
 
 pub exact : (old new : Option Names) (command : Option Command) (R : List ℕ → Type 0) (rose lost : Type 0) (before after : Option (List ℕ)) (r : Status) (e : Ending)

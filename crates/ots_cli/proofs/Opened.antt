@@ -1,6 +1,10 @@
 -- Which names were opened, read after read.
-use Rattle.std.proofs.Common.{◌≡◌, ◌⊎◌, ℕ, suc, List, [], ◌∷◌, ◌++◌, take, Option, Some, None, option_map, refl, sym, ap, subst, ◌∙◌, inl, inr, append-nil, append_assoc}
-use Rattle.ots_cli.specs.Opened.{Opens, OpensFront, StopsAt, not_opened, opened_last, names_of}
+use Rattle.std.proofs.Common.{◌≡◌, ◌≤◌, ℕ, suc, List, [], ◌∷◌, ◌++◌, take, Option, Some, None, option_map, refl, sym, ap, subst, ◌∙◌, inl, inr, append-nil, append_assoc, arith}
+use Rattle.ots_base.specs.Cause.{Rose}
+use Rattle.ots_outside.specs.Shelf.{NeverFalls, ShelfFaults}
+use Rattle.ots_cli.specs.declared.input.InputError.{InputError}
+use Rattle.ots_cli.specs.declared.input.InputError.TheVariants.{ReadFault}
+use Rattle.ots_cli.specs.Opened.{IsOpenedOrNot, Opens, OpensFront, StopsAt, not_opened, opened_last, names_of}
 use Rattle.ots_cli.specs.Words.{HeaderFile}
 
 abbrev Told : Type 0
@@ -20,38 +24,51 @@ pub then_opened : (name : List ℕ) (rest : List (List ℕ)) (old mid new : Told
 then_opened name rest old mid new first (n, then) = (suc n, joined name (take n rest) old mid new first then)
 
 -- a refusal of the first name
-pub first_refused : (name : List ℕ) (rest : List (List ℕ)) (old new : Told) → Opens [] old new ⊎ Opens (name ∷ []) old new → OpensFront (name ∷ rest) old new
-first_refused name rest old new (inl none) = (0, none)
-first_refused name rest old new (inr one) = (1, one)
+pub first_refused : (name : List ℕ) (rest : List (List ℕ)) (old new : Told) (before now : ShelfFaults) (e : InputError)
+    → IsOpenedOrNot name old new before now e → OpensFront (name ∷ rest) old new
+first_refused name rest old new before now e (inl none) = (0, none.0)
+first_refused name rest old new before now e (inr one) = (1, one.0)
 
-pub stops_here : (name : List ℕ) (rest : List (List ℕ)) (old new : Told) → Opens [] old new ⊎ Opens (name ∷ []) old new → StopsAt (name ∷ rest) old new name
-stops_here name rest old new (inl none) = not_opened [] rest refl none
-stops_here name rest old new (inr one) = opened_last [] rest refl one
+pub stops_here : (name : List ℕ) (rest : List (List ℕ)) (old new : Told) (before now : ShelfFaults) (e : InputError)
+    → IsOpenedOrNot name old new before now e → e ≡ ReadFault → StopsAt (name ∷ rest) old new before now name
+stops_here name rest old new before now e (inl none) fault = not_opened [] rest refl none.0 (none.1 fault)
+stops_here name rest old new before now e (inr one) fault = opened_last [] rest refl one.0 (one.1 fault)
+
+-- a count that rose later rose
+pub rose_later : (a b c : ℕ) → a ≤ b → Rose b c → Rose a c
+rose_later a b c before rose = omega arith
 
 -- and of a later one
-pub stops_later : (first : List ℕ) (rest : List (List ℕ)) (old mid new : Told) (name : List ℕ) → Opens (first ∷ []) old mid → StopsAt rest mid new name
-    → StopsAt (first ∷ rest) old new name
-stops_later first rest old mid new name opened (not_opened before after is then) =
+pub stops_later : (first : List ℕ) (rest : List (List ℕ)) (old mid new : Told) (a b c : ShelfFaults) (name : List ℕ) → Opens (first ∷ []) old mid
+    → NeverFalls a b → StopsAt rest mid new b c name → StopsAt (first ∷ rest) old new a c name
+stops_later first rest old mid new a b c name opened later (not_opened before after is then rose) =
     not_opened (first ∷ before) after (ap (λ (z : List (List ℕ)). first ∷ z) is) (joined first before old mid new opened then)
-stops_later first rest old mid new name opened (opened_last before after is then) =
+    (rose_later a.opening b.opening c.opening later.opening rose)
+stops_later first rest old mid new a b c name opened later (opened_last before after is then rose) =
     opened_last (first ∷ before) after (ap (λ (z : List (List ℕ)). first ∷ z) is) (joined first (before ++ name ∷ []) old mid new opened then)
+    (rose_later a.reading b.reading c.reading later.reading rose)
 
 -- the headers that may be given are read first
 module _ (o : Option HeaderFile) (rest : List (List ℕ)) (old new : Told) where
   pub none_given : o ≡ None → OpensFront rest old new → OpensFront (names_of o ++ rest) old new
   none_given none h = subst (λ (z : Option HeaderFile). OpensFront (names_of z ++ rest) old new) (sym none) h
 
-  pub none_stops : (name : List ℕ) → o ≡ None → StopsAt rest old new name → StopsAt (names_of o ++ rest) old new name
-  none_stops name none h = subst (λ (z : Option HeaderFile). StopsAt (names_of z ++ rest) old new name) (sym none) h
+  pub none_stops : (before now : ShelfFaults) (name : List ℕ) → o ≡ None → StopsAt rest old new before now name → StopsAt (names_of o ++ rest) old new before now name
+  none_stops before now name none h = subst (λ (z : Option HeaderFile). StopsAt (names_of z ++ rest) old new before now name) (sym none) h
 
-  pub given_refused : (file : HeaderFile) → o ≡ Some file → Opens [] old new ⊎ Opens (file.name ∷ []) old new → OpensFront (names_of o ++ rest) old new
-  given_refused file is h = subst (λ (z : Option HeaderFile). OpensFront (names_of z ++ rest) old new) (sym is) (first_refused file.name rest old new h)
+  pub given_refused : (before now : ShelfFaults) (file : HeaderFile) (e : InputError) → o ≡ Some file → IsOpenedOrNot file.name old new before now e → OpensFront (names_of o ++ rest) old new
+  given_refused before now file e is h =
+      subst (λ (z : Option HeaderFile). OpensFront (names_of z ++ rest) old new) (sym is) (first_refused file.name rest old new before now e h)
 
-  pub given_stops : (file : HeaderFile) → o ≡ Some file → Opens [] old new ⊎ Opens (file.name ∷ []) old new → StopsAt (names_of o ++ rest) old new file.name
-  given_stops file is h = subst (λ (z : Option HeaderFile). StopsAt (names_of z ++ rest) old new file.name) (sym is) (stops_here file.name rest old new h)
+  pub given_stops : (before now : ShelfFaults) (file : HeaderFile) (e : InputError) → o ≡ Some file → IsOpenedOrNot file.name old new before now e → e ≡ ReadFault
+      → StopsAt (names_of o ++ rest) old new before now file.name
+  given_stops before now file e is h fault =
+      subst (λ (z : Option HeaderFile). StopsAt (names_of z ++ rest) old new before now file.name) (sym is) (stops_here file.name rest old new before now e h fault)
 
   pub given_opened : (mid : Told) (file : HeaderFile) → o ≡ Some file → Opens (file.name ∷ []) old mid → OpensFront rest mid new → OpensFront (names_of o ++ rest) old new
   given_opened mid file is first h = subst (λ (z : Option HeaderFile). OpensFront (names_of z ++ rest) old new) (sym is) (then_opened file.name rest old mid new first h)
 
-  pub stops_behind : (mid : Told) (file : HeaderFile) (name : List ℕ) → o ≡ Some file → Opens (file.name ∷ []) old mid → StopsAt rest mid new name → StopsAt (names_of o ++ rest) old new name
-  stops_behind mid file name is first h = subst (λ (z : Option HeaderFile). StopsAt (names_of z ++ rest) old new name) (sym is) (stops_later file.name rest old mid new name first h)
+  pub stops_behind : (mid : Told) (before between now : ShelfFaults) (file : HeaderFile) (name : List ℕ) → o ≡ Some file → Opens (file.name ∷ []) old mid → NeverFalls before between
+      → StopsAt rest mid new between now name → StopsAt (names_of o ++ rest) old new before now name
+  stops_behind mid before between now file name is first later h =
+      subst (λ (z : Option HeaderFile). StopsAt (names_of z ++ rest) old new before now name) (sym is) (stops_later file.name rest old mid new before between now name first later h)

@@ -1,10 +1,13 @@
 -- What was read of a name is what is under it.
-use Rattle.std.proofs.Common.{◌≡◌, ◌≤◌, ◌^◌, ℕ, List, ◌++◌, length, Option, Some, None, refl, sym, ap, subst, ◌∙◌, inl, inr, arith, append-nil, length-append}
+use Rattle.std.proofs.Common.{◌≡◌, ◌≤◌, ℕ, List, ◌++◌, length, Option, Some, None, refl, sym, ap, subst, ◌∙◌, inl, inr, arith, append-nil, length-append}
 use Rattle.std.specs.Prelude.{Result, Ok, Err, IsSome, IsErrAnd}
 use Rattle.std.specs.FinMap as map
-use Rattle.std.specs.Io.KnownBytes.{Consumes, IsAtEnd}
-use Rattle.ots_io.specs.Told.{IfTold}
-use Rattle.ots_io.specs.Shelf.{Names}
+use Rattle.std.specs.Option.{option_and_then}
+use Rattle.std.specs.Io.KnownBytes.{IsAtEnd}
+use Rattle.ots_outside.specs.Streams.{Gives}
+use Rattle.ots_base.specs.declared.limits.TheConstants.{MAX_TARGET_FILE}
+use Rattle.ots_base.specs.Told.{IfTold}
+use Rattle.ots_outside.specs.Shelf.{Names}
 use Rattle.ots_ops.specs.declared.hash_op.HashOp.{HashOp}
 use Rattle.ots_tree.specs.declared.detached.Detached.{Detached}
 use Rattle.ots_detached.specs.File.{IsFileOf}
@@ -29,43 +32,43 @@ record IsFront (told : Option Names) (name came : List ℕ) (whole : Type 0) : T
   longer : length came ≤ length bytes
   all : whole → bytes ≡ came
 
-front_told : (found left after : Option (List ℕ)) (came : List ℕ) → IsSome found → left ≡ found → Consumes left after came
+front_told : (found left after : Option (List ℕ)) (came : List ℕ) → IsSome found → left ≡ found → Gives left after came
     → (bytes : List ℕ) × (found ≡ Some bytes) × (length came ≤ length bytes) × (IsAtEnd after → bytes ≡ came)
-front_told None left after came some is consumed = absurd cc
-front_told (Some bytes) None after came some is consumed = absurd cc
-front_told (Some bytes) (Some held) None came some is consumed = absurd consumed
-front_told (Some bytes) (Some held) (Some rest) came some is consumed =
+front_told None left after came some is gave = absurd cc
+front_told (Some bytes) None after came some is gave = absurd cc
+front_told (Some bytes) (Some held) None came some is gave = absurd gave
+front_told (Some bytes) (Some held) (Some rest) came some is gave =
     let same : held ≡ bytes = cc in
-    let split : bytes ≡ came ++ rest = sym same ∙ consumed in
+    let split : bytes ≡ came ++ rest = sym same ∙ gave in
     (bytes, refl, omega (arith, ap length split, length-append came rest), λ end. split ∙ ap (λ (z : List ℕ). came ++ z) end ∙ append-nil came)
 
 front : (told : Option Names) (name : List ℕ) (left after : Option (List ℕ)) (came : List ℕ)
-    → IfTold told (λ names. IsSome (map.get names name)) → IfTold told (λ names. left ≡ map.get names name) → Consumes left after came
+    → IfTold told (λ names. IsSome (map.get names name)) → left ≡ option_and_then (λ names. map.get names name) told → Gives left after came
     → IsFront told name came (IsAtEnd after)
-front None name left after came some is consumed = record { bytes = came; under = tt; longer = omega arith; all = λ end. refl }
-front (Some names) name left after came some is consumed =
-    let f = front_told (map.get names name) left after came some is consumed in
+front None name left after came some is gave = record { bytes = came; under = tt; longer = omega arith; all = λ end. refl }
+front (Some names) name left after came some is gave =
+    let f = front_told (map.get names name) left after came some is gave in
     record { bytes = f.0; under = f.1; longer = f.2; all = f.3 }
 
 module _ (told : Option Names) (name : List ℕ) (left after : Option (List ℕ))
-    (some : IfTold told (λ names. IsSome (map.get names name))) (is : IfTold told (λ names. left ≡ map.get names name)) where
+    (some : IfTold told (λ names. IsSome (map.get names name))) (is : left ≡ option_and_then (λ names. map.get names name) told) where
   -- a proof
   pub proof_refused : (e : FileError) → ReadsFile left after (Err e) → IsRefusal told name RefusesProof (refused_proof e)
   proof_refused reading.ReadFault read = tt
   proof_refused reading.OutOfMemory read = tt
   proof_refused reading.TooBig read =
-      let f = front told name left after read.came some is read.consumed in
+      let f = front told name left after read.came some is read.gave in
       let long = read.tells in
       let longer = f.longer in
       (f.bytes, f.under, too_big (omega arith) refl)
   proof_refused (reading.BadProof fault) read =
-      let f = front told name left after read.came some is read.consumed in
+      let f = front told name left after read.came some is read.gave in
       let all = f.all read.tells.0 in
       (f.bytes, f.under, rw all (bad_proof fault read.tells.1 read.tells.2 refl))
 
   pub proof_read : (p : Detached) → ReadsFile left after (Ok p) → ReadsInput told name IsFileOf RefusesProof (Ok p)
   proof_read p read =
-      let f = front told name left after read.came some is read.consumed in
+      let f = front told name left after read.came some is read.gave in
       (f.bytes, f.under, rw (f.all read.tells.0) read.tells.1)
 
   -- headers
@@ -73,7 +76,7 @@ module _ (told : Option Names) (name : List ℕ) (left after : Option (List ℕ)
   headers_refused first headers.ReadFault read = tt
   headers_refused first headers.OutOfMemory read = tt
   headers_refused first (headers.BadHeaders n) read =
-      let f = front told name left after read.came some is read.consumed in
+      let f = front told name left after read.came some is read.gave in
       let longer = f.longer in
       let number = read.tells.0 in
       elim read.tells.1 [
@@ -83,21 +86,21 @@ module _ (told : Option Names) (name : List ℕ) (left after : Option (List ℕ)
 
   pub headers_read : (first : ℕ) (t : Table) → ReadsTable first left after (Ok t) → ReadsInput told name (IsTableOf first) RefusesTable (Ok t)
   headers_read first t read =
-      let f = front told name left after read.came some is read.consumed in
+      let f = front told name left after read.came some is read.gave in
       (f.bytes, f.under, rw (f.all read.tells.0) read.tells.1)
 
   -- a target
-  pub target_refused : (hash : HashOp) (e : HashError) → HashesSource hash (2 ^ 40) left after (Err e) → IsRefusal told name RefusesTarget (refused_target e)
+  pub target_refused : (hash : HashOp) (e : HashError) → HashesSource hash MAX_TARGET_FILE left after (Err e) → IsRefusal told name RefusesTarget (refused_target e)
   target_refused hash hashing.ReadFault read = tt
   target_refused hash (hashing.FileTooLong n) read =
-      let f = front told name left after read.came some is read.consumed in
+      let f = front told name left after read.came some is read.gave in
       let long = read.tells.1 in
       let longer = f.longer in
       (f.bytes, f.under, (omega arith, refl))
 
-  pub target_hashed : (hash : HashOp) (d : List ℕ) → HashesSource hash (2 ^ 40) left after (Ok d) → ReadsInput told name (IsHashOf hash) RefusesTarget (Ok d)
+  pub target_hashed : (hash : HashOp) (d : List ℕ) → HashesSource hash MAX_TARGET_FILE left after (Ok d) → ReadsInput told name (IsHashOf hash) RefusesTarget (Ok d)
   target_hashed hash d read =
-      let f = front told name left after read.came some is read.consumed in
+      let f = front told name left after read.came some is read.gave in
       (f.bytes, f.under, rw (f.all read.tells.0) (read.tells.1, read.tells.2))
 
 -- an error that `?` made of a refusal

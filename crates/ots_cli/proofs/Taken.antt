@@ -1,6 +1,6 @@
 -- What a status says of the proofs that a command reads.
 use Rattle.std.proofs.Common.{◌≡◌, ℕ, List, [], ◌∷◌, Option, Some, None, inl, inr, sym, ap, subst, ◌∙◌}
-use Rattle.ots_io.specs.Shelf.{Names}
+use Rattle.ots_outside.specs.Shelf.{Names}
 use Rattle.ots_ops.specs.declared.hash_op.HashOp.{HashOp}
 use Rattle.ots_tree.specs.declared.detached.Detached.{Detached}
 use Rattle.ots_bitcoin.specs.HeaderTable.{Table}
@@ -29,7 +29,7 @@ one_more names name rest NoFile is h = tt
 one_more names name rest Exists is h = (is, h)
 one_more names name rest ReadFault is h = tt
 one_more names name rest WriteFault is h = tt
-one_more names name rest TooBig is h = tt
+one_more names name rest TooBig is h = inr (is, h)
 one_more names name rest (BadHeaders n) is h = tt
 one_more names name rest FileTooLong is h = (is, h)
 one_more names name rest (Differs h d k e) is g = (is, g)
@@ -44,7 +44,7 @@ of_proof : (names : Names) (name : List ℕ) (rest : List (List ℕ)) (P : Detac
 of_proof names name rest P e then (is_given p (b, at, is) h) = one_more names name rest e.status (b, at, (p, is)) (then p h)
 of_proof names name rest P e then (is_refused (no_file none f)) = of_status names (name ∷ rest) e.status NoFile (status_of_ending e _ f) tt
 of_proof names name rest P e then (is_refused (refuses s (b, at, too_big long is) f)) =
-    of_status names (name ∷ rest) e.status TooBig (status_of_ending e _ f ∙ is) tt
+    of_status names (name ∷ rest) e.status TooBig (status_of_ending e _ f ∙ is) (inl (b, at, long))
 of_proof names name rest P e then (is_refused (refuses s (b, at, bad_proof k fits has is) f)) =
     of_status names (name ∷ rest) e.status (BadProof k) (status_of_ending e _ f ∙ is) (inl (b, at, (fits, has)))
 
@@ -97,7 +97,7 @@ module _ (names : Names) (c : Command) where
   comes_taken : (new : Option Names) (R : List ℕ → Type 0) (rose : Type 0) (s : Status) (text : List ℕ)
       → ComesTo (Some names) new (Answers (Some names) (Some c)) R rose s text → TakesProofs names (proofs_read c) s
   comes_taken new R rose s text (ends e answers status printed files) = of_status names (proofs_read c) s e.status status (takes names c e answers)
-  comes_taken new R rose s text (reads_no_more name stops fault status printed same) = of_status names (proofs_read c) s ReadFault status tt
+  comes_taken new R rose s text (reads_no_more name stops status printed same) = of_status names (proofs_read c) s ReadFault status tt
   comes_taken new R rose s text (writes_no_more e name made answers broken fault status printed files) = of_status names (proofs_read c) s WriteFault status tt
 
   pub are_taken : (old new : Option Names) (command : Option Command) (R : List ℕ → Type 0) (rose lost : Type 0) (before after : Option (List ℕ)) (s : Status)

@@ -1,6 +1,6 @@
 -- `verify` is done exactly where some path takes the target's digest to a given root.
 use Rattle.std.proofs.Common.{◌≡◌, ℕ, List, Option, Some, None, refl, sym, ap, subst, ◌∙◌}
-use Rattle.ots_io.specs.Shelf.{Names}
+use Rattle.ots_outside.specs.Shelf.{Names}
 use Rattle.ots_ops.specs.Hashed.{hashed}
 use Rattle.ots_tree.specs.declared.detached.Detached.{Detached}
 use Rattle.ots_bitcoin.specs.HeaderTable.{Table}
@@ -73,7 +73,7 @@ module _ (names : Names) (v : Verification) (b : Table) (l : Option Table) (p : 
       let is : s ≡ verdict_status printed_verdict.0 = status ∙ ap (λ (z : Ending). z.status) printed_verdict.2 in
       exactly (SaysYes p target b l) s (λ done. yes_says p target b l printed_verdict.0 printed_verdict.1 (sym is ∙ done))
       (λ says. is ∙ says_yes p target b l printed_verdict.0 printed_verdict.1 says)
-  comes_exactly new R rose s text (reads_no_more name stops fault status printed same) = subst (IsDoneExactlyWhere (SaysYes p target b l)) (sym status) tt
+  comes_exactly new R rose s text (reads_no_more name stops status printed same) = subst (IsDoneExactlyWhere (SaysYes p target b l)) (sym status) tt
   comes_exactly new R rose s text (writes_no_more e name made answers broken fault status printed files) =
       subst (IsDoneExactlyWhere (SaysYes p target b l)) (sym status) tt
 

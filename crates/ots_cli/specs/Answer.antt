@@ -1,8 +1,8 @@
 -- What a command answers, prints and writes, and what stands after each status.
 use Rattle.std.specs.Prelude.{◌≡◌, ◌⊎◌, ◌<◌, ◌≤◌, ℕ, List, [], ◌∷◌, length, Option, Some, None}
-use Rattle.std.specs.Io.KnownBytes.{Appends, Keeps}
-use Rattle.ots_io.specs.Shelf.{Names}
-use Rattle.ots_io.specs.Input.{AppendsFront}
+use Rattle.ots_base.specs.declared.limits.TheConstants.{MAX_PROOF_FILE}
+use Rattle.ots_outside.specs.Shelf.{Names}
+use Rattle.ots_outside.specs.Streams.{Takes, TakesFront}
 use Rattle.ots_tree.specs.declared.detached.Detached.{Detached}
 use Rattle.ots_ops.specs.declared.hash_op.HashOp.{HashOp}
 use Rattle.ots_detached.specs.File.{IsFileOf, file_of}
@@ -57,9 +57,9 @@ pub record PrintsInfo (proof : Detached) (e : Ending) : Type 0 where
 
 -- A proof is written under a name: it is too long for a file, or the name is there already, or the file is made.
 pub data Writes (told : Option Names) (name : List ℕ) (proof : Detached) (e : Ending) : Type 0 where
-  too_long : 4194304 < length (file_of proof) → e ≡ refused name TooBig → Writes told name proof e
-  exists : length (file_of proof) ≤ 4194304 → IsThere told name → e ≡ refused name Exists → Writes told name proof e
-  is_made : length (file_of proof) ≤ 4194304 → IsUnder told name None
+  too_long : MAX_PROOF_FILE < length (file_of proof) → e ≡ refused name TooBig → Writes told name proof e
+  exists : length (file_of proof) ≤ MAX_PROOF_FILE → IsThere told name → e ≡ refused name Exists → Writes told name proof e
+  is_made : IsFileOf (file_of proof) proof → IsUnder told name None
       → e ≡ record { status = Done; text = []; files = record { name = name; bytes = file_of proof } ∷ [] } → Writes told name proof e
 
 -- A result is written.
@@ -101,12 +101,13 @@ Answers told (Some (verify v)) e = Verifies told v e
 
 -- ---- what it comes to where calls of the shelf may fail, before it is printed
 
--- `answers` says how it ends where nothing fails, and `stops_at` of a name that reading stopped there.
+-- `answers` says how it ends where nothing fails, `stops_at` of a name that reading it failed, and `rose` that creating or
+-- writing a file did.
 pub data ComesTo (old new : Option Names) (answers : Ending → Type 0) (stops_at : List ℕ → Type 0) (rose : Type 0) (status : Status) (text : List ℕ) : Type 0 where
   -- it ends as it is defined
   ends : (e : Ending) → answers e → status ≡ e.status → text ≡ e.text → AddsFiles e.files old new → ComesTo old new answers stops_at rose status text
   -- a read failed, and no file is made
-  reads_no_more : (name : List ℕ) → stops_at name → rose → status ≡ ReadFault → text ≡ refusal_text name ReadFault → new ≡ old
+  reads_no_more : (name : List ℕ) → stops_at name → status ≡ ReadFault → text ≡ refusal_text name ReadFault → new ≡ old
       → ComesTo old new answers stops_at rose status text
   -- a file was to be made, which is not whole
   writes_no_more : (e : Ending) (name : List ℕ) (made : List File) → answers e → IsBroken name e.files made → rose → status ≡ WriteFault
@@ -124,15 +125,15 @@ pub data Leaves (old new : Option Names) (answers : Ending → Type 0) : Type 0 
 -- What a sink that held `old` has taken where a command ended with this status: nothing where memory ran out, a front
 -- of the text where the sink failed, and otherwise the whole text. A file that is not whole has a line of its own.
 pub data Ends (comes : Status → List ℕ → Type 0) (rose : Type 0) (old new : Option (List ℕ)) (status : Status) : Type 0 where
-  prints_nothing : status ≡ OutOfMemory → Keeps old new → Ends comes rose old new status
-  prints_a_front : (other : Status) (text : List ℕ) → status ≡ WriteFault → rose → comes other text → AppendsFront old new text
+  prints_nothing : status ≡ OutOfMemory → new ≡ old → Ends comes rose old new status
+  prints_a_front : (other : Status) (text : List ℕ) → status ≡ WriteFault → rose → comes other text → TakesFront old new text
       → Ends comes rose old new status
-  prints : (text : List ℕ) → comes status text → Appends old new text → Ends comes rose old new status
+  prints : (text : List ℕ) → comes status text → Takes old new text → Ends comes rose old new status
 
 -- Printing a text: all of it was taken, or a front of it at a fault of the sink.
 abbrev pub Prints : Status → List ℕ → Type 0 → Option (List ℕ) → Option (List ℕ) → Status → Type 0
 Prints status text rose old new result =
-    ((result ≡ status) × Appends old new text) ⊎ ((result ≡ WriteFault) × rose × AppendsFront old new text)
+    ((result ≡ status) × Takes old new text) ⊎ ((result ≡ WriteFault) × rose × TakesFront old new text)
 
 -- The answer is this one, unless something of the outside failed or memory ran out.
 abbrev pub UnlessFailed : Status → Status → Type 0

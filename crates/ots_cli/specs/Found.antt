@@ -1,10 +1,11 @@
 -- What is found under a name, and what reading it answers.
-use Rattle.std.specs.Prelude.{◌≡◌, ◌<◌, ◌≤◌, ◌^◌, ℕ, List, length, Option, Some, None, Result, Ok, Err, IsSome}
+use Rattle.std.specs.Prelude.{◌≡◌, ◌+◌, ◌<◌, ◌≤◌, ℕ, List, length, Option, Some, None, Result, Ok, Err, IsSome}
 use Rattle.std.specs.FinMap as map
-use Rattle.ots_io.specs.Told.{IfTold}
-use Rattle.ots_io.specs.Shelf.{Names}
-use Rattle.ots_io.specs.declared.shelf.OpenError.{OpenError}
-use Rattle.ots_io.specs.declared.shelf.OpenError.TheVariants as opening
+use Rattle.ots_base.specs.declared.limits.TheConstants.{MAX_HEADER_FILE, MAX_PROOF_FILE, MAX_TARGET_FILE}
+use Rattle.ots_base.specs.Told.{IfTold}
+use Rattle.ots_outside.specs.Shelf.{Names}
+use Rattle.ots_outside.specs.declared.shelf.OpenError.{OpenError}
+use Rattle.ots_outside.specs.declared.shelf.OpenError.TheVariants as opening
 use Rattle.ots_ops.specs.Hashed.{hashed}
 use Rattle.ots_ops.specs.declared.hash_op.HashOp.{HashOp}
 use Rattle.ots_reader.specs.declared.fault.Fault.{Fault}
@@ -37,20 +38,20 @@ HasUnder told name P = (bytes : List ℕ) × IsUnder told name (Some bytes) × P
 
 -- no proof file
 pub data RefusesProof (bytes : List ℕ) (s : Status) : Type 0 where
-  too_big : 4194304 < length bytes → s ≡ status.TooBig → RefusesProof bytes s
-  bad_proof : (f : Fault) → length bytes ≤ 4194304 → HasFault bytes f → s ≡ status.BadProof f → RefusesProof bytes s
+  too_big : MAX_PROOF_FILE < length bytes → s ≡ status.TooBig → RefusesProof bytes s
+  bad_proof : (f : Fault) → length bytes ≤ MAX_PROOF_FILE → HasFault bytes f → s ≡ status.BadProof f → RefusesProof bytes s
 
 -- No headers, by the number of bytes: none, or no multiple of 80, or more than 83,886,080, of which one past that is told.
 pub data RefusesTable (bytes : List ℕ) (s : Status) : Type 0 where
   cut : IsCut (length bytes) → s ≡ status.BadHeaders (length bytes) → RefusesTable bytes s
-  too_many : 83886080 < length bytes → s ≡ status.BadHeaders 83886081 → RefusesTable bytes s
+  too_many : MAX_HEADER_FILE < length bytes → s ≡ status.BadHeaders (MAX_HEADER_FILE + 1) → RefusesTable bytes s
 
 -- the digest of a target, which has at most 2^40 bytes
 abbrev pub IsHashOf : HashOp → List ℕ → List ℕ → Type 0
-IsHashOf hash bytes digest = (length bytes ≤ 2 ^ 40) × (digest ≡ hashed hash bytes)
+IsHashOf hash bytes digest = (length bytes ≤ MAX_TARGET_FILE) × (digest ≡ hashed hash bytes)
 
 abbrev pub RefusesTarget : List ℕ → Status → Type 0
-RefusesTarget bytes s = (2 ^ 40 < length bytes) × (s ≡ status.FileTooLong)
+RefusesTarget bytes s = (MAX_TARGET_FILE < length bytes) × (s ≡ status.FileTooLong)
 
 -- ---- what reading answers
 

@@ -3,6 +3,7 @@ pub mod Words
 pub mod Opened
 pub mod Text
 pub mod Found
+pub mod ReadsBack
 pub mod Refusal
 pub mod Output
 pub mod Rewritten

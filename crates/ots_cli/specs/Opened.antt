@@ -1,6 +1,10 @@
 -- Which names a command opens.
 use Rattle.std.specs.Prelude.{◌≡◌, ◌⊎◌, ℕ, List, [], ◌∷◌, ◌++◌, take, Option, Some, None, Result, Ok, Err}
 use Rattle.std.specs.Option.{option_map}
+use Rattle.ots_base.specs.Cause.{Rose}
+use Rattle.ots_outside.specs.Shelf.{ShelfFaults}
+use Rattle.ots_cli.specs.declared.input.InputError.{InputError}
+use Rattle.ots_cli.specs.declared.input.InputError.TheVariants.{ReadFault}
 use Rattle.ots_cli.specs.Words.{Command, HeaderFile, info, canon, merge, prune, verify}
 
 -- the name of headers that may be given
@@ -25,12 +29,22 @@ Opens names old new = new ≡ option_map (λ all. all ++ names) old
 abbrev pub OpensFront : List (List ℕ) → Option (List (List ℕ)) → Option (List (List ℕ)) → Type 0
 OpensFront names old new = (n : ℕ) × Opens (take n names) old new
 
--- A name was opened and what it holds was read; where that was refused, it was opened or not.
-abbrev pub OpensName : {A E : Type 0} → List ℕ → Option (List (List ℕ)) → Option (List (List ℕ)) → Result A E → Type 0
-OpensName name old new (Ok x) = Opens (name ∷ []) old new
-OpensName name old new (Err e) = Opens [] old new ⊎ Opens (name ∷ []) old new
+-- A name that was refused was not opened, and opening failed where that is a fault; or it was opened, and reading failed
+-- where it is.
+abbrev pub IsOpenedOrNot : List ℕ → Option (List (List ℕ)) → Option (List (List ℕ)) → ShelfFaults → ShelfFaults → InputError → Type 0
+IsOpenedOrNot name old new before now e =
+    (Opens [] old new × (e ≡ ReadFault → Rose before.opening now.opening))
+    ⊎ (Opens (name ∷ []) old new × (e ≡ ReadFault → Rose before.reading now.reading))
 
--- Of these names reading stopped at this one: those before it were opened, and it was not, or was the last.
-pub data StopsAt (names : List (List ℕ)) (old new : Option (List (List ℕ))) (name : List ℕ) : Type 0 where
-  not_opened : (before after : List (List ℕ)) → names ≡ before ++ name ∷ after → Opens before old new → StopsAt names old new name
-  opened_last : (before after : List (List ℕ)) → names ≡ before ++ name ∷ after → Opens (before ++ name ∷ []) old new → StopsAt names old new name
+-- A name was opened and what it holds was read, or it was refused.
+abbrev pub OpensName : {A : Type 0} → List ℕ → Option (List (List ℕ)) → Option (List (List ℕ)) → ShelfFaults → ShelfFaults → Result A InputError → Type 0
+OpensName name old new before now (Ok x) = Opens (name ∷ []) old new
+OpensName name old new before now (Err e) = IsOpenedOrNot name old new before now e
+
+-- Of these names reading stopped at this one, and those before it were opened: it was not, and opening failed; or it was
+-- the last, and reading failed.
+pub data StopsAt (names : List (List ℕ)) (old new : Option (List (List ℕ))) (before now : ShelfFaults) (name : List ℕ) : Type 0 where
+  not_opened : (earlier later : List (List ℕ)) → names ≡ earlier ++ name ∷ later → Opens earlier old new → Rose before.opening now.opening
+      → StopsAt names old new before now name
+  opened_last : (earlier later : List (List ℕ)) → names ≡ earlier ++ name ∷ later → Opens (earlier ++ name ∷ []) old new
+      → Rose before.reading now.reading → StopsAt names old new before now name

@@ -1,9 +1,10 @@
 -- The form of the words, each seen as its bytes. The first word picks the command. Which words follow it is said by a
 -- simple command of the library clap, whose arguments have one value each; words that clap takes for something else, as
 -- a call for help, are of no form.
-use Rattle.std.specs.Prelude.{ℕ, ◌^◌, ◌&&◌, Bool, true, List, [], ◌∷◌, bytes_eq, nat_lt, codes, decimal, Option, Some, None, if◌then◌else◌}
+use Rattle.std.specs.Prelude.{ℕ, ◌^◌, ◌&&◌, Bool, true, List, [], ◌∷◌, map, String, string_bytes, bytes_eq, nat_lt, codes, decimal, Option, Some, None, if◌then◌else◌}
 use Rattle.std.specs.Str.Parse.{digits_value}
 use Rattle.std.specs.Option.{option_map, option_and_then}
+use Rattle.std.specs.declared.alloc.Global.{Global}
 use Rattle.clap.specs.Walk.{Row, is_empty}
 use Rattle.clap.specs.Words.{App, Rule, fault_of, first_of, matches_of, new_app, new_rule, with_rule}
 use Rattle.clap.specs.declared.builder.action.ArgAction.TheVariants.{Set}
@@ -176,3 +177,7 @@ read_as (read.Canon from to) = canon from.now to.now
 read_as (read.Merge first second to) = merge first.now second.now to.now
 read_as (read.Prune from to) = prune from.now to.now
 read_as (read.Verify v) = verify (read_verification v)
+
+-- what these words ask for, each seen as its bytes
+abbrev pub asked : List (String Global) → Option Command
+asked words = command_of (map string_bytes words)

@@ -1,7 +1,8 @@
 -- When `verify` says yes, in one sentence: some path of the proof takes the digest of the target to the Merkle root of
 -- the given header at the attested height.
-use Rattle.std.specs.Prelude.{◌≡◌, ◌≤◌, ◌^◌, ℕ, List, length, Option, Some, None}
-use Rattle.ots_io.specs.Shelf.{Names}
+use Rattle.std.specs.Prelude.{◌≡◌, ◌≤◌, ℕ, List, length, Option, Some, None}
+use Rattle.ots_base.specs.declared.limits.TheConstants.{MAX_TARGET_FILE}
+use Rattle.ots_outside.specs.Shelf.{Names}
 use Rattle.ots_ops.specs.Hashed.{hashed}
 use Rattle.ots_tree.specs.declared.detached.Detached.{Detached}
 use Rattle.ots_detached.specs.File.{IsFileOf}
@@ -38,7 +39,7 @@ pub record HasFiles (names : Names) (v : Verification) (bitcoin : Table) (liteco
   pub of_bitcoin : HasUnder (Some names) v.bitcoin.name (λ bytes. IsTableOf v.bitcoin.first bytes bitcoin)
   pub of_litecoin : HasPerhapsTable names v.litecoin litecoin
   pub of_proof : HasUnder (Some names) v.proof (λ bytes. IsFileOf bytes proof)
-  pub of_target : HasUnder (Some names) v.target (λ bytes. (bytes ≡ target) × (length bytes ≤ 2 ^ 40))
+  pub of_target : HasUnder (Some names) v.target (λ bytes. (bytes ≡ target) × (length bytes ≤ MAX_TARGET_FILE))
 
 -- The status is Done exactly where this holds, unless something of the outside failed or memory ran out.
 abbrev pub IsDoneExactlyWhere : Type 0 → Status → Type 0

@@ -1,11 +1,12 @@
 //! What a command answers and prints.
 ghost use Rattle.std.specs.Prelude.{◌≡◌, ◌≤◌, ℕ, List, map, string_bytes, None, Some, IfOk};
-ghost use Rattle.ots_io.specs.Cause.{Rose};
+ghost use Rattle.ots_base.specs.Cause.{Rose};
+ghost use Rattle.ots_outside.specs.Shelf.{NeverFalls};
 ghost use Rattle.ots_cli.specs.Answer.{Answers, ComesTo, Leaves};
 ghost use Rattle.ots_cli.specs.Opened.{OpensFront, StopsAt, names_read};
 ghost use Rattle.ots_cli.specs.Found.{status_of};
 ghost use Rattle.ots_cli.specs.Refusal.{refusal_text};
-ghost use Rattle.ots_cli.specs.Words.{command_of, read_as};
+ghost use Rattle.ots_cli.specs.Words.{asked, read_as};
 
 use crate::command::Command;
 use crate::commands::{info, merge, rewrite};
@@ -15,7 +16,8 @@ use crate::rewriting::Rewriting;
 use crate::status::Status;
 use crate::verifying::verify;
 use crate::words::{WordsError, read_words};
-use ots_io::{OutOfMemory, Shelf};
+use ots_base::OutOfMemory;
+use ots_outside::Shelf;
 use std::alloc::Global;
 
 /// What a command comes to: its status, and the text that is to be printed before it ends.
@@ -32,13 +34,13 @@ pub fn answer_to<S: Shelf>(
     words: &[String],
     shelf: &mut S,
 ) -> Result<Answer, OutOfMemory>
-    ensures leaves { Leaves (S.told shelf.old).names (S.told shelf.new).names (Answers (S.told shelf.old).names (command_of (map string_bytes words.now))) }
-    ensures opened { OpensFront (names_read (command_of (map string_bytes words.now))) (S.told shelf.old).opened (S.told shelf.new).opened }
+    ensures leaves { Leaves (S.told shelf.old).names (S.told shelf.new).names (Answers (S.told shelf.old).names (asked words.now)) }
+    ensures opened { OpensFront (names_read (asked words.now)) (S.told shelf.old).opened (S.told shelf.new).opened }
     ensures short { IfOk result (λ _. (S.told shelf.new).short ≡ (S.told shelf.old).short) }
     ensures slots { (k : ℕ) → (S.told shelf.new).slots k ≡ (S.told shelf.old).slots k }
-    ensures later { S.faults shelf.old ≤ S.faults shelf.new }
-    ensures comes { IfOk result (λ a. ComesTo (S.told shelf.old).names (S.told shelf.new).names (Answers (S.told shelf.old).names (command_of (map string_bytes words.now)))
-        (StopsAt (names_read (command_of (map string_bytes words.now))) (S.told shelf.old).opened (S.told shelf.new).opened) (Rose (S.faults shelf.old) (S.faults shelf.new)) a.status (string_bytes a.text)) }
+    ensures later { NeverFalls (S.faults shelf.old) (S.faults shelf.new) }
+    ensures comes { IfOk result (λ a. ComesTo (S.told shelf.old).names (S.told shelf.new).names (Answers (S.told shelf.old).names (asked words.now))
+        (StopsAt (names_read (asked words.now)) (S.told shelf.old).opened (S.told shelf.new).opened (S.faults shelf.old) (S.faults shelf.new)) (Rose (S.faults shelf.old).writing (S.faults shelf.new).writing) a.status (string_bytes a.text)) }
 {
     match read_words(alloc, words) {
         Ok(command) => carry_out(alloc, command, shelf),
@@ -57,9 +59,9 @@ fn carry_out<S: Shelf>(
     ensures opened { OpensFront (names_read (Some (read_as command.entry))) (S.told shelf.old).opened (S.told shelf.new).opened }
     ensures short { IfOk result (λ _. (S.told shelf.new).short ≡ (S.told shelf.old).short) }
     ensures slots { (k : ℕ) → (S.told shelf.new).slots k ≡ (S.told shelf.old).slots k }
-    ensures later { S.faults shelf.old ≤ S.faults shelf.new }
+    ensures later { NeverFalls (S.faults shelf.old) (S.faults shelf.new) }
     ensures comes { IfOk result (λ a. ComesTo (S.told shelf.old).names (S.told shelf.new).names (Answers (S.told shelf.old).names (Some (read_as command.entry)))
-        (StopsAt (names_read (Some (read_as command.entry))) (S.told shelf.old).opened (S.told shelf.new).opened) (Rose (S.faults shelf.old) (S.faults shelf.new)) a.status (string_bytes a.text)) }
+        (StopsAt (names_read (Some (read_as command.entry))) (S.told shelf.old).opened (S.told shelf.new).opened (S.faults shelf.old) (S.faults shelf.new)) (Rose (S.faults shelf.old).writing (S.faults shelf.new).writing) a.status (string_bytes a.text)) }
 {
     match command {
         Command::Info(proof) => info(alloc, proof, shelf),

@@ -1,6 +1,7 @@
 //! The commands.
 ghost use Rattle.std.specs.Prelude.{◌≡◌, ◌≤◌, ℕ, [], ◌∷◌, string_bytes, Some, IfOk};
-ghost use Rattle.ots_io.specs.Cause.{Rose};
+ghost use Rattle.ots_base.specs.Cause.{Rose};
+ghost use Rattle.ots_outside.specs.Shelf.{NeverFalls};
 ghost use Rattle.ots_cli.specs.Answer.{ComesTo, Leaves, Merges, PrintsInfo, WithProof, Writes, WritesOf};
 ghost use Rattle.ots_cli.specs.Opened.{OpensFront, StopsAt};
 ghost use Rattle.ots_cli.specs.Rewritten.{IsRewritten};
@@ -12,8 +13,10 @@ use crate::output::{OutputError, write_proof};
 use crate::rewriting::{Rewriting, rewritten};
 use crate::status::Status;
 use crate::text::info_text;
+use ots_base::OutOfMemory;
 use ots_canon::MergeError;
-use ots_io::{OutOfMemory, Shelf};
+use ots_detached::written_file;
+use ots_outside::Shelf;
 use ots_tree::Detached;
 use std::alloc::Global;
 
@@ -23,9 +26,9 @@ pub fn info<S: Shelf>(alloc: Global, name: &str, shelf: &mut S) -> Result<Answer
     ensures opened { OpensFront (name.now ∷ []) (S.told shelf.old).opened (S.told shelf.new).opened }
     ensures short { IfOk result (λ _. (S.told shelf.new).short ≡ (S.told shelf.old).short) }
     ensures slots { (k : ℕ) → (S.told shelf.new).slots k ≡ (S.told shelf.old).slots k }
-    ensures later { S.faults shelf.old ≤ S.faults shelf.new }
+    ensures later { NeverFalls (S.faults shelf.old) (S.faults shelf.new) }
     ensures comes { IfOk result (λ a. ComesTo (S.told shelf.old).names (S.told shelf.new).names (WithProof (S.told shelf.old).names name.now PrintsInfo)
-        (StopsAt (name.now ∷ []) (S.told shelf.old).opened (S.told shelf.new).opened) (Rose (S.faults shelf.old) (S.faults shelf.new)) a.status (string_bytes a.text)) }
+        (StopsAt (name.now ∷ []) (S.told shelf.old).opened (S.told shelf.new).opened (S.faults shelf.old) (S.faults shelf.new)) (Rose (S.faults shelf.old).writing (S.faults shelf.new).writing) a.status (string_bytes a.text)) }
 {
     match read_proof(alloc, name, shelf) {
         Ok(proof) => Ok(Answer {
@@ -48,9 +51,9 @@ pub fn rewrite<S: Shelf>(
     ensures opened { OpensFront (from.now ∷ []) (S.told shelf.old).opened (S.told shelf.new).opened }
     ensures short { IfOk result (λ _. (S.told shelf.new).short ≡ (S.told shelf.old).short) }
     ensures slots { (k : ℕ) → (S.told shelf.new).slots k ≡ (S.told shelf.old).slots k }
-    ensures later { S.faults shelf.old ≤ S.faults shelf.new }
+    ensures later { NeverFalls (S.faults shelf.old) (S.faults shelf.new) }
     ensures comes { IfOk result (λ a. ComesTo (S.told shelf.old).names (S.told shelf.new).names (WithProof (S.told shelf.old).names from.now (λ p. WritesOf (S.told shelf.old).names to.now (IsRewritten way p)))
-        (StopsAt (from.now ∷ []) (S.told shelf.old).opened (S.told shelf.new).opened) (Rose (S.faults shelf.old) (S.faults shelf.new)) a.status (string_bytes a.text)) }
+        (StopsAt (from.now ∷ []) (S.told shelf.old).opened (S.told shelf.new).opened (S.faults shelf.old) (S.faults shelf.new)) (Rose (S.faults shelf.old).writing (S.faults shelf.new).writing) a.status (string_bytes a.text)) }
 {
     match read_proof(alloc, from, shelf) {
         Ok(proof) => {
@@ -73,9 +76,9 @@ pub fn merge<S: Shelf>(
     ensures opened { OpensFront (first.now ∷ second.now ∷ []) (S.told shelf.old).opened (S.told shelf.new).opened }
     ensures short { IfOk result (λ _. (S.told shelf.new).short ≡ (S.told shelf.old).short) }
     ensures slots { (k : ℕ) → (S.told shelf.new).slots k ≡ (S.told shelf.old).slots k }
-    ensures later { S.faults shelf.old ≤ S.faults shelf.new }
+    ensures later { NeverFalls (S.faults shelf.old) (S.faults shelf.new) }
     ensures comes { IfOk result (λ a. ComesTo (S.told shelf.old).names (S.told shelf.new).names (WithProof (S.told shelf.old).names first.now (λ p. WithProof (S.told shelf.old).names second.now (Merges (S.told shelf.old).names to.now p)))
-        (StopsAt (first.now ∷ second.now ∷ []) (S.told shelf.old).opened (S.told shelf.new).opened) (Rose (S.faults shelf.old) (S.faults shelf.new)) a.status (string_bytes a.text)) }
+        (StopsAt (first.now ∷ second.now ∷ []) (S.told shelf.old).opened (S.told shelf.new).opened (S.faults shelf.old) (S.faults shelf.new)) (Rose (S.faults shelf.old).writing (S.faults shelf.new).writing) a.status (string_bytes a.text)) }
 {
     match read_proof(alloc, first, shelf) {
         Ok(proof) => merge_with(alloc, &proof, second, to, shelf),
@@ -95,9 +98,9 @@ fn merge_with<S: Shelf>(
     ensures opened { OpensFront (second.now ∷ []) (S.told shelf.old).opened (S.told shelf.new).opened }
     ensures short { IfOk result (λ _. (S.told shelf.new).short ≡ (S.told shelf.old).short) }
     ensures slots { (k : ℕ) → (S.told shelf.new).slots k ≡ (S.told shelf.old).slots k }
-    ensures later { S.faults shelf.old ≤ S.faults shelf.new }
+    ensures later { NeverFalls (S.faults shelf.old) (S.faults shelf.new) }
     ensures comes { IfOk result (λ a. ComesTo (S.told shelf.old).names (S.told shelf.new).names (WithProof (S.told shelf.old).names second.now (Merges (S.told shelf.old).names to.now first.now))
-        (StopsAt (second.now ∷ []) (S.told shelf.old).opened (S.told shelf.new).opened) (Rose (S.faults shelf.old) (S.faults shelf.new)) a.status (string_bytes a.text)) }
+        (StopsAt (second.now ∷ []) (S.told shelf.old).opened (S.told shelf.new).opened (S.faults shelf.old) (S.faults shelf.new)) (Rose (S.faults shelf.old).writing (S.faults shelf.new).writing) a.status (string_bytes a.text)) }
 {
     match read_proof(alloc, second, shelf) {
         Ok(proof) => write_joined(alloc, first, &proof, to, shelf),
@@ -117,9 +120,9 @@ fn write_joined<S: Shelf>(
     ensures opened { (S.told shelf.new).opened ≡ (S.told shelf.old).opened }
     ensures short { IfOk result (λ _. (S.told shelf.new).short ≡ (S.told shelf.old).short) }
     ensures slots { (k : ℕ) → (S.told shelf.new).slots k ≡ (S.told shelf.old).slots k }
-    ensures later { S.faults shelf.old ≤ S.faults shelf.new }
+    ensures later { NeverFalls (S.faults shelf.old) (S.faults shelf.new) }
     ensures comes { IfOk result (λ a. ComesTo (S.told shelf.old).names (S.told shelf.new).names (Merges (S.told shelf.old).names to.now first.now second.now)
-        (λ read. ⊥) (Rose (S.faults shelf.old) (S.faults shelf.new)) a.status (string_bytes a.text)) }
+        (λ read. ⊥) (Rose (S.faults shelf.old).writing (S.faults shelf.new).writing) a.status (string_bytes a.text)) }
 {
     match ots_canon::merge(alloc, first, second) {
         Ok(joined) => write_result(alloc, to, &joined, shelf),
@@ -151,10 +154,11 @@ fn write_result<S: Shelf>(
     ensures opened { (S.told shelf.new).opened ≡ (S.told shelf.old).opened }
     ensures short { IfOk result (λ _. (S.told shelf.new).short ≡ (S.told shelf.old).short) }
     ensures slots { (k : ℕ) → (S.told shelf.new).slots k ≡ (S.told shelf.old).slots k }
-    ensures later { S.faults shelf.old ≤ S.faults shelf.new }
+    ensures later { NeverFalls (S.faults shelf.old) (S.faults shelf.new) }
     ensures comes { IfOk result (λ a. ComesTo (S.told shelf.old).names (S.told shelf.new).names (Writes (S.told shelf.old).names name.now proof.now)
-        (λ read. ⊥) (Rose (S.faults shelf.old) (S.faults shelf.new)) a.status (string_bytes a.text)) }
+        (λ read. ⊥) (Rose (S.faults shelf.old).writing (S.faults shelf.new).writing) a.status (string_bytes a.text)) }
 {
+    written_file(proof);
     match write_proof(name, proof, shelf) {
         Ok(()) => Ok(Answer {
             status: Status::Done,

@@ -1,22 +1,20 @@
 //! Reading an input by its name.
 ghost use Rattle.std.specs.Prelude.{◌≡◌, ℕ, IsErrOf};
-ghost use Rattle.ots_io.specs.Cause.{HasCauseWhere};
+ghost use Rattle.ots_outside.specs.Shelf.{NeverFalls};
 ghost use Rattle.ots_detached.specs.File.{IsFileOf};
 ghost use Rattle.ots_bitcoin.specs.TableRead.{IsTableOf};
 ghost use Rattle.ots_cli.specs.Opened.{OpensName};
 ghost use Rattle.ots_cli.specs.Found.{IsHashOf, ReadsInput, RefusesProof, RefusesTable, RefusesTarget, refused_headers, refused_open, refused_proof, refused_target};
 
 use crate::command::HeaderFile;
+use ots_base::MAX_TARGET_FILE;
 use ots_bitcoin::{Headers, HeadersError};
 use ots_detached::{FileError, HashError, hash_source, read_file};
-use ots_io::{OpenError, Shelf, SlotSource};
 use ots_ops::{Digest, HashOp};
+use ots_outside::{OpenError, Shelf, SlotSource};
 use ots_reader::Fault;
 use ots_tree::Detached;
 use std::alloc::Global;
-
-/// The greatest length of a target file, in bytes: 2^40.
-const TARGET_LIMIT: u64 = 1_099_511_627_776;
 
 /// Why a name gave no input.
 #[derive(Clone, Copy, Debug, PartialEq, Eq)]
@@ -92,11 +90,12 @@ pub fn read_proof<S: Shelf>(
     shelf: &mut S,
 ) -> Result<Detached, InputError>
     ensures names { (S.told shelf.new).names ≡ (S.told shelf.old).names }
-    ensures opened { OpensName name.now (S.told shelf.old).opened (S.told shelf.new).opened result }
+    ensures opened { OpensName name.now (S.told shelf.old).opened (S.told shelf.new).opened (S.faults shelf.old) (S.faults shelf.new) result }
     ensures short { ¬ IsErrOf result InputError.OutOfMemory → (S.told shelf.new).short ≡ (S.told shelf.old).short }
     ensures slots { (k : ℕ) → (S.told shelf.new).slots k ≡ (S.told shelf.old).slots k }
     ensures answer { ReadsInput (S.told shelf.old).names name.now IsFileOf RefusesProof result }
-    ensures cause { HasCauseWhere (IsErrOf result InputError.ReadFault) (S.faults shelf.old) (S.faults shelf.new) }
+    ensures later { NeverFalls (S.faults shelf.old) (S.faults shelf.new) }
+    ensures writing { (S.faults shelf.new).writing ≡ (S.faults shelf.old).writing }
 {
     let slot = shelf.open(name)?;
     let read = read_file(alloc, &mut SlotSource::new(shelf, slot));
@@ -111,11 +110,12 @@ pub fn read_headers<S: Shelf>(
     shelf: &mut S,
 ) -> Result<Headers, InputError>
     ensures names { (S.told shelf.new).names ≡ (S.told shelf.old).names }
-    ensures opened { OpensName file.entry.name.now (S.told shelf.old).opened (S.told shelf.new).opened result }
+    ensures opened { OpensName file.entry.name.now (S.told shelf.old).opened (S.told shelf.new).opened (S.faults shelf.old) (S.faults shelf.new) result }
     ensures short { ¬ IsErrOf result InputError.OutOfMemory → (S.told shelf.new).short ≡ (S.told shelf.old).short }
     ensures slots { (k : ℕ) → (S.told shelf.new).slots k ≡ (S.told shelf.old).slots k }
     ensures answer { ReadsInput (S.told shelf.old).names file.entry.name.now (IsTableOf file.entry.first) RefusesTable result }
-    ensures cause { HasCauseWhere (IsErrOf result InputError.ReadFault) (S.faults shelf.old) (S.faults shelf.new) }
+    ensures later { NeverFalls (S.faults shelf.old) (S.faults shelf.new) }
+    ensures writing { (S.faults shelf.new).writing ≡ (S.faults shelf.old).writing }
 {
     let slot = shelf.open(file.name)?;
     let read = Headers::read(alloc, file.first, &mut SlotSource::new(shelf, slot));
@@ -127,14 +127,15 @@ pub fn read_headers<S: Shelf>(
 /// stays.
 pub fn hash_target<S: Shelf>(name: &str, hash: HashOp, shelf: &mut S) -> Result<Digest, InputError>
     ensures names { (S.told shelf.new).names ≡ (S.told shelf.old).names }
-    ensures opened { OpensName name.now (S.told shelf.old).opened (S.told shelf.new).opened result }
+    ensures opened { OpensName name.now (S.told shelf.old).opened (S.told shelf.new).opened (S.faults shelf.old) (S.faults shelf.new) result }
     ensures short { ¬ IsErrOf result InputError.OutOfMemory → (S.told shelf.new).short ≡ (S.told shelf.old).short }
     ensures slots { (k : ℕ) → (S.told shelf.new).slots k ≡ (S.told shelf.old).slots k }
     ensures answer { ReadsInput (S.told shelf.old).names name.now (IsHashOf hash) RefusesTarget result }
-    ensures cause { HasCauseWhere (IsErrOf result InputError.ReadFault) (S.faults shelf.old) (S.faults shelf.new) }
+    ensures later { NeverFalls (S.faults shelf.old) (S.faults shelf.new) }
+    ensures writing { (S.faults shelf.new).writing ≡ (S.faults shelf.old).writing }
 {
     let slot = shelf.open(name)?;
-    let hashed = hash_source(&mut SlotSource::new(shelf, slot), hash, TARGET_LIMIT);
+    let hashed = hash_source(&mut SlotSource::new(shelf, slot), hash, MAX_TARGET_FILE);
     shelf.close(slot);
     Ok(hashed?)
 }

@@ -1,15 +1,14 @@
 //! Writing a proof under a name.
 ghost use Rattle.std.specs.Prelude.{◌≡◌, ◌≤◌, ℕ, IsErrOf};
-ghost use Rattle.ots_io.specs.Cause.{HasCauseWhere};
+ghost use Rattle.ots_base.specs.Cause.{HasCauseWhere};
+ghost use Rattle.ots_outside.specs.Shelf.{OnlyWriting};
 ghost use Rattle.ots_detached.specs.File.{file_of};
 ghost use Rattle.ots_cli.specs.Output.{Outputs, not_created};
 
+use ots_base::MAX_PROOF_FILE;
 use ots_detached::{file_length, write_file};
-use ots_io::{CreateError, Shelf, SlotSink};
+use ots_outside::{CreateError, Shelf, SlotSink};
 use ots_tree::{Detached, WriteFault};
-
-/// The greatest length of a proof file, in bytes.
-const LIMIT: u64 = 4_194_304;
 
 /// Why a proof was not written.
 #[derive(Clone, Copy, Debug, PartialEq, Eq)]
@@ -44,9 +43,10 @@ pub fn write_proof<S: Shelf>(name: &str, proof: &Detached, shelf: &mut S) -> Res
     ensures opened { (S.told shelf.new).opened ≡ (S.told shelf.old).opened }
     ensures short { ¬ IsErrOf result OutputError.OutOfMemory → (S.told shelf.new).short ≡ (S.told shelf.old).short }
     ensures slots { (k : ℕ) → (S.told shelf.new).slots k ≡ (S.told shelf.old).slots k }
-    ensures cause { HasCauseWhere (IsErrOf result OutputError.WriteFault) (S.faults shelf.old) (S.faults shelf.new) }
+    ensures cause { HasCauseWhere (IsErrOf result OutputError.WriteFault) (S.faults shelf.old).writing (S.faults shelf.new).writing }
+    ensures counts { OnlyWriting (S.faults shelf.old) (S.faults shelf.new) }
 {
-    if file_length(proof) > LIMIT {
+    if file_length(proof) > MAX_PROOF_FILE as u64 {
         return Err(OutputError::TooBig);
     }
     let slot = shelf.create(name)?;

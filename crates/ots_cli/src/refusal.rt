@@ -6,7 +6,7 @@ ghost use Rattle.ots_cli.specs.declared.status.Status.TheVariants.{BadProof, Dif
 
 use crate::status::Status;
 use crate::text::{hash_words, push_hex};
-use ots_io::OutOfMemory;
+use ots_base::OutOfMemory;
 use ots_ops::{Digest, HashOp};
 use ots_reader::Fault;
 use std::alloc::Global;

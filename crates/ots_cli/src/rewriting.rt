@@ -2,8 +2,8 @@
 ghost use Rattle.std.specs.Prelude.{IfOk};
 ghost use Rattle.ots_cli.specs.Rewritten.{IsRewritten, IsTreeOf};
 
+use ots_base::OutOfMemory;
 use ots_canon::{canon, prune, sound_results};
-use ots_io::OutOfMemory;
 use ots_tree::{Detached, Tree, limits_of_detached};
 use std::alloc::Global;
 

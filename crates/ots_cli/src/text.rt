@@ -7,8 +7,8 @@ ghost use Rattle.ots_cli.specs.Text.{hash_words, op_words, attestation_words, it
 
 use crate::status::Status;
 use ots_attest::Attestation;
+use ots_base::OutOfMemory;
 use ots_eval::{Chain, Verdict};
-use ots_io::OutOfMemory;
 use ots_ops::{Digest, HashOp, Op};
 use ots_tree::{Detached, Token, TokenAt, listed};
 use std::alloc::Global;

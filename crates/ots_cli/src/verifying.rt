@@ -1,7 +1,8 @@
 //! `verify`.
 ghost use Rattle.std.specs.Prelude.{◌≡◌, ◌≤◌, ◌++◌, ℕ, [], ◌∷◌, string_bytes, Some, IfOk};
+ghost use Rattle.ots_base.specs.Cause.{Rose};
+ghost use Rattle.ots_outside.specs.Shelf.{NeverFalls};
 ghost use Rattle.std.specs.Option.{option_copied};
-ghost use Rattle.ots_io.specs.Cause.{Rose};
 ghost use Rattle.ots_cli.specs.Answer.{ComesTo, PrintsVerdict, Verifies, VerifiesBy, VerifiesProof, VerifiesTarget};
 ghost use Rattle.ots_cli.specs.Opened.{OpensFront, StopsAt, names_of, names_read};
 ghost use Rattle.ots_cli.specs.Words.{read_verification, verify};
@@ -10,10 +11,11 @@ use crate::answer::{Answer, input_refusal};
 use crate::command::{HeaderFile, Verification};
 use crate::input::{hash_target, read_headers, read_proof};
 use crate::text::{verdict_status, verdict_text};
+use ots_base::OutOfMemory;
 use ots_bitcoin::Headers;
 use ots_eval::verdict;
-use ots_io::{OutOfMemory, Shelf};
 use ots_ops::Digest;
+use ots_outside::Shelf;
 use ots_tree::Detached;
 use std::alloc::Global;
 
@@ -27,9 +29,9 @@ pub fn verify<S: Shelf>(
     ensures opened { OpensFront (names_read (Some (verify (read_verification verification.entry)))) (S.told shelf.old).opened (S.told shelf.new).opened }
     ensures short { IfOk result (λ _. (S.told shelf.new).short ≡ (S.told shelf.old).short) }
     ensures slots { (k : ℕ) → (S.told shelf.new).slots k ≡ (S.told shelf.old).slots k }
-    ensures later { S.faults shelf.old ≤ S.faults shelf.new }
+    ensures later { NeverFalls (S.faults shelf.old) (S.faults shelf.new) }
     ensures comes { IfOk result (λ a. ComesTo (S.told shelf.old).names (S.told shelf.new).names (Verifies (S.told shelf.old).names (read_verification verification.entry))
-        (StopsAt (names_read (Some (verify (read_verification verification.entry)))) (S.told shelf.old).opened (S.told shelf.new).opened) (Rose (S.faults shelf.old) (S.faults shelf.new)) a.status (string_bytes a.text)) }
+        (StopsAt (names_read (Some (verify (read_verification verification.entry)))) (S.told shelf.old).opened (S.told shelf.new).opened (S.faults shelf.old) (S.faults shelf.new)) (Rose (S.faults shelf.old).writing (S.faults shelf.new).writing) a.status (string_bytes a.text)) }
 {
     match read_headers(alloc, verification.bitcoin, shelf) {
         Ok(bitcoin) => verify_by(alloc, verification, &bitcoin, shelf),
@@ -48,10 +50,10 @@ fn verify_by<S: Shelf>(
     ensures opened { OpensFront (names_of (read_verification verification.entry).litecoin ++ verification.entry.proof.now ∷ verification.entry.target.now ∷ []) (S.told shelf.old).opened (S.told shelf.new).opened }
     ensures short { IfOk result (λ _. (S.told shelf.new).short ≡ (S.told shelf.old).short) }
     ensures slots { (k : ℕ) → (S.told shelf.new).slots k ≡ (S.told shelf.old).slots k }
-    ensures later { S.faults shelf.old ≤ S.faults shelf.new }
+    ensures later { NeverFalls (S.faults shelf.old) (S.faults shelf.new) }
     ensures comes { IfOk result (λ a. ComesTo (S.told shelf.old).names (S.told shelf.new).names (VerifiesBy (S.told shelf.old).names (read_verification verification.entry) bitcoin.now)
-        (StopsAt (names_of (read_verification verification.entry).litecoin ++ verification.entry.proof.now ∷ verification.entry.target.now ∷ []) (S.told shelf.old).opened (S.told shelf.new).opened)
-        (Rose (S.faults shelf.old) (S.faults shelf.new)) a.status (string_bytes a.text)) }
+        (StopsAt (names_of (read_verification verification.entry).litecoin ++ verification.entry.proof.now ∷ verification.entry.target.now ∷ []) (S.told shelf.old).opened (S.told shelf.new).opened (S.faults shelf.old) (S.faults shelf.new))
+        (Rose (S.faults shelf.old).writing (S.faults shelf.new).writing) a.status (string_bytes a.text)) }
 {
     let Some(file) = verification.litecoin else {
         return verify_proof(alloc, verification, bitcoin, None, shelf);
@@ -74,9 +76,9 @@ fn verify_proof<S: Shelf>(
     ensures opened { OpensFront (verification.entry.proof.now ∷ verification.entry.target.now ∷ []) (S.told shelf.old).opened (S.told shelf.new).opened }
     ensures short { IfOk result (λ _. (S.told shelf.new).short ≡ (S.told shelf.old).short) }
     ensures slots { (k : ℕ) → (S.told shelf.new).slots k ≡ (S.told shelf.old).slots k }
-    ensures later { S.faults shelf.old ≤ S.faults shelf.new }
+    ensures later { NeverFalls (S.faults shelf.old) (S.faults shelf.new) }
     ensures comes { IfOk result (λ a. ComesTo (S.told shelf.old).names (S.told shelf.new).names (VerifiesProof (S.told shelf.old).names (read_verification verification.entry) bitcoin.now (option_copied litecoin.entry))
-        (StopsAt (verification.entry.proof.now ∷ verification.entry.target.now ∷ []) (S.told shelf.old).opened (S.told shelf.new).opened) (Rose (S.faults shelf.old) (S.faults shelf.new)) a.status (string_bytes a.text)) }
+        (StopsAt (verification.entry.proof.now ∷ verification.entry.target.now ∷ []) (S.told shelf.old).opened (S.told shelf.new).opened (S.faults shelf.old) (S.faults shelf.new)) (Rose (S.faults shelf.old).writing (S.faults shelf.new).writing) a.status (string_bytes a.text)) }
 {
     match read_proof(alloc, verification.proof, shelf) {
         Ok(proof) => verify_target(alloc, verification.target, &proof, bitcoin, litecoin, shelf),
@@ -97,9 +99,9 @@ fn verify_target<S: Shelf>(
     ensures opened { OpensFront (target.now ∷ []) (S.told shelf.old).opened (S.told shelf.new).opened }
     ensures short { IfOk result (λ _. (S.told shelf.new).short ≡ (S.told shelf.old).short) }
     ensures slots { (k : ℕ) → (S.told shelf.new).slots k ≡ (S.told shelf.old).slots k }
-    ensures later { S.faults shelf.old ≤ S.faults shelf.new }
+    ensures later { NeverFalls (S.faults shelf.old) (S.faults shelf.new) }
     ensures comes { IfOk result (λ a. ComesTo (S.told shelf.old).names (S.told shelf.new).names (VerifiesTarget (S.told shelf.old).names target.now bitcoin.now (option_copied litecoin.entry) proof.now)
-        (StopsAt (target.now ∷ []) (S.told shelf.old).opened (S.told shelf.new).opened) (Rose (S.faults shelf.old) (S.faults shelf.new)) a.status (string_bytes a.text)) }
+        (StopsAt (target.now ∷ []) (S.told shelf.old).opened (S.told shelf.new).opened (S.faults shelf.old) (S.faults shelf.new)) (Rose (S.faults shelf.old).writing (S.faults shelf.new).writing) a.status (string_bytes a.text)) }
 {
     match hash_target(target, proof.hash, shelf) {
         Ok(digest) => verdict_answer(alloc, proof, &digest, bitcoin, litecoin),

@@ -1,7 +1,6 @@
 // The command `info`.
-use crate::proofs::{BLOCK_0, HEAD, HEAD_LINE, file_of, proof_of};
-use crate::runs::{info_of, run_failing};
 use ots_cli::Status;
+use ots_cli_runs::{BLOCK_0, HEAD, HEAD_LINE, file_of, info_of, proof_of, run_failing};
 use ots_reader::{Fault, Reason};
 use std::process::Abort;
 use std::test::Fail;

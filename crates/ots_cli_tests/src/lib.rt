@@ -1,16 +1,8 @@
-//! What no clause of `ots_cli` says: that the commands of `ots` end in each of their ways, with
-//! ample memory, and what they print and write then, as bytes.
+//! What no clause of `ots_cli` says of `info`, `canon`, `merge` and `prune`: that they end in each of
+//! their ways, with ample memory, and what they print and write then, as bytes.
 #![tactic(auto)]
 
 #[cfg(test)]
-mod genesis;
-#[cfg(test)]
 mod info;
-#[cfg(test)]
-mod proofs;
-#[cfg(test)]
-mod runs;
-#[cfg(test)]
-mod verifying;
 #[cfg(test)]
 mod writing;

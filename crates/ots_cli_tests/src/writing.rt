@@ -1,7 +1,6 @@
 // The commands that write a proof: `canon`, `merge` and `prune`.
-use crate::proofs::{BLOCK_0, HEAD, HEAD_OF_ABC, file_of, proof_of};
-use crate::runs::{Ended, run, run_on};
 use ots_cli::Status;
+use ots_cli_runs::{BLOCK_0, Ended, HEAD, HEAD_OF_ABC, file_of, proof_of, run, run_on};
 use ots_io::{BytesSink, DirShelf, StdSink, write_all};
 use std::fs;
 use std::fs::File;

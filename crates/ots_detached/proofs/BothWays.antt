@@ -6,7 +6,7 @@ use Rattle.ots_ops.specs.HashOp.{digest_length}
 use Rattle.ots_tree.specs.Sound.{IsSoundPre}
 use Rattle.std.specs.Prelude.{Result, Ok, Err, IfOk, IfErr, Vec}
 use Rattle.std.specs.declared.alloc.Global.{Global}
-use Rattle.ots_io.specs.Input.{ReadsAll}
+use Rattle.ots_outside.specs.Input.{ReadsAll}
 use Rattle.ots_tree.specs.declared.detached.Detached.{Detached}
 use Rattle.ots_tree.specs.Wire.{pre}
 use Rattle.ots_reader.specs.declared.fault.Fault.{Fault}
@@ -58,11 +58,12 @@ refused b (Err OutOfMemory) ok err f size fault short = absurd (short refl)
 pub reads : (old new : Option (List ℕ)) (bytes : Vec ℕ Global) (b : List ℕ) (r : Result Detached FileError) → ReadsAll 4194304 old new (Ok bytes) → b ≡ bytes.items
     → IfOk r (IsFileOf b) → IfErr r (IsFileError b) → ReadsFile old new r
 reads old new bytes b (Ok p) all is ok err =
-    record { came = all.came; consumed = all.consumed; tells = (all.ok.1, subst (λ (z : List ℕ). IsFileOf z p) (is ∙ all.ok.0) ok) }
-reads old new bytes b (Err TooBig) all is ok err = record { came = all.came; consumed = all.consumed; tells = subst (λ (z : List ℕ). 4194304 < length z) (is ∙ all.ok.0) err }
+    record { came = all.came; gave = all.gave; at_most = all.at_most; tells = (all.ok.1, subst (λ (z : List ℕ). IsFileOf z p) (is ∙ all.ok.0) ok) }
+reads old new bytes b (Err TooBig) all is ok err = record { came = all.came; gave = all.gave; at_most = all.at_most; tells = subst (λ (z : List ℕ). 4194304 < length z) (is ∙ all.ok.0) err }
 reads old new bytes b (Err (BadProof f)) all is ok err = record {
   came = all.came;
-  consumed = all.consumed;
+  gave = all.gave;
+  at_most = all.at_most;
   tells = (
     all.ok.1,
     subst (λ (z : List ℕ). length z ≤ 4194304) (is ∙ all.ok.0) err.0,
@@ -70,4 +71,4 @@ reads old new bytes b (Err (BadProof f)) all is ok err = record {
   );
 }
 reads old new bytes b (Err ReadFault) all is ok err = absurd err
-reads old new bytes b (Err OutOfMemory) all is ok err = record { came = all.came; consumed = all.consumed; tells = tt }
+reads old new bytes b (Err OutOfMemory) all is ok err = record { came = all.came; gave = all.gave; at_most = all.at_most; tells = tt }

@@ -1,38 +1,36 @@
 -- Writing a proof file.
 use borrow.Rule.Slice.PartMut.{put_mid}
-use Rattle.std.proofs.Common.{◌≡◌, ℕ, suc, ◌+◌, ◌-◌, ◌≤◌, List, [], ◌∷◌, ◌++◌, length, take, set, Option, refl, sym, subst, ap, ◌∙◌, arith, append_assoc, length-append}
-use Rattle.std.specs.Io.KnownBytes.{Appends}
-use Rattle.std.proofs.KnownBytes.{Appends-trans}
+use Rattle.std.proofs.Common.{◌≡◌, ℕ, ◌+◌, ◌-◌, ◌≤◌, List, [], ◌∷◌, ◌++◌, length, take, set, Option, sym, subst, ap, ◌∙◌, arith, append_assoc, length-append}
 use Rattle.std.proofs.Math.Seq.{take-append-add, take-append_seam, take-suc-set}
 use Rattle.std.proofs.Math.ListN.{length-set}
 use Rattle.std.proofs.lemmas.List.{take-append-le}
 use Rattle.std.proofs.lemmas.Slice.{take-put_mid}
-use Rattle.ots_io.specs.Input.{AppendsFront}
+use Rattle.ots_outside.specs.Streams.{Takes, Takes-trans, TakesFront}
 use Rattle.std.specs.List.{AllByRecursion}
 use Rattle.ots_ops.specs.HashOp.{digest_length}
 use Rattle.ots_tree.specs.declared.detached.Detached.{Detached}
 use Rattle.ots_tree.specs.declared.token.Token.{Token}
 use Rattle.ots_tree.specs.Sound.{IsSoundPre}
-use Rattle.ots_tree.specs.Wire.{pre, spelled, IsToken}
-use Rattle.ots_detached.specs.File.{file, file_of, header, HasFile, IsFileOf}
+use Rattle.ots_tree.specs.Wire.{spelled, IsToken}
+use Rattle.ots_detached.specs.File.{file, file_of, header, IsFileOf}
 
 -- a text that is a header, and then the rest of a file
-pub whole_written : (a b c : Option (List ℕ)) (text first second : List ℕ) → text ≡ first → Appends a b text → Appends b c second → Appends a c (first ++ second)
-whole_written a b c text first second is p q = Appends-trans a b c first second (subst (Appends a b) is p) q
+pub whole_written : (a b c : Option (List ℕ)) (text first second : List ℕ) → text ≡ first → Takes a b text → Takes b c second → Takes a c (first ++ second)
+whole_written a b c text first second is p q = Takes-trans a b c first second (subst (Takes a b) is p) q
 
-pub first_cut : (a b : Option (List ℕ)) (text first second : List ℕ) → text ≡ first → AppendsFront a b text → AppendsFront a b (first ++ second)
+pub first_cut : (a b : Option (List ℕ)) (text first second : List ℕ) → text ≡ first → TakesFront a b text → TakesFront a b (first ++ second)
 first_cut a b text first second is (n, few, p) =
     let long : length text ≡ length first = ap length is in (
       n,
       omega (arith, length-append first second),
-      subst (Appends a b) (ap (take n) is ∙ sym (take-append-le n first second (omega arith))) p,
+      subst (Takes a b) (ap (take n) is ∙ sym (take-append-le n first second (omega arith))) p,
     )
 
-pub second_cut : (a b c : Option (List ℕ)) (text first second : List ℕ) → text ≡ first → Appends a b text → AppendsFront b c second → AppendsFront a c (first ++ second)
+pub second_cut : (a b c : Option (List ℕ)) (text first second : List ℕ) → text ≡ first → Takes a b text → TakesFront b c second → TakesFront a c (first ++ second)
 second_cut a b c text first second is p (n, few, q) = (
   length first + n,
   omega (arith, length-append first second),
-  subst (Appends a c) (sym (take-append-add first second n)) (Appends-trans a b c first (take n second) (subst (Appends a b) is p) q),
+  subst (Takes a c) (sym (take-append-add first second n)) (Takes-trans a b c first (take n second) (subst (Takes a b) is p) q),
 )
 
 -- two bytes behind the first 31, one after the other

@@ -2,6 +2,7 @@
 -- Source: python-opentimestamps, opentimestamps/core/timestamp.py, DetachedTimestampFile.
 use Rattle.std.specs.Prelude.{◌≡◌, ℕ, ◌+◌, ◌≤◌, List, [], ◌∷◌, ◌++◌, length, drop}
 use Rattle.std.specs.List.{AllByRecursion}
+use Rattle.ots_base.specs.declared.limits.TheConstants.{MAX_PROOF_FILE}
 use Rattle.ots_ops.specs.declared.hash_op.HashOp.{HashOp}
 use Rattle.ots_ops.specs.HashOp.{tag, digest_length}
 use Rattle.ots_tree.specs.declared.detached.Detached.{Detached}
@@ -27,7 +28,7 @@ pub record HasFile (h : HashOp) (d : List ℕ) (t : Node) : Type 0 where
   pub digest : length d ≡ digest_length h
   pub tokens : AllByRecursion IsToken (pre t)
   pub sound : IsSound (length d) 0 t
-  pub size : length (file h d t) ≤ 4194304
+  pub size : length (file h d t) ≤ MAX_PROOF_FILE
 
 -- what a proof is written as
 unfoldable pub file_of : Detached → List ℕ

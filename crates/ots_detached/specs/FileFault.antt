@@ -1,7 +1,7 @@
 -- Where and why bytes are no proof file.
 use Rattle.std.specs.Prelude.{◌≡◌, ℕ, ◌+◌, List, [], ◌∷◌, ◌++◌, length, drop, not, ◌||◌, nat_lt, nat_eq, slice_get, Option, Some, None, if◌then◌else◌}
 use Rattle.std.specs.List.{starts_with}
-use Rattle.ots_io.specs.Table.{line, first_line}
+use Rattle.ots_base.specs.Table.{line, first_line}
 use Rattle.ots_ops.specs.declared.hash_op.HashOp.{HashOp}
 use Rattle.ots_tree.specs.Wire.{Node}
 use Rattle.ots_reader.specs.declared.fault.Fault.{Fault}

@@ -1,6 +1,7 @@
 -- What hashing a source's whole input answers.
 use Rattle.std.specs.Prelude.{◌≡◌, ◌+◌, ◌<◌, ◌≤◌, ℕ, List, length, Option, Result, Ok, Err}
-use Rattle.std.specs.Io.KnownBytes.{Consumes, IsAtEnd}
+use Rattle.std.specs.Io.KnownBytes.{IsAtEnd}
+use Rattle.ots_outside.specs.Streams.{Gives}
 use Rattle.ots_ops.specs.Hashed.{hashed}
 use Rattle.ots_ops.specs.declared.hash_op.HashOp.{HashOp}
 use Rattle.ots_detached.specs.declared.hashing.HashError.{HashError}
@@ -16,6 +17,6 @@ Tells hash limit came whole (Err ReadFault) = length came ≤ limit
 pub record HashesSource (hash : HashOp) (limit : ℕ) (old new : Option (List ℕ)) (result : Result (List ℕ) HashError) : Type 0 where
   -- what the reads gave
   pub came : List ℕ
-  pub consumed : Consumes old new came
+  pub gave : Gives old new came
   pub at_most : length came ≤ limit + 1
   pub tells : Tells hash limit came (IsAtEnd new) result

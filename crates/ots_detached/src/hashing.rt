@@ -1,12 +1,13 @@
 //! Hashing a file.
 ghost use Rattle.std.specs.Prelude.{◌≡◌, ◌+◌, ◌^◌, ◌<◌, ◌≤◌, length, IfOk, IsErrOf};
-ghost use Rattle.std.specs.Io.KnownBytes.{ReadConsumes};
-ghost use Rattle.ots_io.specs.Cause.{HasCause, HasCauseWhere};
+ghost use Rattle.ots_outside.specs.Streams.{Reads};
+ghost use Rattle.ots_base.specs.Cause.{HasCause, HasCauseWhere};
 ghost use Rattle.ots_detached.specs.SourceHash.{HashesSource};
 ghost use Rattle.ots_detached.specs.declared.hashing.HashError.TheVariants.{ReadFault};
 
-use ots_io::{Failed, Source};
+use ots_base::MAX_TARGET_FILE;
 use ots_ops::{Digest, HashOp, Hasher};
+use ots_outside::{Failed, Source};
 
 /// How many bytes are read at once, at most.
 const PIECE: usize = 65_536;
@@ -29,13 +30,13 @@ impl From<Failed> for HashError {
 }
 
 /// The digest that a hash makes of a source's whole input, where that has at most `limit` bytes.
-/// The limit is at most 2^40.
+/// The limit is at most `MAX_TARGET_FILE`, 2^40.
 ///
 /// It reads in pieces of at most 65,536 bytes, to the end of input or to the first byte past the
 /// limit, so at most `limit + 1` bytes. `FileTooLong` with the limit is answered exactly where that
 /// byte came, and `ReadFault` only where the source's count of faults rose. It takes no memory.
 pub fn hash_source<S: Source>(source: &mut S, hash: HashOp, limit: u64) -> Result<Digest, HashError>
-    requires { limit ≤ 2 ^ 40 }
+    requires { limit ≤ MAX_TARGET_FILE }
     ensures input { HashesSource hash limit (S.left source.old) (S.left source.new) result }
     ensures cause { HasCauseWhere (IsErrOf result HashError.ReadFault) (S.faults source.old) (S.faults source.new) }
     ensures same { S.same source.old source.new }
@@ -57,10 +58,10 @@ pub fn hash_source<S: Source>(source: &mut S, hash: HashOp, limit: u64) -> Resul
 /// Reads into the front of a piece, at most one byte more than `left`.
 fn read_piece<S: Source>(source: &mut S, piece: &mut [u8], left: u64) -> Result<usize, Failed>
     requires room { 0 < length piece.old }
-    requires small { left ≤ 2 ^ 40 }
+    requires small { left ≤ MAX_TARGET_FILE }
     ensures room { IfOk result (λ count. count ≤ length piece.new) }
     ensures bound { IfOk result (λ count. count ≤ left + 1) }
-    ensures bytes { ReadConsumes (S.left source.old) (S.left source.new) result piece.new }
+    ensures bytes { Reads (S.left source.old) (S.left source.new) result piece.new }
     ensures cause { HasCause (S.faults source.old) (S.faults source.new) result }
     ensures same { S.same source.old source.new }
 {

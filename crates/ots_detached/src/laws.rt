@@ -8,11 +8,12 @@ ghost use Rattle.ots_detached.specs.File.{file, file_of, HasFile, IsFileOf};
 ghost use Rattle.ots_detached.specs.FileFault.{HasFault};
 ghost use Rattle.ots_detached.specs.OneAnswer.{HasOneFault, HasOneFile};
 
+use ots_base::MAX_PROOF_FILE;
 use ots_tree::{Detached, limits_of_detached};
 
 /// At most 4,194,304 bytes have exactly one fault or are exactly one proof's file, and never both.
 pub fn fault_or_file()
-    ensures either { (b : List ℕ) → AreBytes b → length b ≤ 4194304 → HasOneFault b ⊎ HasOneFile b }
+    ensures either { (b : List ℕ) → AreBytes b → length b ≤ MAX_PROOF_FILE → HasOneFault b ⊎ HasOneFile b }
     ensures never_both { (h : HashOp) (d : List ℕ) (t : Node) (f : Fault) → HasFile h d t → HasFault (file h d t) f → ⊥ }
 {}
 
@@ -30,7 +31,7 @@ pub fn one_file()
 /// What a proof is written as, where it has at most 4,194,304 bytes, is read as that proof. What is
 /// read as a proof is what that is written as.
 pub fn written_file(proof: &Detached)
-    ensures reads { length (file_of proof.now) ≤ 4194304 → IsFileOf (file_of proof.now) proof.now }
+    ensures reads { length (file_of proof.now) ≤ MAX_PROOF_FILE → IsFileOf (file_of proof.now) proof.now }
     ensures writes { (b : List ℕ) → IsFileOf b proof.now → b ≡ file_of proof.now }
 {
     limits_of_detached(proof);

@@ -1,7 +1,7 @@
 //! Reading a proof file.
 ghost use Rattle.std.specs.Prelude.{◌≡◌, ◌+◌, ◌^◌, ◌<◌, ◌≤◌, length, Ok, Err, IfOk, IfErr, IsErrOf};
-ghost use Rattle.ots_io.specs.Cause.{HasCauseWhere};
-ghost use Rattle.ots_io.specs.Memory.{UnlessShort};
+ghost use Rattle.ots_base.specs.Cause.{HasCauseWhere};
+ghost use Rattle.ots_base.specs.Memory.{UnlessOutOfMemory};
 ghost use Rattle.ots_tree.specs.declared.detached.Detached.{Detached};
 ghost use Rattle.ots_reader.specs.declared.fault.Fault.{Fault};
 ghost use Rattle.ots_detached.specs.File.{IsFileOf, IsHeader};
@@ -9,13 +9,11 @@ ghost use Rattle.ots_detached.specs.FileFault.{HasFault};
 ghost use Rattle.ots_detached.specs.FileRead.{IsFileError, ReadsFile, moved_error, place_of};
 
 use crate::header::{Header, read_header};
-use ots_io::{ReadAllError, Source, read_all};
+use ots_base::MAX_PROOF_FILE;
+use ots_outside::{ReadAllError, Source, read_all};
 use ots_reader::{Fault, ReadError, Reason, read_tree};
 use ots_tree::{Detached, Shape};
 use std::alloc::Global;
-
-/// The greatest length of a proof file, in bytes.
-const LIMIT: usize = 4_194_304;
 
 /// Why no proof was read.
 #[derive(Clone, Copy, Debug, PartialEq, Eq)]
@@ -39,7 +37,7 @@ pub fn read_file<S: Source>(alloc: Global, source: &mut S) -> Result<Detached, F
     ensures cause { HasCauseWhere (IsErrOf result FileError.ReadFault) (S.faults source.old) (S.faults source.new) }
     ensures same { S.same source.old source.new }
 {
-    match read_all(alloc, source, LIMIT as u64) {
+    match read_all(alloc, source, MAX_PROOF_FILE as u64) {
         Ok(bytes) => read_bytes(alloc, &bytes),
         Err(ReadAllError::ReadFault) => Err(FileError::ReadFault),
         Err(ReadAllError::TooBig) => Err(FileError::TooBig),
@@ -51,11 +49,11 @@ pub fn read_file<S: Source>(alloc: Global, source: &mut S) -> Result<Detached, F
 pub fn read_bytes(alloc: Global, bytes: &[u8]) -> Result<Detached, FileError>
     ensures ok { IfOk result (IsFileOf bytes.now) }
     ensures err { IfErr result (IsFileError bytes.now) }
-    ensures accepts { (proof : Detached) → IsFileOf bytes.now proof → UnlessShort FileError.OutOfMemory result (Ok proof) }
-    ensures refuses { (f : Fault) → length bytes.now ≤ 4194304 → HasFault bytes.now f → UnlessShort FileError.OutOfMemory result (Err (FileError.BadProof f)) }
-    ensures too_big { 4194304 < length bytes.now → result ≡ Err FileError.TooBig }
+    ensures accepts { (proof : Detached) → IsFileOf bytes.now proof → UnlessOutOfMemory FileError.OutOfMemory result (Ok proof) }
+    ensures refuses { (f : Fault) → length bytes.now ≤ MAX_PROOF_FILE → HasFault bytes.now f → UnlessOutOfMemory FileError.OutOfMemory result (Err (FileError.BadProof f)) }
+    ensures too_big { MAX_PROOF_FILE < length bytes.now → result ≡ Err FileError.TooBig }
 {
-    if bytes.len() > LIMIT {
+    if bytes.len() > MAX_PROOF_FILE {
         return Err(FileError::TooBig);
     }
     match read_header(bytes) {
@@ -67,7 +65,7 @@ pub fn read_bytes(alloc: Global, bytes: &[u8]) -> Result<Detached, FileError>
 /// The proof behind a header.
 #[tactic(auto, using(crate::proofs::Files::error_place))]
 fn read_behind(alloc: Global, bytes: &[u8], header: Header) -> Result<Detached, FileError>
-    requires size { length bytes.now ≤ 4194304 }
+    requires size { length bytes.now ≤ MAX_PROOF_FILE }
     requires header { IsHeader bytes.now header.hash header.digest }
     ensures ok { IfOk result (IsFileOf bytes.now) }
     ensures err { IfErr result (IsFileError bytes.now) }

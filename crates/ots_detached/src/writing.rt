@@ -1,13 +1,12 @@
 //! Writing a proof file.
 ghost use Rattle.std.specs.Prelude.{◌≡◌, ◌+◌, ◌-◌, ◌^◌, ◌≤◌, length, min, take, OnOk};
-ghost use Rattle.std.specs.Io.KnownBytes.{Appends};
-ghost use Rattle.ots_io.specs.Cause.{HasCause};
-ghost use Rattle.ots_io.specs.Input.{AppendsFront};
+ghost use Rattle.ots_base.specs.Cause.{HasCause};
+ghost use Rattle.ots_outside.specs.Streams.{Takes, TakesFront};
 ghost use Rattle.ots_detached.specs.File.{file_of, header};
 
 use crate::header::MAGIC;
-use ots_io::{Failed, Sink, write_all};
 use ots_ops::HashOp;
+use ots_outside::{Failed, Sink, write_all};
 use ots_tree::{Detached, WriteFault, spell_to, spelled_length};
 
 /// How many bytes the file of a proof has. A number over 2^64 - 1 is given as 2^64 - 1. It takes no
@@ -27,8 +26,8 @@ pub fn file_length(proof: &Detached) -> u64
 /// big, so a caller looks at `file_length` first.
 #[tactic(auto, unfolding(crate::specs::File::file_of))]
 pub fn write_file<K: Sink>(proof: &Detached, sink: &mut K) -> Result<(), WriteFault>
-    ensures whole { OnOk result (Appends (K.taken sink.old) (K.taken sink.new) (file_of proof.now)) }
-    ensures front { AppendsFront (K.taken sink.old) (K.taken sink.new) (file_of proof.now) }
+    ensures whole { OnOk result (Takes (K.taken sink.old) (K.taken sink.new) (file_of proof.now)) }
+    ensures front { TakesFront (K.taken sink.old) (K.taken sink.new) (file_of proof.now) }
     ensures cause { HasCause (K.faults sink.old) (K.faults sink.new) result }
     ensures same { K.same sink.old sink.new }
 {

@@ -17,7 +17,7 @@ use Rattle.ots_eval.specs.declared.verdicts.Chain.TheVariants as chain
 use Rattle.ots_eval.specs.declared.verdicts.Verdict.{Verdict}
 use Rattle.ots_eval.specs.declared.best.Best.{Best}
 use Rattle.ots_eval.specs.declared.best.Found.{Found}
-use Rattle.ots_eval.specs.Value.{value}
+use Rattle.ots_ops.specs.Value.{value}
 use Rattle.ots_eval.specs.Confirmed.{attests, Confirms, NoneConfirmed, IsLeastConfirmed, NoneConfirmedIn, IsLeastConfirmedIn, IsVerdict}
 use Rattle.ots_eval.specs.Walked.{Messages, found_in, found_at, lesser, noted, walked, nothing, verdict_of, verdict_of_found, after, reopened}
 use Rattle.ots_eval.proofs.Least.{SomeEnd, IsLeast, least, least_is}

@@ -8,7 +8,7 @@ use Rattle.ots_attest.specs.declared.attestation.Attestation.{Attestation}
 use Rattle.ots_tree.specs.declared.token.Token.{Token}
 use Rattle.ots_tree.specs.declared.token.Token.TheVariants as token
 use Rattle.ots_tree.specs.Wire.{Node, Item, last, more, attested, step, pre, pre_item, Path, paths, paths_of_item, below}
-use Rattle.ots_eval.specs.Value.{value}
+use Rattle.ots_ops.specs.Value.{value}
 use Rattle.ots_eval.specs.Walked.{Messages, reopened, after}
 
 -- an attestation and the message that it stands on

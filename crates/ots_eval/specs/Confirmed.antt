@@ -12,7 +12,7 @@ use Rattle.ots_eval.specs.declared.verdicts.Chain.{Chain}
 use Rattle.ots_eval.specs.declared.verdicts.Chain.TheVariants as chain
 use Rattle.ots_eval.specs.declared.verdicts.Verdict.{Verdict}
 use Rattle.ots_eval.specs.declared.verdicts.Verdict.TheVariants.{Yes, NoDigest, NoPath}
-use Rattle.ots_eval.specs.Value.{value}
+use Rattle.ots_ops.specs.Value.{value}
 
 -- the attestation that names a block of this chain
 abbrev pub attests : Chain → ℕ → Attestation

@@ -1,3 +1,2 @@
-pub mod Value
 pub mod Confirmed
 pub mod Walked

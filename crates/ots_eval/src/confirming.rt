@@ -5,8 +5,8 @@ ghost use Rattle.ots_eval.specs.Confirmed.{IsVerdict};
 
 use crate::verdicts::Verdict;
 use crate::walk::best_of;
+use ots_base::OutOfMemory;
 use ots_bitcoin::Headers;
-use ots_io::OutOfMemory;
 use ots_ops::Digest;
 use ots_tree::Detached;
 use std::alloc::Global;

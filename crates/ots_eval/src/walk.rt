@@ -5,8 +5,8 @@ ghost use Rattle.ots_ops.specs.Apply.{apply};
 ghost use Rattle.ots_eval.specs.Walked.{after, noted, walked, nothing};
 
 use crate::best::Best;
+use ots_base::OutOfMemory;
 use ots_bitcoin::Headers;
-use ots_io::OutOfMemory;
 use ots_ops::{Digest, Message, Op, OpError, apply};
 use ots_tree::Token;
 use std::alloc::Global;

@@ -1,6 +1,13 @@
 // The nonces in memory.
-use ots_io::{Failed, ListNonces, Nonces};
+use ots_io::{Failed, ListNonces, Nonces, OneNonce};
 use std::test::Fail;
+
+/// A nonce, as any giver of nonces gives it.
+fn draw<N: Nonces>(nonces: &mut N) -> Result<[u8; 16], Failed> {
+    let mut nonce = [0; 16];
+    nonces.fill16(&mut nonce)?;
+    Ok(nonce)
+}
 
 #[test]
 fn nonces_are_the_bytes_in_their_order(rt: HostRuntime) -> Result<(), Fail> {
@@ -16,9 +23,22 @@ fn nonces_are_the_bytes_in_their_order(rt: HostRuntime) -> Result<(), Fail> {
         let bytes = b"0123456789abcdefghijklmnopqrstuvwxyz+-*/";
         let mut nonces = ListNonces::new(rt.alloc(), bytes, failing)?;
         for answer in answers {
-            let mut nonce = [0; 16];
-            let filled = nonces.fill16(&mut nonce);
-            assert_eq!(rt; filled.map(|()| nonce), answer);
+            assert_eq!(rt; draw(&mut nonces), answer);
+        }
+    }
+    Ok(())
+}
+
+#[test]
+fn one_nonce_is_drawn_once(rt: HostRuntime) -> Result<(), Fail> {
+    let nonce = *b"0123456789abcdef";
+    for (given, answers) in [
+        (Some(nonce), [Ok(nonce), Err(Failed), Err(Failed)]),
+        (None, [Err(Failed), Err(Failed), Err(Failed)]),
+    ] {
+        let mut nonces = OneNonce::new(given);
+        for answer in answers {
+            assert_eq!(rt; draw(&mut nonces), answer);
         }
     }
     Ok(())

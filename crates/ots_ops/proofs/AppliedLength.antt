@@ -1,12 +1,12 @@
 -- How long digests and results are.
-use Rattle.std.proofs.Common.{◌≡◌, ℕ, zero, suc, ◌+◌, ◌*◌, List, [], ◌∷◌, length, refl, arith, length-append}
+use Rattle.std.proofs.Common.{◌≡◌, ℕ, zero, suc, ◌*◌, List, [], ◌∷◌, length, refl, arith, length-append}
 use Rattle.std.proofs.lemmas.List.{length-reverse}
 use Rattle.std.specs.Int.{to_be_bytes, w32}
 use Rattle.std.specs.Prelude.{slice_index}
 use Rattle.sha1.specs.Sha1.{digest_bytes, sha1}
 use Rattle.sha2.proofs.Facts256.{length-sha256}
 use Rattle.ots_ripemd.proofs.Digests.{length-ripemd160}
-use Rattle.hex.specs.Hex.{encode_lower, encode_with, lower_digits}
+use Rattle.hex.specs.Hex.{encode_with, lower_digits}
 use Rattle.ots_ops.specs.Apply.{applied}
 use Rattle.ots_ops.specs.HashOp.{digest_length}
 use Rattle.ots_ops.specs.Hashed.{hashed}

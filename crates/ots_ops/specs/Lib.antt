@@ -9,3 +9,4 @@ pub mod Message
 pub mod NewArg
 pub mod Operation
 pub mod ResultLength
+pub mod Value

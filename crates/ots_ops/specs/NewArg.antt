@@ -1,5 +1,6 @@
 -- What bytes are as an argument.
 use Rattle.std.specs.Prelude.{ℕ, List, length, nat_eq, nat_lt, if◌then◌else◌, Result, Ok, Err}
+use Rattle.ots_base.specs.declared.limits.TheConstants.{MAX_ARGUMENT}
 use Rattle.ots_ops.specs.declared.arg.Arg.{Arg}
 use Rattle.ots_ops.specs.declared.arg.ArgError.{ArgError}
 use Rattle.ots_ops.specs.declared.arg.ArgError.TheVariants.{Empty, TooLong}
@@ -8,5 +9,5 @@ use Rattle.ots_ops.specs.declared.arg.ArgError.TheVariants.{Empty, TooLong}
 abbrev pub new_arg : List ℕ → Result Arg ArgError
 new_arg bytes =
     if nat_eq (length bytes) 0 then Err Empty
-    else if nat_lt 4096 (length bytes) then Err (TooLong (length bytes))
+    else if nat_lt MAX_ARGUMENT (length bytes) then Err (TooLong (length bytes))
     else Ok bytes

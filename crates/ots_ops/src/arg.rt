@@ -1,15 +1,15 @@
 //! The argument of an append or a prepend.
 ghost use Rattle.std.specs.Prelude.{◌≡◌, IfOk};
-ghost use Rattle.ots_io.specs.Memory.{UnlessShort};
+ghost use Rattle.ots_base.specs.Memory.{UnlessOutOfMemory};
 ghost use Rattle.ots_ops.specs.Arg.{IsArg};
 ghost use Rattle.ots_ops.specs.NewArg.{new_arg};
 
-use ots_io::OutOfMemory;
+use ots_base::{MAX_ARGUMENT, OutOfMemory};
 use std::alloc::Global;
 use std::marker::Model;
 use thiserror::Error;
 
-/// The bytes that an append or a prepend adds to a message: 1 to 4096 of them.
+/// The bytes that an append or a prepend adds to a message: 1 to `MAX_ARGUMENT` of them, 4096.
 ///
 /// Contracts see the list of these bytes.
 #[derive(Debug, Drop)]
@@ -45,14 +45,16 @@ pub enum ArgError {
 impl Arg {
     /// The argument of these bytes, in memory of `alloc`, which it keeps.
     ///
-    /// `Empty` exactly for no bytes, `TooLong` with their number exactly for more than 4096.
+    /// `Empty` exactly for no bytes, `TooLong` with their number exactly for more than 4096, and
+    /// `OutOfMemory` never in their place.
     pub fn new(alloc: Global, bytes: &[u8]) -> Result<Arg, ArgError>
-        ensures { UnlessShort ArgError.OutOfMemory result (new_arg bytes.now) }
+        ensures value { UnlessOutOfMemory ArgError.OutOfMemory result (new_arg bytes.now) }
+        ensures short { result ≡ Err ArgError.OutOfMemory → new_arg bytes.now ≡ Ok bytes.now }
     {
         if bytes.is_empty() {
             return Err(ArgError::Empty);
         }
-        if bytes.len() > 4096 {
+        if bytes.len() > MAX_ARGUMENT {
             return Err(ArgError::TooLong(bytes.len() as u64));
         }
         match Vec::from_slice(alloc, bytes) {

@@ -8,6 +8,7 @@ ghost use Rattle.ots_ops.specs.ResultLength.{len, made, most, refusal};
 
 use crate::length::{OpError, result_length};
 use crate::op::Op;
+use ots_base::{MAX_HEXLIFIED, MAX_MESSAGE};
 use ots_ripemd::ripemd160;
 use sha1::Sha1;
 use sha2::{Digest, Sha256};
@@ -18,25 +19,29 @@ use sha2::{Digest, Sha256};
 /// It refuses exactly what `result_length` refuses, for the same reason, and the buffer is then as
 /// before. It takes no memory, and never answers `OutOfMemory`.
 #[tactic(auto, using(crate::proofs::AppliedLength::length_of_applied))]
-pub fn apply_in_place(op: &Op, buffer: &mut [u8; 4096], length: usize) -> Result<usize, OpError>
-    requires { length ≤ 4096 }
+pub fn apply_in_place(
+    op: &Op,
+    buffer: &mut [u8; MAX_MESSAGE],
+    length: usize,
+) -> Result<usize, OpError>
+    requires { length ≤ MAX_MESSAGE }
     ensures length { result_ok result ≡ len op.now length }
     ensures refusal { result_err result ≡ refusal op.now length }
-    ensures limit { IfOk result (λ made. made ≤ 4096) }
-    ensures value { IfOk result (λ made. apply op.now (take length buffer.old) ≡ Some (take made buffer.new)) }
-    ensures behind { IfOk result (λ made. drop made buffer.new ≡ drop made buffer.old) }
+    ensures limit { IfOk result (λ answered. answered ≤ MAX_MESSAGE) }
+    ensures value { IfOk result (λ answered. apply op.now (take length buffer.old) ≡ Some (take answered buffer.new)) }
+    ensures behind { IfOk result (λ answered. drop answered buffer.new ≡ drop answered buffer.old) }
     ensures as_before { OnErr result (buffer.new ≡ buffer.old) }
 {
-    let made = result_length(op, length)?;
+    let answered = result_length(op, length)?;
     put(op, buffer, length);
-    Ok(made)
+    Ok(answered)
 }
 
 /// Puts what an operation makes of the first `filled` bytes in their place.
 fn put(op: &Op, buffer: &mut [u8], filled: usize)
-    requires room { length buffer.old ≡ 4096 }
+    requires room { length buffer.old ≡ MAX_MESSAGE }
     requires message_fits { filled ≤ most op.now }
-    requires result_fits { made op.now filled ≤ 4096 }
+    requires result_fits { made op.now filled ≤ MAX_MESSAGE }
     ensures { buffer.new ≡ applied op.now (take filled buffer.old) ++ drop (made op.now filled) buffer.old }
 {
     match op {
@@ -91,13 +96,13 @@ fn prepend(buffer: &mut [u8], filled: usize, argument: &[u8])
     buffer[..argument.len()].copy_from_slice(argument);
 }
 
-/// Puts two digits in the place of each of the first `filled` bytes, of which there are at most 2048.
+/// Puts two digits in the place of each of the first `filled` bytes.
 fn hexlify(buffer: &mut [u8], filled: usize)
-    requires fits { filled ≤ 2048 }
+    requires fits { filled ≤ MAX_HEXLIFIED }
     requires room { 2 * filled ≤ length buffer.old }
     ensures { buffer.new ≡ encode_lower (take filled buffer.old) ++ drop (2 * filled) buffer.old }
 {
-    let mut message = [0; 2048];
+    let mut message = [0; MAX_HEXLIFIED];
     message[..filled].copy_from_slice(&buffer[..filled]);
     let Ok(()) = hex::encode_to_slice(&message[..filled], &mut buffer[..2 * filled]) else {
         unreachable!();

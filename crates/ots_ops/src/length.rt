@@ -5,6 +5,7 @@ ghost use Rattle.ots_ops.specs.ResultLength.{len, refusal};
 
 use crate::hash_op::HashOp;
 use crate::op::Op;
+use ots_base::{MAX_HEXLIFIED, MAX_MESSAGE};
 use thiserror::Error;
 
 /// Why an operation has no result on a message.
@@ -26,13 +27,7 @@ pub enum OpError {
     OutOfMemory,
 }
 
-/// The most bytes of a message, and so of a result.
-const LONGEST: usize = 4096;
-
-/// The most bytes of which hexadecimal digits are made.
-const LONGEST_HEXLIFIED: usize = 2048;
-
-/// How many bytes an operation makes of a message of `length` bytes: at most 4096.
+/// How many bytes an operation makes of a message of `length` bytes: at most `MAX_MESSAGE`, 4096.
 ///
 /// `TooLong` exactly where the message has more than 4096 bytes, where it is to be hexlified and
 /// has more than 2048, or where the result has more than 4096, tested in this order. `Empty`
@@ -41,17 +36,17 @@ const LONGEST_HEXLIFIED: usize = 2048;
 pub fn result_length(op: &Op, length: usize) -> Result<usize, OpError>
     ensures length { result_ok result ≡ len op.now length }
     ensures refusal { result_err result ≡ refusal op.now length }
-    ensures limit { IfOk result (λ made. made ≤ 4096) }
+    ensures limit { IfOk result (λ answered. answered ≤ MAX_MESSAGE) }
 {
-    at_most(length, LONGEST)?;
+    at_most(length, MAX_MESSAGE)?;
     match op {
         Op::Sha1 => Ok(HashOp::Sha1.digest_length()),
         Op::Ripemd160 => Ok(HashOp::Ripemd160.digest_length()),
         Op::Sha256 => Ok(HashOp::Sha256.digest_length()),
-        Op::Append(argument) => at_most(length + argument.bytes().len(), LONGEST),
-        Op::Prepend(argument) => at_most(argument.bytes().len() + length, LONGEST),
+        Op::Append(argument) => at_most(length + argument.bytes().len(), MAX_MESSAGE),
+        Op::Prepend(argument) => at_most(argument.bytes().len() + length, MAX_MESSAGE),
         Op::Reverse => at_least_one(length),
-        Op::Hexlify => Ok(2 * at_least_one(at_most(length, LONGEST_HEXLIFIED)?)?),
+        Op::Hexlify => Ok(2 * at_least_one(at_most(length, MAX_HEXLIFIED)?)?),
     }
 }
 

@@ -29,4 +29,4 @@ pub use message::Message;
 pub use op::Op;
 pub use ops::Ops;
 pub use results::apply;
-pub use spell::spell_op;
+pub use spell::{MAX_SPELLED_OP, spell_op};

@@ -2,11 +2,11 @@
 ghost use Rattle.std.specs.Prelude.{◌≡◌, ◌≤◌, length, IfOk};
 ghost use Rattle.ots_ops.specs.Message.{IsMessage};
 
-use ots_io::OutOfMemory;
+use ots_base::{MAX_MESSAGE, OutOfMemory};
 use std::alloc::Global;
 use std::marker::Model;
 
-/// A message, which operations are applied to: at most 4096 bytes.
+/// A message, which operations are applied to: at most `MAX_MESSAGE` bytes, 4096.
 ///
 /// Contracts see the list of these bytes.
 #[derive(Debug, Drop)]
@@ -29,7 +29,7 @@ impl Message {
     /// The message of these bytes, of which there are at most 4096, in memory of `alloc`, which it
     /// keeps.
     pub fn new(alloc: Global, bytes: &[u8]) -> Result<Message, OutOfMemory>
-        requires { length bytes.now ≤ 4096 }
+        requires { length bytes.now ≤ MAX_MESSAGE }
         ensures { IfOk result (λ message. message ≡ bytes.now) }
     {
         let bytes = Vec::from_slice(alloc, bytes)?;
@@ -38,7 +38,7 @@ impl Message {
 
     /// The message that keeps these bytes, of which there are at most 4096.
     pub(crate) fn kept(bytes: Vec<u8>) -> Message
-        requires { length bytes.items ≤ 4096 }
+        requires { length bytes.items ≤ MAX_MESSAGE }
         ensures { result ≡ bytes.items }
     {
         Message { bytes }

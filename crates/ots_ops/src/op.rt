@@ -4,7 +4,7 @@ ghost use Rattle.ots_ops.specs.Operation.{tag, argument, IsOp};
 
 use crate::arg::Arg;
 use crate::hash_op::HashOp;
-use ots_io::OutOfMemory;
+use ots_base::OutOfMemory;
 
 /// One step of a proof, from a message to the next.
 ///

@@ -2,7 +2,7 @@
 ghost use Rattle.std.specs.Prelude.{◌≡◌, ◌++◌, ◌∷◌, [], IfOk, is_ok, if◌then◌else◌};
 
 use crate::op::Op;
-use ots_io::OutOfMemory;
+use ots_base::OutOfMemory;
 use std::alloc::Global;
 use std::marker::Model;
 

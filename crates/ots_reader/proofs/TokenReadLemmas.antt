@@ -3,7 +3,7 @@ use Rattle.std.proofs.Common.{◌≡◌, ℕ, ◌+◌, ◌-◌, ◌<◌, ◌≤�
 use Rattle.std.specs.Prelude.{Result, Ok}
 use Rattle.std.proofs.lemmas.Bool.{le-ltb, ne_eqb}
 use Rattle.std.proofs.lemmas.List.{length-take-le}
-use Rattle.ots_io.specs.Memory.{UnlessShort}
+use Rattle.ots_base.specs.Memory.{UnlessOutOfMemory}
 use Rattle.ots_varint.specs.Reading.{IsSpelledAt}
 use Rattle.ots_varint.proofs.Behind.{IsBehind, behind, same_slice}
 use Rattle.ots_varint.proofs.ReadBack.{all_bytes}
@@ -50,14 +50,14 @@ body_read n used k bytes a at room is =
 ok_is : (r : Result (List ℕ) ArgError) (a b : List ℕ) → Ok a ≡ r → r ≡ Ok b → a ≡ b
 ok_is r a b e f = cc
 
-arg_made : (x a : List ℕ) → 1 ≤ length x → length x ≤ 4096 → UnlessShort OutOfMemory (Ok a) (new_arg x) → a ≡ x
+arg_made : (x a : List ℕ) → 1 ≤ length x → length x ≤ 4096 → UnlessOutOfMemory OutOfMemory (Ok a) (new_arg x) → a ≡ x
 arg_made x a least greatest made =
     let is : new_arg x ≡ Ok x = rw (ne_eqb (length x) 0 (λ e. omega arith), le-ltb 4096 (length x) greatest) refl in
     ok_is (new_arg x) a x (made (λ e. cc)) is
 
 -- the argument that is made of a slice
 pub argument_made : (n used : ℕ) (bytes a : List ℕ) → IsSpelledAt bytes n used → ((k : ℕ) → get_or bytes k 0 < 256) → used + n ≤ length bytes → 1 ≤ n → n ≤ 4096
-    → UnlessShort OutOfMemory (Ok a) (new_arg (take (used + n - used) (drop used bytes))) → IsArgAt bytes a (used + n)
+    → UnlessOutOfMemory OutOfMemory (Ok a) (new_arg (take (used + n - used) (drop used bytes))) → IsArgAt bytes a (used + n)
 argument_made n used bytes a at all room least greatest made =
     let x = take (used + n - used) (drop used bytes) in
     let size : length x ≡ n = ap length (same_slice n used bytes) ∙ length-take-le n (drop used bytes) (omega (arith, length-drop used bytes)) in

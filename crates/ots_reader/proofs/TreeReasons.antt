@@ -1,7 +1,7 @@
 -- Which reasons the fault of a tree has.
 use Rattle.std.proofs.Common.{ℕ, ◌+◌, Bool, true, false, cond, ltb, leb, eqb, List, [], ◌∷◌, length, take, drop, Option, Some, None, subst}
 use Rattle.std.specs.Prelude.{IfSome, not, ◌||◌, option_and_then}
-use Rattle.ots_io.specs.Table.{line, first_line}
+use Rattle.ots_base.specs.Table.{line, first_line}
 use Rattle.ots_varint.specs.declared.reading.VaruintRead.{VaruintRead}
 use Rattle.ots_varint.specs.declared.reading.VaruintRead.TheVariants as read
 use Rattle.ots_varint.specs.Reading.{reading}

@@ -4,7 +4,7 @@ use Rattle.std.specs.Prelude.{option_and_then, Result, Ok, Err, IfOk, IfErr}
 use Rattle.std.specs.List.{AllByRecursion}
 use Rattle.std.proofs.lemmas.Grind.{flat_map-append}
 use Rattle.std.proofs.lemmas.List.{append-nil, drop-drop, take_all, take_at, drop_at}
-use Rattle.ots_io.specs.Memory.{UnlessShort}
+use Rattle.ots_base.specs.Memory.{UnlessOutOfMemory}
 use Rattle.ots_tree.specs.declared.shape.Shape.{Shape}
 use Rattle.ots_tree.specs.declared.tree.Tree.{Tree}
 use Rattle.ots_tree.specs.declared.token.Token.{Token}
@@ -156,7 +156,7 @@ not_both n k input tree used f deep at fault =
 -- ---- what is answered, the other way
 
 pub accepted : (n k : ℕ) (input : List ℕ) (r : Result (Tree × ℕ) ReadError) → k ≤ 255 → IfOk r (λ a. IsTreeAt n k input a.0 a.1) → IfErr r (λ e. IsTreeError n k input e)
-    → (tree : Tree) (used : ℕ) → IsTreeAt n k input tree used → UnlessShort error.OutOfMemory r (Ok (tree, used))
+    → (tree : Tree) (used : ℕ) → IsTreeAt n k input tree used → UnlessOutOfMemory error.OutOfMemory r (Ok (tree, used))
 accepted n k input (Ok (t, u)) deep ok err tree used at short =
     let same = one_tree_at n k input t tree u used ok at in
     λ i. Ok (same.0 i, same.1 i)
@@ -164,7 +164,7 @@ accepted n k input (Err error.OutOfMemory) deep ok err tree used at short = absu
 accepted n k input (Err (error.Fault f)) deep ok err tree used at short = absurd (not_both n k input tree used f deep at err)
 
 pub refuses : (n k : ℕ) (input : List ℕ) (r : Result (Tree × ℕ) ReadError) → k ≤ 255 → IfOk r (λ a. IsTreeAt n k input a.0 a.1) → IfErr r (λ e. IsTreeError n k input e)
-    → (f : Fault) → HasTreeFault n k input f → UnlessShort error.OutOfMemory r (Err (error.Fault f))
+    → (f : Fault) → HasTreeFault n k input f → UnlessOutOfMemory error.OutOfMemory r (Err (error.Fault f))
 refuses n k input (Ok (t, u)) deep ok err f fault short = absurd (not_both n k input t u f deep ok fault)
 refuses n k input (Err error.OutOfMemory) deep ok err f fault short = absurd (short refl)
 refuses n k input (Err (error.Fault g)) deep ok err f fault short = ap (λ (z : Fault). Err (error.Fault z)) (one_fault_lem n k input g f err fault)

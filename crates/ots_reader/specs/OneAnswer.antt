@@ -1,5 +1,6 @@
 -- Bytes have one fault, or begin with one sound tree.
 use Rattle.std.specs.Prelude.{◌≡◌, ℕ, ◌≤◌, List, ◌++◌}
+use Rattle.ots_base.specs.declared.limits.TheConstants.{MAX_MESSAGE, MAX_OPERATIONS}
 use Rattle.ots_tree.specs.Wire.{Node, bytes}
 use Rattle.ots_reader.specs.declared.fault.Fault.{Fault}
 use Rattle.ots_reader.specs.declared.fault.Reason.{Reason}
@@ -24,8 +25,8 @@ pub record HasOneTree (n k : ℕ) (input : List ℕ) : Type 0 where
 -- the length of a message and the number of operations before it, as a proof may have them
 pub record IsShape (n k : ℕ) : Type 0 where
   pub least : 1 ≤ n
-  pub greatest : n ≤ 4096
-  pub depth : k ≤ 255
+  pub greatest : n ≤ MAX_MESSAGE
+  pub depth : k ≤ MAX_OPERATIONS
 
 -- A reason that a tree can have: none of a file's header, and not that bytes follow the tree.
 abbrev pub IsTreeReason : Reason → Type 0

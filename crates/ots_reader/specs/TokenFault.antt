@@ -2,7 +2,8 @@
 -- line that fits. Source of the limits: python-opentimestamps, opentimestamps/core/op.py and notary.py.
 use Rattle.std.specs.Prelude.{ℕ, ◌+◌, List, [], ◌∷◌, length, take, drop, Bool, not, ◌||◌, nat_lt, nat_eq, Option, Some, None, option_and_then, if◌then◌else◌}
 use Rattle.std.specs.List.{list_any}
-use Rattle.ots_io.specs.Table.{line, first_line}
+use Rattle.ots_base.specs.declared.limits.TheConstants.{MAX_ARGUMENT, MAX_PAYLOAD}
+use Rattle.ots_base.specs.Table.{line, first_line}
 use Rattle.ots_varint.specs.declared.reading.VaruintRead.{VaruintRead}
 use Rattle.ots_varint.specs.declared.reading.VaruintRead.TheVariants as read
 use Rattle.ots_varint.specs.Reading.{reading}
@@ -38,7 +39,7 @@ length_fault read.TooLarge = Some VaruintTooLarge
 abbrev pub argument_fault : VaruintRead → List ℕ → Option Reason
 argument_fault (read.Value n used) bytes = first_line (
     line (nat_eq n 0) ArgEmpty
-    ∷ line (nat_lt 4096 n) ArgTooLong
+    ∷ line (nat_lt MAX_ARGUMENT n) ArgTooLong
     ∷ line (nat_lt (length bytes) (used + n)) Truncated
     ∷ [])
 argument_fault r bytes = length_fault r
@@ -54,7 +55,7 @@ as_reason payload.OutOfMemory = None
 -- of a payload of this kind behind its length, where the bytes begin with this number
 abbrev pub body_fault : List ℕ → VaruintRead → List ℕ → Option Reason
 body_fault kind (read.Value n used) bytes = first_line (
-    line (nat_lt 8192 n) PayloadTooLong
+    line (nat_lt MAX_PAYLOAD n) PayloadTooLong
     ∷ line (nat_lt (length bytes) (used + n)) Truncated
     ∷ option_and_then as_reason (payload_fault kind (take n (drop used bytes)))
     ∷ [])

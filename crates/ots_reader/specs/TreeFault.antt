@@ -2,7 +2,8 @@
 -- a reason whether they belong together.
 use Rattle.std.specs.Prelude.{◌≡◌, ℕ, List, [], ◌∷◌, ◌++◌, length, Bool, ◌||◌, nat_lt, nat_le, Option, Some, None}
 use Rattle.std.specs.List.{AllByRecursion}
-use Rattle.ots_io.specs.Table.{line, first_line}
+use Rattle.ots_base.specs.declared.limits.TheConstants.{MAX_MESSAGE, MAX_OPERATIONS}
+use Rattle.ots_base.specs.Table.{line, first_line}
 use Rattle.ots_ops.specs.ResultLength.{most, made}
 use Rattle.ots_tree.specs.declared.token.Token.{Token}
 use Rattle.ots_tree.specs.declared.token.Token.TheVariants as token
@@ -19,8 +20,8 @@ use Rattle.ots_reader.specs.TokenFault.{token_fault}
 abbrev pub place_fault : Shape → Bool → Token → Option Reason
 place_fault at forked token.Fork = first_line (line forked ForkFork ∷ [])
 place_fault at forked (token.Op o) = first_line (
-    line (nat_le 255 at.depth) TooDeep
-    ∷ line (nat_lt 4096 (made o at.length) || nat_lt (most o) at.length) ResultTooLong
+    line (nat_le MAX_OPERATIONS at.depth) TooDeep
+    ∷ line (nat_lt MAX_MESSAGE (made o at.length) || nat_lt (most o) at.length) ResultTooLong
     ∷ [])
 place_fault at forked (token.Attestation a) = None
 

@@ -1,5 +1,5 @@
 //! What is wrong with bytes that are no proof, and where.
-use ots_io::OutOfMemory;
+use ots_base::OutOfMemory;
 use std::alloc::AllocFailed;
 use std::fmt;
 

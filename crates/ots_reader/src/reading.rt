@@ -1,6 +1,6 @@
 //! Reading a tree, token after token.
 ghost use Rattle.std.specs.Prelude.{◌≡◌, ◌≤◌, ℕ, Ok, Err, IfOk, IfErr};
-ghost use Rattle.ots_io.specs.Memory.{UnlessShort};
+ghost use Rattle.ots_base.specs.Memory.{UnlessOutOfMemory};
 ghost use Rattle.ots_tree.specs.declared.tree.Tree.{Tree};
 ghost use Rattle.ots_reader.specs.TokenRead.{IsErrorAt};
 ghost use Rattle.ots_reader.specs.TreeFault.{HasTreeFault};
@@ -10,6 +10,7 @@ ghost use Rattle.ots_reader.specs.declared.fault.Fault.{Fault};
 use crate::fault::{Fault, ReadError, TokenError};
 use crate::token::read_token;
 use crate::turn::{OpenNode, take_turn};
+use ots_base::{MAX_MESSAGE, MAX_OPERATIONS};
 use ots_tree::{Shape, Token, Tree, from_tokens};
 use std::alloc::Global;
 
@@ -21,14 +22,14 @@ use std::alloc::Global;
 /// operations before it, at most 255.
 pub fn read_tree(alloc: Global, bytes: &[u8], shape: Shape) -> Result<(Tree, usize), ReadError>
     requires least { 1 ≤ shape.length }
-    requires greatest { shape.length ≤ 4096 }
-    requires depth { shape.depth ≤ 255 }
+    requires greatest { shape.length ≤ MAX_MESSAGE }
+    requires depth { shape.depth ≤ MAX_OPERATIONS }
     ensures ok { IfOk result (λ r. IsTreeAt shape.length shape.depth bytes.now r.0 r.1) }
     ensures err { IfErr result (λ e. IsTreeError shape.length shape.depth bytes.now e) }
     ensures accepts { (tree : Tree) (used : ℕ) → IsTreeAt shape.length shape.depth bytes.now tree used
-        → UnlessShort ReadError.OutOfMemory result (Ok (tree, used)) }
+        → UnlessOutOfMemory ReadError.OutOfMemory result (Ok (tree, used)) }
     ensures refuses { (f : Fault) → HasTreeFault shape.length shape.depth bytes.now f
-        → UnlessShort ReadError.OutOfMemory result (Err (ReadError.Fault f)) }
+        → UnlessOutOfMemory ReadError.OutOfMemory result (Err (ReadError.Fault f)) }
 {
     read_tokens(alloc, bytes, shape)
 }
@@ -36,8 +37,8 @@ pub fn read_tree(alloc: Global, bytes: &[u8], shape: Shape) -> Result<(Tree, usi
 /// Reads token after token, while a node is open.
 fn read_tokens(alloc: Global, bytes: &[u8], shape: Shape) -> Result<(Tree, usize), ReadError>
     requires least { 1 ≤ shape.length }
-    requires greatest { shape.length ≤ 4096 }
-    requires depth { shape.depth ≤ 255 }
+    requires greatest { shape.length ≤ MAX_MESSAGE }
+    requires depth { shape.depth ≤ MAX_OPERATIONS }
     ensures ok { IfOk result (λ r. IsTreeAt shape.length shape.depth bytes.now r.0 r.1) }
     ensures err { IfErr result (λ e. IsTreeError shape.length shape.depth bytes.now e) }
 {

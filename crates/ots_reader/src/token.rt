@@ -7,6 +7,7 @@ ghost use Rattle.ots_reader.specs.TokenRead.{IsTokenAt, IsArgAt, IsAttestationAt
 
 use crate::fault::{Reason, TokenError};
 use ots_attest::{Attestation, PayloadError, from_payload};
+use ots_base::{MAX_ARGUMENT, MAX_PAYLOAD};
 use ots_ops::{Arg, ArgError, Op};
 use ots_tree::Token;
 use ots_varint::{VaruintRead, read_varuint};
@@ -108,7 +109,7 @@ fn argument_behind(
     if length == 0 {
         return Err(TokenError::Fault(Reason::ArgEmpty));
     }
-    if length > 4096 {
+    if length > MAX_ARGUMENT as u64 {
         return Err(TokenError::Fault(Reason::ArgTooLong));
     }
     let end = used + length as usize;
@@ -156,7 +157,7 @@ fn body_behind(
     ensures ok { IfOk result (λ r. IsBodyAt kind bytes.now r.0 r.1) }
     ensures err { IfErr result (λ e. IsTokenError (body_fault kind (Value length used) bytes.now) e) }
 {
-    if length > 8192 {
+    if length > MAX_PAYLOAD as u64 {
         return Err(TokenError::Fault(Reason::PayloadTooLong));
     }
     let end = used + length as usize;

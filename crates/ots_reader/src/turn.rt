@@ -3,6 +3,7 @@ ghost use Rattle.std.specs.Prelude.{◌≤◌};
 ghost use Rattle.ots_reader.specs.Turn.{IsTurn, Moves};
 
 use crate::fault::{Reason, TokenError};
+use ots_base::{MAX_MESSAGE, MAX_OPERATIONS};
 use ots_ops::result_length;
 use ots_tree::{Shape, Token};
 
@@ -36,7 +37,7 @@ pub(crate) fn take_turn(
     token: &Token,
 ) -> Result<Option<OpenNode>, TokenError>
     requires least { 1 ≤ last.shape.length }
-    requires greatest { last.shape.length ≤ 4096 }
+    requires greatest { last.shape.length ≤ MAX_MESSAGE }
     ensures { Moves last others.old.items others.new.items token.now result }
 {
     match turn_of(last.shape, last.forked, token) {
@@ -65,13 +66,13 @@ pub(crate) fn take_turn(
 /// What a token does at this node, behind a fork where `forked` says so.
 fn turn_of(at: Shape, forked: bool, token: &Token) -> Turn
     requires least { 1 ≤ at.length }
-    requires greatest { at.length ≤ 4096 }
+    requires greatest { at.length ≤ MAX_MESSAGE }
     ensures { IsTurn at forked token.now result }
 {
     match token {
         Token::Attestation(_) => Turn::Close,
         Token::Op(op) => {
-            if at.depth >= 255 {
+            if at.depth >= MAX_OPERATIONS {
                 return Turn::Refused(Reason::TooDeep);
             }
             match result_length(op, at.length as usize) {

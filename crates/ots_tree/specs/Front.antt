@@ -1,5 +1,6 @@
 -- The nodes that are open after some tokens.
 use Rattle.std.specs.Prelude.{◌≡◌, ℕ, ◌+◌, List, [], ◌∷◌, Bool, true, false, nat_lt, Option, Some, None, option_and_then, option_map, if◌then◌else◌}
+use Rattle.ots_base.specs.declared.limits.TheConstants.{MAX_OPERATIONS}
 use Rattle.ots_ops.specs.ResultLength.{len}
 use Rattle.ots_tree.specs.declared.shape.Shape.{Shape}
 use Rattle.ots_tree.specs.declared.token.Token.{Token}
@@ -19,7 +20,7 @@ start n k = record { nodes = record { length = n; depth = k } ∷ []; forked = f
 abbrev pub next_at : Shape → List Shape → Bool → Token → Option Open
 next_at p ps forked (token.Attestation a) = Some (record { nodes = ps; forked = false })
 next_at p ps forked (token.Op o) =
-    if nat_lt p.depth 255
+    if nat_lt p.depth MAX_OPERATIONS
     then option_map (λ n. record { nodes = record { length = n; depth = p.depth + 1 } ∷ ps; forked = false }) (len o p.length)
     else None
 next_at p ps false token.Fork = Some (record { nodes = p ∷ p ∷ ps; forked = true })

@@ -1,6 +1,7 @@
 -- What one token does to the lengths of the messages on the path of a walk over a tree. It serves
 -- the functions that walk; what they find out is said by IsSound.
 use Rattle.std.specs.Prelude.{ℕ, ◌+◌, List, [], ◌∷◌, nat_lt, slice_index, slice_set, Option, Some, None, option_and_then, option_map, if◌then◌else◌}
+use Rattle.ots_base.specs.declared.limits.TheConstants.{MAX_OPERATIONS}
 use Rattle.ots_ops.specs.ResultLength.{len}
 use Rattle.ots_tree.specs.declared.token.Token.{Token}
 use Rattle.ots_tree.specs.declared.token.Token.TheVariants as token
@@ -11,7 +12,7 @@ use Rattle.ots_tree.specs.declared.token.TokenAt.{TokenAt}
 abbrev pub passed : ℕ → Token → ℕ → List ℕ → Option (List ℕ)
 passed k token.Fork d lengths = Some lengths
 passed k (token.Op o) d lengths =
-    if nat_lt (k + d) 255 then option_map (λ m. slice_set lengths (d + 1) m) (len o (slice_index lengths d)) else None
+    if nat_lt (k + d) MAX_OPERATIONS then option_map (λ m. slice_set lengths (d + 1) m) (len o (slice_index lengths d)) else None
 passed k (token.Attestation a) d lengths = Some lengths
 
 -- the lengths behind all of these

@@ -3,6 +3,7 @@
 -- opentimestamps/core/timestamp.py, Timestamp.deserialize, whose limit of 256 counts messages).
 use Rattle.std.specs.Prelude.{◌≡◌, ℕ, ◌+◌, ◌≤◌, List, [], ◌∷◌, length, Option, Some, IsSome, option_and_then}
 use Rattle.std.specs.List.{AllByRecursion}
+use Rattle.ots_base.specs.declared.limits.TheConstants.{MAX_OPERATIONS}
 use Rattle.ots_ops.specs.declared.op.Op.{Op}
 use Rattle.ots_ops.specs.ResultLength.{len}
 use Rattle.ots_tree.specs.Wire.{Node, Path, paths, pre}
@@ -15,7 +16,7 @@ length_after (o ∷ ops) n = option_and_then (length_after ops) (len o n)
 
 -- below k operations, from a message of n bytes
 pub record IsSoundPath (n k : ℕ) (p : Path) : Type 0 where
-  pub short : length p.ops + k ≤ 255
+  pub short : length p.ops + k ≤ MAX_OPERATIONS
   pub has_result : IsSome (length_after p.ops n)
 
 abbrev pub IsSound : ℕ → ℕ → Node → Type 0

@@ -9,10 +9,11 @@ ghost use Rattle.ots_tree.specs.Listed.{listed, token_of, is_attestation, end_be
 ghost use Rattle.ots_ops.specs.HashOp.{digest_length};
 
 use crate::detached::Detached;
+use ots_base::MAX_OPERATIONS;
 
 /// Tokens close every node that they open exactly where they are those of a sound tree.
 pub fn fronts()
-    ensures { (n k : ℕ) (ts : List Token) → k ≤ 255 → IsClosed (opened (start n k) ts) ↔ IsSoundPre n k ts }
+    ensures { (n k : ℕ) (ts : List Token) → k ≤ MAX_OPERATIONS → IsClosed (opened (start n k) ts) ↔ IsSoundPre n k ts }
 {}
 
 /// A token's spelling determines it, and begins no other token's.

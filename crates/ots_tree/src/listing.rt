@@ -5,7 +5,7 @@ ghost use Rattle.ots_tree.specs.Kept.{IsKept, beside};
 
 use crate::token::{Token, TokenAt};
 use crate::tree::Tree;
-use ots_io::OutOfMemory;
+use ots_base::OutOfMemory;
 use std::alloc::Global;
 
 /// A copy of the tokens in preorder, each with the number of operations before it on its path. A

@@ -7,10 +7,8 @@ ghost use Rattle.ots_tree.specs.Sound.{IsSoundPre};
 use crate::shape::Shape;
 use crate::token::Token;
 use crate::tree::Tree;
+use ots_base::MAX_OPERATIONS;
 use ots_ops::result_length;
-
-/// The most operations of a path.
-const MOST: u32 = 255;
 
 /// Whether every operation of the tree has a result, where the root's message has the shape's
 /// length, and no path has more than 255 operations with those that the shape counts before it. It
@@ -18,7 +16,7 @@ const MOST: u32 = 255;
 pub fn is_sound(tree: &Tree, shape: Shape) -> bool
     ensures { IsTrue result ↔ IsSoundPre shape.length shape.depth tree.now }
 {
-    if shape.depth > MOST {
+    if shape.depth > MAX_OPERATIONS {
         return false;
     }
     let mut lengths = [shape.length; 256];
@@ -29,7 +27,7 @@ pub fn is_sound(tree: &Tree, shape: Shape) -> bool
 /// length of the message there, on the path of the token at which the walk is.
 fn all_pass(tokens: &[Token], depths: &[u32], above: u32, lengths: &mut [u32]) -> bool
     requires kept { IsKept tokens.now depths.now }
-    requires above { above ≤ 255 }
+    requires above { above ≤ MAX_OPERATIONS }
     requires room { length lengths.old ≡ 256 }
     ensures { IsTrue result ↔ IsSome (all_passed above (beside tokens.now depths.now) lengths.old) }
 {
@@ -44,14 +42,14 @@ fn all_pass(tokens: &[Token], depths: &[u32], above: u32, lengths: &mut [u32]) -
 /// Whether the token is no operation, or one that has a result and is not the 256th. The length of
 /// its result is put at its depth.
 fn passes(token: &Token, depth: u32, above: u32, lengths: &mut [u32]) -> bool
-    requires above { above ≤ 255 }
+    requires above { above ≤ MAX_OPERATIONS }
     requires room { length lengths.old ≡ 256 }
     ensures { MatchBool result (passed above token.now depth lengths.old ≡ Some lengths.new) (passed above token.now depth lengths.old ≡ None) }
 {
     let Token::Op(op) = token else {
         return true;
     };
-    if depth >= MOST - above {
+    if depth >= MAX_OPERATIONS - above {
         return false;
     }
     let depth = depth as usize;

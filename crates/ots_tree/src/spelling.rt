@@ -1,16 +1,15 @@
 //! Writing the spelling of a tree.
 ghost use Rattle.std.specs.Prelude.{◌≡◌, ◌≤◌, ◌<◌, ◌+◌, ◌++◌, length, take, OnOk, IfOk};
-ghost use Rattle.std.specs.Io.KnownBytes.{Appends};
-ghost use Rattle.ots_io.specs.Cause.{HasCause};
-ghost use Rattle.ots_io.specs.Input.{AppendsFront};
+ghost use Rattle.ots_base.specs.Cause.{HasCause};
+ghost use Rattle.ots_outside.specs.Streams.{Takes, TakesFront};
 ghost use Rattle.ots_tree.specs.Wire.{spell, spelled};
 ghost use Rattle.ots_tree.specs.Buffered.{Buffered};
 
 use crate::token::Token;
 use crate::tree::Tree;
-use ots_attest::spell_attestation;
-use ots_io::{Failed, Sink, write_all};
-use ots_ops::spell_op;
+use ots_attest::{MAX_SPELLED_ATTESTATION, spell_attestation};
+use ots_ops::{MAX_SPELLED_OP, spell_op};
+use ots_outside::{Failed, Sink, write_all};
 
 /// A write to the sink failed, and the sink has counted the fault.
 #[derive(Clone, Copy, Debug, PartialEq, Eq)]
@@ -22,9 +21,6 @@ impl From<Failed> for WriteFault {
     }
 }
 
-/// The most bytes that a token is spelled in: those of an unknown attestation of 8192 bytes.
-const LONGEST: usize = 8203;
-
 /// How many bytes are gathered, so that each write but the last has at least 24,566 of them: a token
 /// more might not fit.
 const GATHERED: usize = 32_768;
@@ -35,8 +31,8 @@ const GATHERED: usize = 32_768;
 /// front of the spelling. It takes no memory, and hands the sink at least 24,566 bytes at once, as
 /// long as so many are left.
 pub fn spell_to<K: Sink>(tree: &Tree, sink: &mut K) -> Result<(), WriteFault>
-    ensures whole { OnOk result (Appends (K.taken sink.old) (K.taken sink.new) (spelled tree.now)) }
-    ensures front { AppendsFront (K.taken sink.old) (K.taken sink.new) (spelled tree.now) }
+    ensures whole { OnOk result (Takes (K.taken sink.old) (K.taken sink.new) (spelled tree.now)) }
+    ensures front { TakesFront (K.taken sink.old) (K.taken sink.new) (spelled tree.now) }
     ensures cause { HasCause (K.faults sink.old) (K.faults sink.new) result }
     ensures same { K.same sink.old sink.new }
 {
@@ -47,9 +43,9 @@ pub fn spell_to<K: Sink>(tree: &Tree, sink: &mut K) -> Result<(), WriteFault>
 
 /// Writes the spellings of these tokens, gathered in the buffer.
 fn spell_tokens<K: Sink>(tokens: &[Token], sink: &mut K, buffer: &mut [u8]) -> Result<(), Failed>
-    requires { 8203 ≤ length buffer.old }
-    ensures whole { OnOk result (Appends (K.taken sink.old) (K.taken sink.new) (spelled tokens.now)) }
-    ensures front { AppendsFront (K.taken sink.old) (K.taken sink.new) (spelled tokens.now) }
+    requires { MAX_SPELLED_ATTESTATION ≤ length buffer.old }
+    ensures whole { OnOk result (Takes (K.taken sink.old) (K.taken sink.new) (spelled tokens.now)) }
+    ensures front { TakesFront (K.taken sink.old) (K.taken sink.new) (spelled tokens.now) }
     ensures cause { HasCause (K.faults sink.old) (K.faults sink.new) result }
     ensures same { K.same sink.old sink.new }
 {
@@ -63,15 +59,15 @@ fn spell_tokens<K: Sink>(tokens: &[Token], sink: &mut K, buffer: &mut [u8]) -> R
 
 /// Leaves room for a token behind the filled part, which is written where there is none.
 fn make_room<K: Sink>(sink: &mut K, buffer: &[u8], filled: usize) -> Result<usize, Failed>
-    requires room { 8203 ≤ length buffer.now }
+    requires room { MAX_SPELLED_ATTESTATION ≤ length buffer.now }
     requires in_range { filled ≤ length buffer.now }
-    ensures room { IfOk result (λ left. left + 8203 ≤ length buffer.now) }
+    ensures room { IfOk result (λ left. left + MAX_SPELLED_ATTESTATION ≤ length buffer.now) }
     ensures gathered { IfOk result (λ left. Buffered (K.taken sink.old) (K.taken sink.new) (take filled buffer.now) (take left buffer.now)) }
-    ensures front { AppendsFront (K.taken sink.old) (K.taken sink.new) (take filled buffer.now) }
+    ensures front { TakesFront (K.taken sink.old) (K.taken sink.new) (take filled buffer.now) }
     ensures cause { HasCause (K.faults sink.old) (K.faults sink.new) result }
     ensures same { K.same sink.old sink.new }
 {
-    if buffer.len() - filled >= LONGEST {
+    if buffer.len() - filled >= MAX_SPELLED_ATTESTATION {
         return Ok(filled);
     }
     write_all(sink, &buffer[..filled])?;
@@ -80,7 +76,7 @@ fn make_room<K: Sink>(sink: &mut K, buffer: &[u8], filled: usize) -> Result<usiz
 
 /// Adds the spelling of a token to the filled part, and answers how long that is then.
 fn gather(token: &Token, buffer: &mut [u8], filled: usize) -> usize
-    requires { filled + 8203 ≤ length buffer.old }
+    requires { filled + MAX_SPELLED_ATTESTATION ≤ length buffer.old }
     ensures in_range { result ≤ length buffer.old }
     ensures gathered { take result buffer.new ≡ take filled buffer.old ++ spell token.now }
 {
@@ -89,7 +85,7 @@ fn gather(token: &Token, buffer: &mut [u8], filled: usize) -> usize
 
 /// Writes the spelling of a token at the front, and answers how many bytes it has.
 fn put_token(token: &Token, out: &mut [u8]) -> usize
-    requires { 8203 ≤ length out.old }
+    requires { MAX_SPELLED_ATTESTATION ≤ length out.old }
     ensures in_range { result ≤ length out.old }
     ensures spelled { take result out.new ≡ spell token.now }
 {
@@ -99,13 +95,13 @@ fn put_token(token: &Token, out: &mut [u8]) -> usize
             1
         }
         Token::Op(op) => {
-            let Some(room) = out.first_chunk_mut::<4099>() else {
+            let Some(room) = out.first_chunk_mut::<MAX_SPELLED_OP>() else {
                 unreachable!();
             };
             spell_op(op, room)
         }
         Token::Attestation(attestation) => {
-            let Some(room) = out.first_chunk_mut::<8203>() else {
+            let Some(room) = out.first_chunk_mut::<MAX_SPELLED_ATTESTATION>() else {
                 unreachable!();
             };
             spell_attestation(attestation, room)

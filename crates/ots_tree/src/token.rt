@@ -2,8 +2,8 @@
 ghost use Rattle.std.specs.Prelude.{◌≡◌, IfOk};
 ghost use Rattle.ots_tree.specs.Wire.{IsToken};
 
-use ots_attest::Attestation;
-use ots_io::OutOfMemory;
+use ots_attest::{Attestation, limits_of_attestation};
+use ots_base::OutOfMemory;
 use ots_ops::{Op, limits_of_operation};
 
 /// A part of a tree as it is spelled.
@@ -38,7 +38,7 @@ pub fn limits_of_token(token: &Token)
         Token::Fork => {}
         Token::Op(op) => limits_of_operation(op),
         Token::Attestation(attestation) => {
-            let _ = attestation.spelled_length();
+            limits_of_attestation(attestation);
         }
     }
 }

@@ -6,7 +6,7 @@ ghost use Rattle.ots_tree.specs.Kept.{IsKept};
 ghost use Rattle.ots_tree.specs.OpenDepths.{after};
 
 use crate::token::{Token, limits_of_token};
-use ots_io::OutOfMemory;
+use ots_base::OutOfMemory;
 use std::alloc::Global;
 use std::marker::Model;
 

@@ -1,7 +1,9 @@
 -- A number that comes byte by byte.
 use Rattle.std.proofs.Common.{◌≡◌, ℕ, zero, suc, ◌+◌, ◌-◌, ◌*◌, ◌/◌, ◌%◌, ◌^◌, ◌<◌, ◌≤◌, Bool, true, false, ltb, eqb, List, [], ◌∷◌, ◌++◌, refl, sym, ap, ◌∙◌, inl, inr, arith, lit<, add-one, add-zero}
 use Rattle.std.specs.Prelude.{◌&&◌}
+use Rattle.std.specs.List.{AllByRecursion}
 use Rattle.std.proofs.lemmas.Bool.{cases_lt, lt-ltb}
+use Rattle.std.proofs.lemmas.List.{append-nil}
 use Rattle.std.proofs.lemmas.Nat.{mul-le}
 use Rattle.std.proofs.lemmas.Grind.{pow_more}
 use Rattle.std.proofs.Math.Nat.{pow-le-pow_right}
@@ -108,6 +110,18 @@ answer_at v s i b h =
     let at = h.early in
     let none : 0 + i ≡ i = omega arith in
     reading_continued i 0 v (b ∷ []) (omega arith) (rw (← h.scaled) h.below) ∙ rw none refl
+
+-- they make no number yet
+pub open_so_far : (v s i : ℕ) → IsPartial v s i → reading (continued i v) ≡ Short
+unfolding reading
+open_so_far v s i h =
+    let at = h.early in
+    ap (reading_from 0) (sym (append-nil (continued i v))) ∙ reading_continued i 0 v [] (omega arith) (rw (← h.scaled) h.below)
+
+-- and are bytes, also with one more
+pub bytes_so_far : (i v b : ℕ) → b < 256 → AllByRecursion (λ b. b < 256) (continued i v ++ b ∷ [])
+bytes_so_far zero v b byte = (byte, tt)
+bytes_so_far (suc i) v b byte = (omega arith, bytes_so_far i (v / 128) b byte)
 
 -- the bytes of a number that goes on with seven more bits
 continued-more : (k v d : ℕ) → v < 128 ^ k → d < 128 → continued (suc k) (v + 128 ^ k * d) ≡ continued k v ++ (128 + d) ∷ []

@@ -139,7 +139,7 @@ reading_is bytes n used fits e =
     let s = read_is 9 0 bytes n used refl fits e in
     record { small = rw (← limit_is) s.small; front = s.spelling; len = s.len }
 
-spelled_is : (bytes : List ℕ) (n used : ℕ) → IsSpelledAt bytes n used → reading bytes ≡ Value n used
+pub spelled_is : (bytes : List ℕ) (n used : ℕ) → IsSpelledAt bytes n used → reading bytes ≡ Value n used
 spelled_is bytes n used h =
     ap reading h.front ∙ reading_again n (drop used bytes) h.small ∙ ap (λ z. Value n z) (sym h.len)
 

@@ -24,7 +24,7 @@ short_at b r false false true e = absurd cc
 short_at b r false false false e = (refl, refl, refl, above_short (b - 128) r e)
 
 -- a number that the last byte ends takes all bytes
-used_from : (i : ℕ) (bytes : List ℕ) (b n used : ℕ) → reading_from i bytes ≡ Short → reading_from i (bytes ++ b ∷ []) ≡ Value n used → used ≡ length bytes + 1
+pub used_from : (i : ℕ) (bytes : List ℕ) (b n used : ℕ) → reading_from i bytes ≡ Short → reading_from i (bytes ++ b ∷ []) ≡ Value n used → used ≡ length bytes + 1
 used_from i [] b n used short e =
     elim (cases_at i b Short n used e) [ inl h ↦ let one = h.one in omega arith | inr h ↦ let below = h.2 in absurd cc ]
 used_from i (x ∷ xs) b n used short e =
@@ -35,7 +35,7 @@ used_from i (x ∷ xs) b n used short e =
     let one-more = a.4 in
     omega arith
 
-step_value : (r : VaruintRead) (n : ℕ) → step.Value n ≡ step_of r → (used : ℕ) × (r ≡ Value n used)
+pub step_value : (r : VaruintRead) (n : ℕ) → step.Value n ≡ step_of r → (used : ℕ) × (r ≡ Value n used)
 step_value (Value m used) n e = (used, cc)
 step_value Short n e = absurd cc
 step_value NonMinimal n e = absurd cc

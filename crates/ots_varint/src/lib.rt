@@ -11,8 +11,8 @@ mod state;
 mod varbytes_state;
 mod writing;
 
-pub use laws::{answers_stay, one_spelling};
+pub use laws::{answers_stay, numbers_read_as_spelled, one_spelling};
 pub use reading::{VaruintRead, read_varuint};
 pub use state::{Step, VaruintState};
 pub use varbytes_state::{LengthStep, VarbytesState};
-pub use writing::{put_number, put_varbytes, put_varuint, varuint_length};
+pub use writing::{MAX_SPELLED_NUMBER, put_number, put_varbytes, put_varuint, varuint_length};

@@ -1,5 +1,6 @@
 //! A number that comes byte by byte.
-ghost use Rattle.std.specs.Prelude.{◌≡◌, ◌∷◌, ◌++◌, [], ◌&&◌, nat_eq, nat_lt, if◌then◌else◌};
+ghost use Rattle.std.specs.Prelude.{◌≡◌, ◌↔◌, ◌<◌, ◌^◌, ℕ, ◌∷◌, ◌++◌, [], ◌&&◌, nat_eq, nat_lt, if◌then◌else◌};
+ghost use Rattle.ots_varint.specs.Varuint.{varuint};
 ghost use Rattle.ots_varint.specs.Reading.{reading};
 ghost use Rattle.ots_varint.specs.Step.{step_of, is_more};
 
@@ -49,10 +50,11 @@ impl VaruintState {
         }
     }
 
-    /// What the bytes so far and this one make. After another answer than `More` the number is
-    /// over, and the state is as before.
+    /// What the bytes so far and this one make. After another answer than `More` the state is as
+    /// before this byte, which is then none of the bytes so far: the next byte comes in its place.
     pub fn feed(&mut self, byte: u8) -> Step
         ensures answer { result ≡ step_of (reading (self.old ++ byte ∷ [])) }
+        ensures value { (n : ℕ) → (result ≡ Step.Value n) ↔ ((n < 2 ^ 64) × (self.old ++ byte ∷ [] ≡ varuint n)) }
         ensures fed { self.new ≡ (if is_more result then self.old ++ byte ∷ [] else self.old) }
     {
         if is_over(self.position, byte) {

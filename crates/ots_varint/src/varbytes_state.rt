@@ -1,5 +1,6 @@
 //! The length of varbytes that comes byte by byte.
-ghost use Rattle.std.specs.Prelude.{◌≡◌, ◌∷◌, ◌++◌, [], if◌then◌else◌};
+ghost use Rattle.std.specs.Prelude.{◌≡◌, ◌↔◌, ◌≤◌, ℕ, ◌∷◌, ◌++◌, [], if◌then◌else◌};
+ghost use Rattle.ots_varint.specs.Varuint.{varuint};
 ghost use Rattle.ots_varint.specs.Reading.{reading};
 ghost use Rattle.ots_varint.specs.declared.reading.VaruintRead.TheVariants.{Value};
 ghost use Rattle.ots_varint.specs.LengthStep.{length_step, is_more};
@@ -52,17 +53,19 @@ impl VarbytesState {
         }
     }
 
-    /// What the bytes so far and this one make. After another answer than `More` the length is
-    /// over, and the state is as before.
+    /// What the bytes so far and this one make. After another answer than `More` the state is as
+    /// before this byte, which is then none of the bytes so far: the next byte comes in its place.
     pub fn feed(&mut self, byte: u8) -> LengthStep
         ensures answer { result ≡ length_step self.old.least self.old.greatest (reading (self.old.fed ++ byte ∷ [])) }
+        ensures length { (n : ℕ) → (result ≡ LengthStep.Length n) ↔ ((self.old.least ≤ n) × (n ≤ self.old.greatest) × (self.old.fed ++ byte ∷ [] ≡ varuint n)) }
         ensures fed { self.new ≡ record self.old { fed = (if is_more result then self.old.fed ++ byte ∷ [] else self.old.fed) } }
     {
+        let (least, greatest) = (self.least, self.greatest);
         match self.state.feed(byte) {
             Step::More => LengthStep::More,
             Step::NonMinimal => LengthStep::NonMinimal,
             Step::TooLarge => LengthStep::TooLarge,
-            Step::Value(length) => within(self.least, self.greatest, length),
+            Step::Value(length) => within(least, greatest, length),
         }
     }
 }

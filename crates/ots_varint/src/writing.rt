@@ -2,9 +2,12 @@
 ghost use Rattle.std.specs.Prelude.{◌≡◌, ◌≤◌, ◌++◌, length, drop};
 ghost use Rattle.ots_varint.specs.Varuint.{varuint, varbytes};
 
+/// The most bytes of a number's spelling: seven bits a byte hold the 64 bits of any number in ten.
+pub const MAX_SPELLED_NUMBER: usize = 10;
+
 /// Writes the spelling of the number at the front of the bytes, leaves the others as they were, and
-/// answers its length, 1 to 10.
-pub fn put_varuint(n: u64, out: &mut [u8; 10]) -> usize
+/// answers its length, 1 to `MAX_SPELLED_NUMBER`.
+pub fn put_varuint(n: u64, out: &mut [u8; MAX_SPELLED_NUMBER]) -> usize
     ensures length { result ≡ length (varuint n) }
     ensures spelled { out.new ≡ varuint n ++ drop (length (varuint n)) out.old }
 {
@@ -19,7 +22,7 @@ pub fn put_varuint(n: u64, out: &mut [u8; 10]) -> usize
     at + 1
 }
 
-/// How many bytes spell the number: 1 to 10.
+/// How many bytes spell the number: 1 to `MAX_SPELLED_NUMBER`.
 pub fn varuint_length(n: u64) -> usize
     ensures { result ≡ length (varuint n) }
 {
@@ -39,7 +42,7 @@ pub fn put_number(n: u64, out: &mut [u8]) -> usize
     ensures length { result ≡ length (varuint n) }
     ensures spelled { out.new ≡ varuint n ++ drop (length (varuint n)) out.old }
 {
-    let mut spelled = [0; 10];
+    let mut spelled = [0; MAX_SPELLED_NUMBER];
     let used = put_varuint(n, &mut spelled);
     out[..used].copy_from_slice(&spelled[..used]);
     used

@@ -1,6 +1,6 @@
 use Rattle.std.proofs.Common.{ap, arith, rules}
-use Rattle.ots_io.specs.declared.shelf.Slot.{Slot}
-use Rattle.ots_io.specs.Shelf.{SameButSlot}
+use Rattle.ots_outside.specs.declared.shelf.Slot.{Slot}
+use Rattle.ots_outside.specs.Shelf.{SameButSlot}
 use Rattle.ots_cli.proofs.Outputs.{not_there, whole, front}
 use Rattle.ots_cli.proofs.output.write_proof.Goals as goal
 
@@ -10,7 +10,7 @@ returns-in-Ok-clause-names g c =
       omega (arith, c.file_length.ensures),
       not_there _ _ c.in_ok-slot.ensures.exists,
       whole _ _ _ _ _ _ (ap (λ (s : Slot). s.0) c.new.ensures.slot) c.write_file-written.ensures.same.1 (ap g.S.Shelf.told c.new.ensures.shelf) _ _ _ _
-          c.in_ok-slot.ensures.ok c.write_file-written.ensures.same.2 c.in-Ok.ensures.whole closes c.close.ensures.closed,
+          c.in_ok-slot.ensures.ok c.write_file-written.ensures.same.3 c.in-Ok.ensures.whole closes c.close.ensures.closed,
     )
 
 pub returns-in-Err-clause-names : goal.returns-in-Err-clause-names
@@ -19,5 +19,5 @@ returns-in-Err-clause-names g c =
       omega (arith, c.file_length.ensures),
       not_there _ _ c.in_ok-slot.ensures.exists,
       front _ _ _ _ _ _ (ap (λ (s : Slot). s.0) c.new.ensures.slot) c.write_file-written.ensures.same.1 (ap g.S.Shelf.told c.new.ensures.shelf) _ _ _ _
-          c.in_ok-slot.ensures.ok c.write_file-written.ensures.same.2 c.in-Err.ensures.front closes c.close.ensures.closed,
+          c.in_ok-slot.ensures.ok c.write_file-written.ensures.same.3 c.in-Err.ensures.front closes c.close.ensures.closed,
     )

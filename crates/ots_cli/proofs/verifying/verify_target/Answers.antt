@@ -1,4 +1,3 @@
-use Rattle.std.proofs.Common.{rules}
 use Rattle.std.specs.Option.{option_copied}
 use Rattle.ots_cli.specs.Answer.{is_given, is_refused, PrintsVerdict}
 use Rattle.ots_cli.specs.Found.{RefusesTarget}
@@ -13,5 +12,5 @@ returns-in-Ok-clause-comes g c =
 
 pub returns-in-Err-clause-comes : goal.returns-in-Err-clause-comes
 returns-in-Err-clause-comes g c =
-    refused_comes _ _ RefusesTarget _ _ _ c.args.target.now (stops_here _ _ _ _ c.in-Err.ensures.opened) (λ d h. is_refused h) c.in-Err.ensures.names c.in-Err.error c.input_refusal.result
-    c.input_refusal.ensures.status c.input_refusal.ensures.text c.in-Err.ensures.answer (λ h. c.in-Err.ensures.cause.rose (search (rules, h)))
+    refused_comes _ _ RefusesTarget _ _ _ c.args.target.now (λ d h. is_refused h) c.in-Err.ensures.names c.in-Err.error c.input_refusal.result
+    c.input_refusal.ensures.status c.input_refusal.ensures.text c.in-Err.ensures.answer (stops_here _ _ _ _ _ _ _ c.in-Err.ensures.opened)

@@ -1,5 +1,5 @@
 use Rattle.std.proofs.Common.{◌≡◌, ◌+◌, ◌-◌, ◌≤◌, length}
-use Rattle.std.specs.Io.KnownBytes.{Consumes}
+use Rattle.ots_outside.specs.Streams.{Gives}
 use Rattle.ots_detached.proofs.hashing.hash_source.Given as goal
 
 -- What came is what the hasher was fed, at most one byte past the limit.
@@ -9,7 +9,7 @@ invariant-loop-came g l =
     let faults = g.S.Source.faults in
     record {
       hash : l.hasher.hash ≡ l.fn.hash;
-      fed : Consumes (left l.fn.source) (left l.source) l.hasher.fed;
+      fed : Gives (left l.fn.source) (left l.source) l.hasher.fed;
       came : l.came ≡ length l.hasher.fed;
       at_most : l.came ≤ l.limit + 1;
       later : faults l.fn.source ≤ faults l.source;

@@ -11,7 +11,7 @@ pub returns-in-Ok-clause-refuses : goal.returns-in-Ok-clause-refuses
 returns-in-Ok-clause-refuses c = refused c.args.bytes.now c.read_behind.result c.read_behind.ensures.ok c.read_behind.ensures.err
 
 pub returns-in-Err-clause-accepts : goal.returns-in-Err-clause-accepts
-returns-in-Err-clause-accepts c = accepted c.args.bytes.now (Err (BadProof c.in-Err.fault)) tt (c.if-bytes-gt-LIMIT.false, in_header c.in-Err.ensures.err)
+returns-in-Err-clause-accepts c = accepted c.args.bytes.now (Err (BadProof c.in-Err.fault)) tt (c.if-bytes-gt-MAX_PROOF_FILE.false, in_header c.in-Err.ensures.err)
 
 pub returns-in-Err-clause-refuses : goal.returns-in-Err-clause-refuses
-returns-in-Err-clause-refuses c = refused c.args.bytes.now (Err (BadProof c.in-Err.fault)) tt (c.if-bytes-gt-LIMIT.false, in_header c.in-Err.ensures.err)
+returns-in-Err-clause-refuses c = refused c.args.bytes.now (Err (BadProof c.in-Err.fault)) tt (c.if-bytes-gt-MAX_PROOF_FILE.false, in_header c.in-Err.ensures.err)

@@ -1,5 +1,5 @@
 use Rattle.std.proofs.Common.{◌≡◌, ◌≤◌, take, drop}
-use Rattle.ots_eval.specs.Value.{value, value_refusal}
+use Rattle.ots_ops.specs.Value.{value, value_refusal}
 use Rattle.ots_eval.proofs.values.value.Given as goal
 
 -- What is left makes of the value so far what all make of the message.

@@ -1,5 +1,6 @@
 use Rattle.std.proofs.Common.{◌*◌, arith, refl}
 use Rattle.ots_varint.proofs.Fed.{last_fits, more_fits, fed_one, fed_partial, answer_over, answer_padding, answer_last, answer_more}
+use Rattle.ots_varint.proofs.Ended.{ends}
 use Rattle.ots_varint.proofs.state.VaruintState.feed.Goals as goal
 
 pub returns-then-is_over-clause-answer : goal.returns-then-is_over-clause-answer
@@ -65,3 +66,23 @@ invariant_of-self c =
     let s = c.self.inside in
     let h = more_fits s.value s.scale s.position c.args.byte c.from-2.result c.is_over.result c.self.invariant c.from-2.ensures c.is_over.ensures c.if-is_over.false c.if-byte-lt128.false (omega arith) in
     fed_partial s.value s.scale s.position c.from-2.result (s.scale * 128) c.self.invariant h.0 (omega arith) refl
+
+pub returns-then-is_over-clause-value : goal.returns-then-is_over-clause-value
+returns-then-is_over-clause-value c =
+    let s = c.self.inside in
+    ends s.value s.scale s.position c.args.byte c.args.self.now c.self.view_is c.self.invariant (omega arith) (returns-then-is_over-clause-answer c)
+
+pub returns-then-is_padding-clause-value : goal.returns-then-is_padding-clause-value
+returns-then-is_padding-clause-value c =
+    let s = c.self.inside in
+    ends s.value s.scale s.position c.args.byte c.args.self.now c.self.view_is c.self.invariant (omega arith) (returns-then-is_padding-clause-answer c)
+
+pub returns-then-byte-lt128-clause-value : goal.returns-then-byte-lt128-clause-value
+returns-then-byte-lt128-clause-value c =
+    let s = c.self.inside in
+    ends s.value s.scale s.position c.args.byte c.args.self.now c.self.view_is c.self.invariant (omega arith) (returns-then-byte-lt128-clause-answer c)
+
+pub returns-clause-value : goal.returns-clause-value
+returns-clause-value c =
+    let s = c.self.inside in
+    ends s.value s.scale s.position c.args.byte c.args.self.now c.self.view_is c.self.invariant (omega arith) (returns-clause-answer c)

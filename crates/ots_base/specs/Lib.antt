@@ -1,0 +1,4 @@
+pub mod Cause
+pub mod Memory
+pub mod Table
+pub mod Told

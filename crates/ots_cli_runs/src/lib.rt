@@ -1,0 +1,8 @@
+//! Runs of the client in memory, and proof files as bytes, for the tests of the client.
+#![tactic(auto)]
+
+mod proofs;
+mod runs;
+
+pub use proofs::{BLOCK_0, HEAD, HEAD_LINE, HEAD_OF_ABC, file_of, proof_of};
+pub use runs::{Ended, info_of, run, run_failing, run_on};

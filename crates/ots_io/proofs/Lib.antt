@@ -1,9 +1,0 @@
-pub mod Dialed
-pub mod EntryNames
-pub mod EntryRoom
-pub mod Inputs
-pub mod Names
-pub mod Sent
-pub mod ShelfCalls
-pub mod SlotStates
-pub mod Slots

@@ -1,0 +1,12 @@
+pub mod Calls
+pub mod Conversations
+pub mod Cut
+pub mod Entries
+pub mod ListAccepterTold
+pub mod MapShelf
+pub mod MapShelfTold
+pub mod MemoryForms
+pub mod Nonces
+pub mod Reserved
+pub mod ScriptDialer
+pub mod ScriptDialerTold

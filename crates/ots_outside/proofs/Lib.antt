@@ -1,0 +1,5 @@
+pub mod Conversations
+pub mod Inputs
+pub mod KeptRoom
+pub mod Links
+pub mod Names

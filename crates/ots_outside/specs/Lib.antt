@@ -1,0 +1,13 @@
+pub mod Accepter
+pub mod Dialer
+pub mod Input
+pub mod KeptBytes
+pub mod Link
+pub mod OneNonce
+pub mod Shelf
+pub mod SmallBytes
+pub mod Streams
+pub mod Written
+pub use Rattle.ots_base.specs.Cause
+pub use Rattle.ots_base.specs.Memory
+pub use Rattle.ots_base.specs.Told

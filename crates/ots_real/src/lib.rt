@@ -1,0 +1,41 @@
+//! The outside as the system gives it: forms of the traits of `ots_outside` over files, sockets,
+//! the clock and a random source.
+//!
+//! | trait | form |
+//! |---|---|
+//! | `Source` | [`StdSource`], over any reader of std |
+//! | `Sink` | [`StdSink`], over any writer of std |
+//! | `Shelf` | [`DirShelf`], over the file system |
+//! | `Link` | [`TcpLink`], over a stream of std |
+//! | `Dialer` | [`TcpDialer`], over the system's sockets |
+//! | `Accepter` | [`TcpAccepter`], over the system's sockets |
+//! | `Nonces` | [`RngNonces`], over any random source |
+//! | `Clock` | [`SystemClock`] |
+//!
+//! They tell nothing of what they hold. Of them it is proved that they are safe, that they return,
+//! that each fault is counted, and that they pass on what std's readers and writers answer; which
+//! bytes a file or a socket gives or takes no contract can say.
+#![tactic(auto)]
+
+mod conversation;
+mod counted;
+mod dir_shelf;
+mod open_file;
+mod rng_nonces;
+mod std_sink;
+mod std_source;
+mod system_clock;
+mod tcp_accepter;
+mod tcp_dialer;
+mod tcp_link;
+mod timed_stream;
+
+pub use conversation::{CONNECT_SECONDS, CONVERSATION_SECONDS};
+pub use dir_shelf::DirShelf;
+pub use rng_nonces::RngNonces;
+pub use std_sink::StdSink;
+pub use std_source::StdSource;
+pub use system_clock::SystemClock;
+pub use tcp_accepter::TcpAccepter;
+pub use tcp_dialer::TcpDialer;
+pub use tcp_link::TcpLink;

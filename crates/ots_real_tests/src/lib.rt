@@ -1,0 +1,16 @@
+//! What no clause of `ots_real` says: that the real forms move the bytes of real files and
+//! connections, which failures of the system they meet, and that a peer is cut off in time.
+#![tactic(auto)]
+
+#[cfg(test)]
+mod cut_short;
+#[cfg(test)]
+mod failures;
+#[cfg(test)]
+mod files;
+#[cfg(test)]
+mod lost;
+#[cfg(test)]
+mod sockets;
+#[cfg(test)]
+mod system;
