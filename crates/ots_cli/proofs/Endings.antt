@@ -3,7 +3,7 @@ use Rattle.std.proofs.Common.{◌≡◌, ℕ, ◌≤◌, length, List, [], ◌�
 use Rattle.std.specs.Prelude.{Result, Ok, Err, IfOk, string_bytes}
 use Rattle.ots_base.specs.Cause.{Rose}
 use Rattle.ots_base.specs.declared.limits.TheConstants.{MAX_PROOF_FILE}
-use Rattle.ots_outside.specs.Shelf.{Names, ShelfFaults}
+use Rattle.ots_outside.specs.Shelf.{Names}
 use Rattle.ots_outside.specs.Written.{with_name}
 use Rattle.ots_base.specs.declared.out_of_memory.OutOfMemory.{OutOfMemory as Short}
 use Rattle.ots_tree.specs.declared.detached.Detached.{Detached}
@@ -14,10 +14,9 @@ use Rattle.ots_cli.specs.declared.input.InputError.{InputError}
 use Rattle.ots_cli.specs.declared.input.InputError.TheVariants as input
 use Rattle.ots_cli.specs.declared.status.Status.{Status}
 use Rattle.ots_cli.specs.declared.status.Status.TheVariants.{Done, Usage, BadProof, NoFile, Exists, ReadFault, WriteFault, TooBig, BadHeaders, FileTooLong, Differs}
-use Rattle.ots_cli.specs.Answer.{Answers, ComesTo, ends, reads_no_more, writes_no_more, Ends, prints, prints_a_front, Leaves, no_file_made, all_made, some_made, Prints, PrintsInfo, RefusesInput, no_file, refuses, WithPerhapsTable, WithProof, WithTable, is_given, Writes, too_long, exists, is_made, Merges, differ}
+use Rattle.ots_cli.specs.Answer.{Answers, ComesTo, ends, reads_no_more, writes_no_more, Ends, prints, prints_a_front, Leaves, no_file_made, all_made, some_made, Prints, RefusesInput, no_file, refuses, Writes, too_long, exists, is_made, Merges, differ}
 use Rattle.ots_cli.specs.Ending.{Ending, File, refused, AddsFiles, IsBroken, not_created, not_whole}
-use Rattle.ots_cli.specs.Found.{HasUnder, IsRefusal, ReadsInput, RefusesProof, status_of}
-use Rattle.ots_cli.specs.Opened.{OpensFront, StopsAt, names_read}
+use Rattle.ots_cli.specs.Found.{HasUnder, IsRefusal, status_of}
 use Rattle.ots_cli.specs.Output.{Outputs}
 use Rattle.ots_cli.specs.Refusal.{refusal_text}
 use Rattle.ots_cli.specs.Rewritten.{IsTreeOf}
@@ -28,9 +27,7 @@ use Rattle.ots_canon.specs.Join.{HaveOnePair}
 use Rattle.ots_canon.specs.Prune.{IsPruneOf}
 use Rattle.ots_tree.specs.declared.token.Token.{Token}
 use Rattle.ots_tree.specs.Sound.{IsSoundPre}
-use Rattle.ots_cli.specs.Text.{IsInfoText}
-use Rattle.ots_bitcoin.specs.HeaderTable.{Table}
-use Rattle.ots_cli.specs.Words.{Command, HeaderFile}
+use Rattle.ots_cli.specs.Words.{Command}
 
 -- no file is made
 pub adds_none : (old new : Option Names) → new ≡ old → AddsFiles [] old new
@@ -99,12 +96,6 @@ module _ (old new : Option Names) (Refuses : List ℕ → Status → Type 0) (A 
 
 -- ---- the commands
 
-pub info_comes : (old new : Option Names) (name : List ℕ) (R : List ℕ → Type 0) (rose : Type 0) (p : Detached) (text : List ℕ) → ReadsInput old name IsFileOf RefusesProof (Ok p)
-    → IsInfoText p text → new ≡ old → ComesTo old new (WithProof old name PrintsInfo) R rose Done text
-info_comes old new name R rose p text read printed same =
-    ends (record { status = Done; text = text; files = [] })
-    (is_given p read (record { status = refl; text = printed; files = refl })) refl refl (adds_none old new same)
-
 -- an ending without files
 pub answered_comes : (old new : Option Names) (B A : Ending → Type 0) (R : List ℕ → Type 0) (rose : Type 0) (r : Result Answer Short)
     → IfOk r (λ a. B (record { status = a.status; text = string_bytes a.text; files = [] })) → ((e : Ending) → B e → A e) → new ≡ old
@@ -112,14 +103,6 @@ pub answered_comes : (old new : Option Names) (B A : Ending → Type 0) (R : Lis
 answered_comes old new B A R rose (Ok a) answers f same =
     let e : Ending = record { status = a.status; text = string_bytes a.text; files = [] } in ends e (f e answers) refl refl (adds_none old new same)
 answered_comes old new B A R rose (Err x) answers f same = tt
-
--- headers that are not given, and those that are
-pub none_given : (told : Option Names) (o : Option HeaderFile) (P : Option Table → Ending → Type 0) (e : Ending) → o ≡ None → P None e → WithPerhapsTable told o P e
-none_given told o P e none h = subst (λ (z : Option HeaderFile). WithPerhapsTable told z P e) (sym none) h
-
-pub some_given : (told : Option Names) (o : Option HeaderFile) (file : HeaderFile) (P : Option Table → Ending → Type 0) (e : Ending)
-    → o ≡ Some file → WithTable told file (λ t. P (Some t)) e → WithPerhapsTable told o P e
-some_given told o file P e some h = subst (λ (z : Option HeaderFile). WithPerhapsTable told z P e) (sym some) h
 
 -- a refusal that is defined, where no file is made
 pub refusal_comes : (old new : Option Names) (A : Ending → Type 0) (R : List ℕ → Type 0) (rose : Type 0) (name : List ℕ) (s : Status) (r : Result Answer Short)
@@ -193,19 +176,6 @@ pub usage_comes : (old : Option Names) (command : Option Command) (R : List ℕ 
 usage_comes old command R rose r none is printed =
     refusal_comes old old (Answers old command) R rose [] Usage r
     (subst (λ (z : Option Command). Answers old z (refused [] Usage)) (sym none) refl) refl is printed
-
--- what is said of a command, of words that are read as it
-pub same_leaves : (old new : Option Names) (c d : Option Command) → c ≡ d → Leaves old new (Answers old d) → Leaves old new (Answers old c)
-same_leaves old new c d same h = subst (λ (z : Option Command). Leaves old new (Answers old z)) (sym same) h
-
-pub same_comes : (old new : Option Names) (before after : Option (List (List ℕ))) (f g : ShelfFaults) (c d : Option Command) (rose : Type 0) (r : Result Answer Short) → c ≡ d
-    → IfOk r (λ a. ComesTo old new (Answers old d) (StopsAt (names_read d) before after f g) rose a.status (string_bytes a.text))
-    → IfOk r (λ a. ComesTo old new (Answers old c) (StopsAt (names_read c) before after f g) rose a.status (string_bytes a.text))
-same_comes old new before after f g c d rose r same h =
-    subst (λ (z : Option Command). IfOk r (λ a. ComesTo old new (Answers old z) (StopsAt (names_read z) before after f g) rose a.status (string_bytes a.text))) (sym same) h
-
-pub same_opened : (before after : Option (List (List ℕ))) (c d : Option Command) → c ≡ d → OpensFront (names_read d) before after → OpensFront (names_read c) before after
-same_opened before after c d same h = subst (λ (z : Option Command). OpensFront (names_read z) before after) (sym same) h
 
 -- ---- what is printed
 

@@ -8,3 +8,4 @@ pub mod Opened
 pub mod Yes
 pub mod Taken
 pub mod ReadsBack
+pub mod Carrying

@@ -1,11 +1,10 @@
 -- Which names were opened, read after read.
-use Rattle.std.proofs.Common.{◌≡◌, ◌≤◌, ℕ, suc, List, [], ◌∷◌, ◌++◌, take, Option, Some, None, option_map, refl, sym, ap, subst, ◌∙◌, inl, inr, append-nil, append_assoc, arith}
+use Rattle.std.proofs.Common.{◌≡◌, ◌≤◌, ℕ, suc, List, [], ◌∷◌, ◌++◌, take, Option, Some, None, option_map, refl, sym, ap, ◌∙◌, inl, inr, append-nil, append_assoc, arith}
 use Rattle.ots_base.specs.Cause.{Rose}
 use Rattle.ots_outside.specs.Shelf.{NeverFalls, ShelfFaults}
 use Rattle.ots_cli.specs.declared.input.InputError.{InputError}
 use Rattle.ots_cli.specs.declared.input.InputError.TheVariants.{ReadFault}
-use Rattle.ots_cli.specs.Opened.{IsOpenedOrNot, Opens, OpensFront, StopsAt, not_opened, opened_last, names_of}
-use Rattle.ots_cli.specs.Words.{HeaderFile}
+use Rattle.ots_cli.specs.Opened.{IsOpenedOrNot, Opens, OpensFront, StopsAt, not_opened, opened_last}
 
 abbrev Told : Type 0
 Told = Option (List (List ℕ))
@@ -47,28 +46,3 @@ stops_later first rest old mid new a b c name opened later (not_opened before af
 stops_later first rest old mid new a b c name opened later (opened_last before after is then rose) =
     opened_last (first ∷ before) after (ap (λ (z : List (List ℕ)). first ∷ z) is) (joined first (before ++ name ∷ []) old mid new opened then)
     (rose_later a.reading b.reading c.reading later.reading rose)
-
--- the headers that may be given are read first
-module _ (o : Option HeaderFile) (rest : List (List ℕ)) (old new : Told) where
-  pub none_given : o ≡ None → OpensFront rest old new → OpensFront (names_of o ++ rest) old new
-  none_given none h = subst (λ (z : Option HeaderFile). OpensFront (names_of z ++ rest) old new) (sym none) h
-
-  pub none_stops : (before now : ShelfFaults) (name : List ℕ) → o ≡ None → StopsAt rest old new before now name → StopsAt (names_of o ++ rest) old new before now name
-  none_stops before now name none h = subst (λ (z : Option HeaderFile). StopsAt (names_of z ++ rest) old new before now name) (sym none) h
-
-  pub given_refused : (before now : ShelfFaults) (file : HeaderFile) (e : InputError) → o ≡ Some file → IsOpenedOrNot file.name old new before now e → OpensFront (names_of o ++ rest) old new
-  given_refused before now file e is h =
-      subst (λ (z : Option HeaderFile). OpensFront (names_of z ++ rest) old new) (sym is) (first_refused file.name rest old new before now e h)
-
-  pub given_stops : (before now : ShelfFaults) (file : HeaderFile) (e : InputError) → o ≡ Some file → IsOpenedOrNot file.name old new before now e → e ≡ ReadFault
-      → StopsAt (names_of o ++ rest) old new before now file.name
-  given_stops before now file e is h fault =
-      subst (λ (z : Option HeaderFile). StopsAt (names_of z ++ rest) old new before now file.name) (sym is) (stops_here file.name rest old new before now e h fault)
-
-  pub given_opened : (mid : Told) (file : HeaderFile) → o ≡ Some file → Opens (file.name ∷ []) old mid → OpensFront rest mid new → OpensFront (names_of o ++ rest) old new
-  given_opened mid file is first h = subst (λ (z : Option HeaderFile). OpensFront (names_of z ++ rest) old new) (sym is) (then_opened file.name rest old mid new first h)
-
-  pub stops_behind : (mid : Told) (before between now : ShelfFaults) (file : HeaderFile) (name : List ℕ) → o ≡ Some file → Opens (file.name ∷ []) old mid → NeverFalls before between
-      → StopsAt rest mid new between now name → StopsAt (names_of o ++ rest) old new before now name
-  stops_behind mid before between now file name is first later h =
-      subst (λ (z : Option HeaderFile). StopsAt (names_of z ++ rest) old new before now name) (sym is) (stops_later file.name rest old mid new before between now name first later h)

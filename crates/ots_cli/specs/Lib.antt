@@ -11,3 +11,4 @@ pub mod Ending
 pub mod Answer
 pub mod Yes
 pub mod Taken
+pub mod Carried

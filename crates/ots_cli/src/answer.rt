@@ -1,9 +1,8 @@
 //! What a command answers and prints.
-ghost use Rattle.std.specs.Prelude.{◌≡◌, ◌≤◌, ℕ, List, map, string_bytes, None, Some, IfOk};
-ghost use Rattle.ots_base.specs.Cause.{Rose};
-ghost use Rattle.ots_outside.specs.Shelf.{NeverFalls};
-ghost use Rattle.ots_cli.specs.Answer.{Answers, ComesTo, Leaves};
-ghost use Rattle.ots_cli.specs.Opened.{OpensFront, StopsAt, names_read};
+ghost use Rattle.std.specs.Prelude.{◌≡◌, string_bytes, Some, IfOk};
+ghost use Rattle.ots_cli.specs.Answer.{Answers};
+ghost use Rattle.ots_cli.specs.Carried.{Carries};
+ghost use Rattle.ots_cli.specs.Opened.{names_read};
 ghost use Rattle.ots_cli.specs.Found.{status_of};
 ghost use Rattle.ots_cli.specs.Refusal.{refusal_text};
 ghost use Rattle.ots_cli.specs.Words.{asked, read_as};
@@ -34,13 +33,8 @@ pub fn answer_to<S: Shelf>(
     words: &[String],
     shelf: &mut S,
 ) -> Result<Answer, OutOfMemory>
-    ensures leaves { Leaves (S.told shelf.old).names (S.told shelf.new).names (Answers (S.told shelf.old).names (asked words.now)) }
-    ensures opened { OpensFront (names_read (asked words.now)) (S.told shelf.old).opened (S.told shelf.new).opened }
-    ensures short { IfOk result (λ _. (S.told shelf.new).short ≡ (S.told shelf.old).short) }
-    ensures slots { (k : ℕ) → (S.told shelf.new).slots k ≡ (S.told shelf.old).slots k }
-    ensures later { NeverFalls (S.faults shelf.old) (S.faults shelf.new) }
-    ensures comes { IfOk result (λ a. ComesTo (S.told shelf.old).names (S.told shelf.new).names (Answers (S.told shelf.old).names (asked words.now))
-        (StopsAt (names_read (asked words.now)) (S.told shelf.old).opened (S.told shelf.new).opened (S.faults shelf.old) (S.faults shelf.new)) (Rose (S.faults shelf.old).writing (S.faults shelf.new).writing) a.status (string_bytes a.text)) }
+    ensures { Carries (λ told. Answers told (asked words.now)) (names_read (asked words.now))
+        (S.told shelf.old) (S.told shelf.new) (S.faults shelf.old) (S.faults shelf.new) result }
 {
     match read_words(alloc, words) {
         Ok(command) => carry_out(alloc, command, shelf),
@@ -55,13 +49,8 @@ fn carry_out<S: Shelf>(
     command: Command<'_>,
     shelf: &mut S,
 ) -> Result<Answer, OutOfMemory>
-    ensures leaves { Leaves (S.told shelf.old).names (S.told shelf.new).names (Answers (S.told shelf.old).names (Some (read_as command.entry))) }
-    ensures opened { OpensFront (names_read (Some (read_as command.entry))) (S.told shelf.old).opened (S.told shelf.new).opened }
-    ensures short { IfOk result (λ _. (S.told shelf.new).short ≡ (S.told shelf.old).short) }
-    ensures slots { (k : ℕ) → (S.told shelf.new).slots k ≡ (S.told shelf.old).slots k }
-    ensures later { NeverFalls (S.faults shelf.old) (S.faults shelf.new) }
-    ensures comes { IfOk result (λ a. ComesTo (S.told shelf.old).names (S.told shelf.new).names (Answers (S.told shelf.old).names (Some (read_as command.entry)))
-        (StopsAt (names_read (Some (read_as command.entry))) (S.told shelf.old).opened (S.told shelf.new).opened (S.faults shelf.old) (S.faults shelf.new)) (Rose (S.faults shelf.old).writing (S.faults shelf.new).writing) a.status (string_bytes a.text)) }
+    ensures { Carries (λ told. Answers told (Some (read_as command.entry))) (names_read (Some (read_as command.entry)))
+        (S.told shelf.old) (S.told shelf.new) (S.faults shelf.old) (S.faults shelf.new) result }
 {
     match command {
         Command::Info(proof) => info(alloc, proof, shelf),

@@ -1,9 +1,7 @@
 //! The commands.
-ghost use Rattle.std.specs.Prelude.{◌≡◌, ◌≤◌, ℕ, [], ◌∷◌, string_bytes, Some, IfOk};
-ghost use Rattle.ots_base.specs.Cause.{Rose};
-ghost use Rattle.ots_outside.specs.Shelf.{NeverFalls};
-ghost use Rattle.ots_cli.specs.Answer.{ComesTo, Leaves, Merges, PrintsInfo, WithProof, Writes, WritesOf};
-ghost use Rattle.ots_cli.specs.Opened.{OpensFront, StopsAt};
+ghost use Rattle.std.specs.Prelude.{◌≡◌, [], ◌∷◌};
+ghost use Rattle.ots_cli.specs.Answer.{Merges, PrintsInfo, WithProof, Writes, WritesOf};
+ghost use Rattle.ots_cli.specs.Carried.{Carries};
 ghost use Rattle.ots_cli.specs.Rewritten.{IsRewritten};
 ghost use Rattle.ots_cli.specs.declared.status.Status.TheVariants.{Differs};
 
@@ -22,13 +20,7 @@ use std::alloc::Global;
 
 /// `info`: the text of the proof, or why there is none.
 pub fn info<S: Shelf>(alloc: Global, name: &str, shelf: &mut S) -> Result<Answer, OutOfMemory>
-    ensures names { (S.told shelf.new).names ≡ (S.told shelf.old).names }
-    ensures opened { OpensFront (name.now ∷ []) (S.told shelf.old).opened (S.told shelf.new).opened }
-    ensures short { IfOk result (λ _. (S.told shelf.new).short ≡ (S.told shelf.old).short) }
-    ensures slots { (k : ℕ) → (S.told shelf.new).slots k ≡ (S.told shelf.old).slots k }
-    ensures later { NeverFalls (S.faults shelf.old) (S.faults shelf.new) }
-    ensures comes { IfOk result (λ a. ComesTo (S.told shelf.old).names (S.told shelf.new).names (WithProof (S.told shelf.old).names name.now PrintsInfo)
-        (StopsAt (name.now ∷ []) (S.told shelf.old).opened (S.told shelf.new).opened (S.faults shelf.old) (S.faults shelf.new)) (Rose (S.faults shelf.old).writing (S.faults shelf.new).writing) a.status (string_bytes a.text)) }
+    ensures { Carries (λ told. WithProof told name.now PrintsInfo) (name.now ∷ []) (S.told shelf.old) (S.told shelf.new) (S.faults shelf.old) (S.faults shelf.new) result }
 {
     match read_proof(alloc, name, shelf) {
         Ok(proof) => Ok(Answer {
@@ -47,13 +39,8 @@ pub fn rewrite<S: Shelf>(
     to: &str,
     shelf: &mut S,
 ) -> Result<Answer, OutOfMemory>
-    ensures leaves { Leaves (S.told shelf.old).names (S.told shelf.new).names (WithProof (S.told shelf.old).names from.now (λ p. WritesOf (S.told shelf.old).names to.now (IsRewritten way p))) }
-    ensures opened { OpensFront (from.now ∷ []) (S.told shelf.old).opened (S.told shelf.new).opened }
-    ensures short { IfOk result (λ _. (S.told shelf.new).short ≡ (S.told shelf.old).short) }
-    ensures slots { (k : ℕ) → (S.told shelf.new).slots k ≡ (S.told shelf.old).slots k }
-    ensures later { NeverFalls (S.faults shelf.old) (S.faults shelf.new) }
-    ensures comes { IfOk result (λ a. ComesTo (S.told shelf.old).names (S.told shelf.new).names (WithProof (S.told shelf.old).names from.now (λ p. WritesOf (S.told shelf.old).names to.now (IsRewritten way p)))
-        (StopsAt (from.now ∷ []) (S.told shelf.old).opened (S.told shelf.new).opened (S.faults shelf.old) (S.faults shelf.new)) (Rose (S.faults shelf.old).writing (S.faults shelf.new).writing) a.status (string_bytes a.text)) }
+    ensures { Carries (λ told. WithProof told from.now (λ p. WritesOf told to.now (IsRewritten way p))) (from.now ∷ [])
+        (S.told shelf.old) (S.told shelf.new) (S.faults shelf.old) (S.faults shelf.new) result }
 {
     match read_proof(alloc, from, shelf) {
         Ok(proof) => {
@@ -72,13 +59,8 @@ pub fn merge<S: Shelf>(
     to: &str,
     shelf: &mut S,
 ) -> Result<Answer, OutOfMemory>
-    ensures leaves { Leaves (S.told shelf.old).names (S.told shelf.new).names (WithProof (S.told shelf.old).names first.now (λ p. WithProof (S.told shelf.old).names second.now (Merges (S.told shelf.old).names to.now p))) }
-    ensures opened { OpensFront (first.now ∷ second.now ∷ []) (S.told shelf.old).opened (S.told shelf.new).opened }
-    ensures short { IfOk result (λ _. (S.told shelf.new).short ≡ (S.told shelf.old).short) }
-    ensures slots { (k : ℕ) → (S.told shelf.new).slots k ≡ (S.told shelf.old).slots k }
-    ensures later { NeverFalls (S.faults shelf.old) (S.faults shelf.new) }
-    ensures comes { IfOk result (λ a. ComesTo (S.told shelf.old).names (S.told shelf.new).names (WithProof (S.told shelf.old).names first.now (λ p. WithProof (S.told shelf.old).names second.now (Merges (S.told shelf.old).names to.now p)))
-        (StopsAt (first.now ∷ second.now ∷ []) (S.told shelf.old).opened (S.told shelf.new).opened (S.faults shelf.old) (S.faults shelf.new)) (Rose (S.faults shelf.old).writing (S.faults shelf.new).writing) a.status (string_bytes a.text)) }
+    ensures { Carries (λ told. WithProof told first.now (λ p. WithProof told second.now (Merges told to.now p))) (first.now ∷ second.now ∷ [])
+        (S.told shelf.old) (S.told shelf.new) (S.faults shelf.old) (S.faults shelf.new) result }
 {
     match read_proof(alloc, first, shelf) {
         Ok(proof) => merge_with(alloc, &proof, second, to, shelf),
@@ -94,13 +76,8 @@ fn merge_with<S: Shelf>(
     to: &str,
     shelf: &mut S,
 ) -> Result<Answer, OutOfMemory>
-    ensures leaves { Leaves (S.told shelf.old).names (S.told shelf.new).names (WithProof (S.told shelf.old).names second.now (Merges (S.told shelf.old).names to.now first.now)) }
-    ensures opened { OpensFront (second.now ∷ []) (S.told shelf.old).opened (S.told shelf.new).opened }
-    ensures short { IfOk result (λ _. (S.told shelf.new).short ≡ (S.told shelf.old).short) }
-    ensures slots { (k : ℕ) → (S.told shelf.new).slots k ≡ (S.told shelf.old).slots k }
-    ensures later { NeverFalls (S.faults shelf.old) (S.faults shelf.new) }
-    ensures comes { IfOk result (λ a. ComesTo (S.told shelf.old).names (S.told shelf.new).names (WithProof (S.told shelf.old).names second.now (Merges (S.told shelf.old).names to.now first.now))
-        (StopsAt (second.now ∷ []) (S.told shelf.old).opened (S.told shelf.new).opened (S.faults shelf.old) (S.faults shelf.new)) (Rose (S.faults shelf.old).writing (S.faults shelf.new).writing) a.status (string_bytes a.text)) }
+    ensures { Carries (λ told. WithProof told second.now (Merges told to.now first.now)) (second.now ∷ [])
+        (S.told shelf.old) (S.told shelf.new) (S.faults shelf.old) (S.faults shelf.new) result }
 {
     match read_proof(alloc, second, shelf) {
         Ok(proof) => write_joined(alloc, first, &proof, to, shelf),
@@ -116,13 +93,7 @@ fn write_joined<S: Shelf>(
     to: &str,
     shelf: &mut S,
 ) -> Result<Answer, OutOfMemory>
-    ensures leaves { Leaves (S.told shelf.old).names (S.told shelf.new).names (Merges (S.told shelf.old).names to.now first.now second.now) }
-    ensures opened { (S.told shelf.new).opened ≡ (S.told shelf.old).opened }
-    ensures short { IfOk result (λ _. (S.told shelf.new).short ≡ (S.told shelf.old).short) }
-    ensures slots { (k : ℕ) → (S.told shelf.new).slots k ≡ (S.told shelf.old).slots k }
-    ensures later { NeverFalls (S.faults shelf.old) (S.faults shelf.new) }
-    ensures comes { IfOk result (λ a. ComesTo (S.told shelf.old).names (S.told shelf.new).names (Merges (S.told shelf.old).names to.now first.now second.now)
-        (λ read. ⊥) (Rose (S.faults shelf.old).writing (S.faults shelf.new).writing) a.status (string_bytes a.text)) }
+    ensures { Carries (λ told. Merges told to.now first.now second.now) [] (S.told shelf.old) (S.told shelf.new) (S.faults shelf.old) (S.faults shelf.new) result }
 {
     match ots_canon::merge(alloc, first, second) {
         Ok(joined) => write_result(alloc, to, &joined, shelf),
@@ -150,13 +121,7 @@ fn write_result<S: Shelf>(
     proof: &Detached,
     shelf: &mut S,
 ) -> Result<Answer, OutOfMemory>
-    ensures leaves { Leaves (S.told shelf.old).names (S.told shelf.new).names (Writes (S.told shelf.old).names name.now proof.now) }
-    ensures opened { (S.told shelf.new).opened ≡ (S.told shelf.old).opened }
-    ensures short { IfOk result (λ _. (S.told shelf.new).short ≡ (S.told shelf.old).short) }
-    ensures slots { (k : ℕ) → (S.told shelf.new).slots k ≡ (S.told shelf.old).slots k }
-    ensures later { NeverFalls (S.faults shelf.old) (S.faults shelf.new) }
-    ensures comes { IfOk result (λ a. ComesTo (S.told shelf.old).names (S.told shelf.new).names (Writes (S.told shelf.old).names name.now proof.now)
-        (λ read. ⊥) (Rose (S.faults shelf.old).writing (S.faults shelf.new).writing) a.status (string_bytes a.text)) }
+    ensures { Carries (λ told. Writes told name.now proof.now) [] (S.told shelf.old) (S.told shelf.new) (S.faults shelf.old) (S.faults shelf.new) result }
 {
     written_file(proof);
     match write_proof(name, proof, shelf) {

@@ -1,10 +1,9 @@
 //! Reading an input by its name.
-ghost use Rattle.std.specs.Prelude.{◌≡◌, ℕ, IsErrOf};
-ghost use Rattle.ots_outside.specs.Shelf.{NeverFalls};
+ghost use Rattle.std.specs.Prelude.{◌≡◌};
 ghost use Rattle.ots_detached.specs.File.{IsFileOf};
 ghost use Rattle.ots_bitcoin.specs.TableRead.{IsTableOf};
-ghost use Rattle.ots_cli.specs.Opened.{OpensName};
-ghost use Rattle.ots_cli.specs.Found.{IsHashOf, ReadsInput, RefusesProof, RefusesTable, RefusesTarget, refused_headers, refused_open, refused_proof, refused_target};
+ghost use Rattle.ots_cli.specs.Carried.{Reads};
+ghost use Rattle.ots_cli.specs.Found.{IsHashOf, RefusesProof, RefusesTable, RefusesTarget, refused_headers, refused_open, refused_proof, refused_target};
 
 use crate::command::HeaderFile;
 use ots_base::MAX_TARGET_FILE;
@@ -89,13 +88,7 @@ pub fn read_proof<S: Shelf>(
     name: &str,
     shelf: &mut S,
 ) -> Result<Detached, InputError>
-    ensures names { (S.told shelf.new).names ≡ (S.told shelf.old).names }
-    ensures opened { OpensName name.now (S.told shelf.old).opened (S.told shelf.new).opened (S.faults shelf.old) (S.faults shelf.new) result }
-    ensures short { ¬ IsErrOf result InputError.OutOfMemory → (S.told shelf.new).short ≡ (S.told shelf.old).short }
-    ensures slots { (k : ℕ) → (S.told shelf.new).slots k ≡ (S.told shelf.old).slots k }
-    ensures answer { ReadsInput (S.told shelf.old).names name.now IsFileOf RefusesProof result }
-    ensures later { NeverFalls (S.faults shelf.old) (S.faults shelf.new) }
-    ensures writing { (S.faults shelf.new).writing ≡ (S.faults shelf.old).writing }
+    ensures { Reads IsFileOf RefusesProof name.now (S.told shelf.old) (S.told shelf.new) (S.faults shelf.old) (S.faults shelf.new) result }
 {
     let slot = shelf.open(name)?;
     let read = read_file(alloc, &mut SlotSource::new(shelf, slot));
@@ -109,13 +102,8 @@ pub fn read_headers<S: Shelf>(
     file: HeaderFile<'_>,
     shelf: &mut S,
 ) -> Result<Headers, InputError>
-    ensures names { (S.told shelf.new).names ≡ (S.told shelf.old).names }
-    ensures opened { OpensName file.entry.name.now (S.told shelf.old).opened (S.told shelf.new).opened (S.faults shelf.old) (S.faults shelf.new) result }
-    ensures short { ¬ IsErrOf result InputError.OutOfMemory → (S.told shelf.new).short ≡ (S.told shelf.old).short }
-    ensures slots { (k : ℕ) → (S.told shelf.new).slots k ≡ (S.told shelf.old).slots k }
-    ensures answer { ReadsInput (S.told shelf.old).names file.entry.name.now (IsTableOf file.entry.first) RefusesTable result }
-    ensures later { NeverFalls (S.faults shelf.old) (S.faults shelf.new) }
-    ensures writing { (S.faults shelf.new).writing ≡ (S.faults shelf.old).writing }
+    ensures { Reads (IsTableOf file.entry.first) RefusesTable file.entry.name.now
+        (S.told shelf.old) (S.told shelf.new) (S.faults shelf.old) (S.faults shelf.new) result }
 {
     let slot = shelf.open(file.name)?;
     let read = Headers::read(alloc, file.first, &mut SlotSource::new(shelf, slot));
@@ -126,13 +114,7 @@ pub fn read_headers<S: Shelf>(
 /// The digest that a hash makes of a name's whole input. All that the shelf tells of names and slots
 /// stays.
 pub fn hash_target<S: Shelf>(name: &str, hash: HashOp, shelf: &mut S) -> Result<Digest, InputError>
-    ensures names { (S.told shelf.new).names ≡ (S.told shelf.old).names }
-    ensures opened { OpensName name.now (S.told shelf.old).opened (S.told shelf.new).opened (S.faults shelf.old) (S.faults shelf.new) result }
-    ensures short { ¬ IsErrOf result InputError.OutOfMemory → (S.told shelf.new).short ≡ (S.told shelf.old).short }
-    ensures slots { (k : ℕ) → (S.told shelf.new).slots k ≡ (S.told shelf.old).slots k }
-    ensures answer { ReadsInput (S.told shelf.old).names name.now (IsHashOf hash) RefusesTarget result }
-    ensures later { NeverFalls (S.faults shelf.old) (S.faults shelf.new) }
-    ensures writing { (S.faults shelf.new).writing ≡ (S.faults shelf.old).writing }
+    ensures { Reads (IsHashOf hash) RefusesTarget name.now (S.told shelf.old) (S.told shelf.new) (S.faults shelf.old) (S.faults shelf.new) result }
 {
     let slot = shelf.open(name)?;
     let hashed = hash_source(&mut SlotSource::new(shelf, slot), hash, MAX_TARGET_FILE);

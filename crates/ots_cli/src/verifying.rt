@@ -1,10 +1,9 @@
 //! `verify`.
-ghost use Rattle.std.specs.Prelude.{◌≡◌, ◌≤◌, ◌++◌, ℕ, [], ◌∷◌, string_bytes, Some, IfOk};
-ghost use Rattle.ots_base.specs.Cause.{Rose};
-ghost use Rattle.ots_outside.specs.Shelf.{NeverFalls};
+ghost use Rattle.std.specs.Prelude.{◌++◌, [], ◌∷◌, string_bytes, Some, IfOk};
 ghost use Rattle.std.specs.Option.{option_copied};
-ghost use Rattle.ots_cli.specs.Answer.{ComesTo, PrintsVerdict, Verifies, VerifiesBy, VerifiesProof, VerifiesTarget};
-ghost use Rattle.ots_cli.specs.Opened.{OpensFront, StopsAt, names_of, names_read};
+ghost use Rattle.ots_cli.specs.Answer.{PrintsVerdict, Verifies, VerifiesBy, VerifiesProof, VerifiesTarget};
+ghost use Rattle.ots_cli.specs.Carried.{Carries};
+ghost use Rattle.ots_cli.specs.Opened.{names_of, names_read};
 ghost use Rattle.ots_cli.specs.Words.{read_verification, verify};
 
 use crate::answer::{Answer, input_refusal};
@@ -25,13 +24,8 @@ pub fn verify<S: Shelf>(
     verification: Verification<'_>,
     shelf: &mut S,
 ) -> Result<Answer, OutOfMemory>
-    ensures names { (S.told shelf.new).names ≡ (S.told shelf.old).names }
-    ensures opened { OpensFront (names_read (Some (verify (read_verification verification.entry)))) (S.told shelf.old).opened (S.told shelf.new).opened }
-    ensures short { IfOk result (λ _. (S.told shelf.new).short ≡ (S.told shelf.old).short) }
-    ensures slots { (k : ℕ) → (S.told shelf.new).slots k ≡ (S.told shelf.old).slots k }
-    ensures later { NeverFalls (S.faults shelf.old) (S.faults shelf.new) }
-    ensures comes { IfOk result (λ a. ComesTo (S.told shelf.old).names (S.told shelf.new).names (Verifies (S.told shelf.old).names (read_verification verification.entry))
-        (StopsAt (names_read (Some (verify (read_verification verification.entry)))) (S.told shelf.old).opened (S.told shelf.new).opened (S.faults shelf.old) (S.faults shelf.new)) (Rose (S.faults shelf.old).writing (S.faults shelf.new).writing) a.status (string_bytes a.text)) }
+    ensures { Carries (λ told. Verifies told (read_verification verification.entry)) (names_read (Some (verify (read_verification verification.entry))))
+        (S.told shelf.old) (S.told shelf.new) (S.faults shelf.old) (S.faults shelf.new) result }
 {
     match read_headers(alloc, verification.bitcoin, shelf) {
         Ok(bitcoin) => verify_by(alloc, verification, &bitcoin, shelf),
@@ -46,14 +40,9 @@ fn verify_by<S: Shelf>(
     bitcoin: &Headers,
     shelf: &mut S,
 ) -> Result<Answer, OutOfMemory>
-    ensures names { (S.told shelf.new).names ≡ (S.told shelf.old).names }
-    ensures opened { OpensFront (names_of (read_verification verification.entry).litecoin ++ verification.entry.proof.now ∷ verification.entry.target.now ∷ []) (S.told shelf.old).opened (S.told shelf.new).opened }
-    ensures short { IfOk result (λ _. (S.told shelf.new).short ≡ (S.told shelf.old).short) }
-    ensures slots { (k : ℕ) → (S.told shelf.new).slots k ≡ (S.told shelf.old).slots k }
-    ensures later { NeverFalls (S.faults shelf.old) (S.faults shelf.new) }
-    ensures comes { IfOk result (λ a. ComesTo (S.told shelf.old).names (S.told shelf.new).names (VerifiesBy (S.told shelf.old).names (read_verification verification.entry) bitcoin.now)
-        (StopsAt (names_of (read_verification verification.entry).litecoin ++ verification.entry.proof.now ∷ verification.entry.target.now ∷ []) (S.told shelf.old).opened (S.told shelf.new).opened (S.faults shelf.old) (S.faults shelf.new))
-        (Rose (S.faults shelf.old).writing (S.faults shelf.new).writing) a.status (string_bytes a.text)) }
+    ensures { Carries (λ told. VerifiesBy told (read_verification verification.entry) bitcoin.now)
+        (names_of (read_verification verification.entry).litecoin ++ verification.entry.proof.now ∷ verification.entry.target.now ∷ [])
+        (S.told shelf.old) (S.told shelf.new) (S.faults shelf.old) (S.faults shelf.new) result }
 {
     let Some(file) = verification.litecoin else {
         return verify_proof(alloc, verification, bitcoin, None, shelf);
@@ -72,13 +61,8 @@ fn verify_proof<S: Shelf>(
     litecoin: Option<&Headers>,
     shelf: &mut S,
 ) -> Result<Answer, OutOfMemory>
-    ensures names { (S.told shelf.new).names ≡ (S.told shelf.old).names }
-    ensures opened { OpensFront (verification.entry.proof.now ∷ verification.entry.target.now ∷ []) (S.told shelf.old).opened (S.told shelf.new).opened }
-    ensures short { IfOk result (λ _. (S.told shelf.new).short ≡ (S.told shelf.old).short) }
-    ensures slots { (k : ℕ) → (S.told shelf.new).slots k ≡ (S.told shelf.old).slots k }
-    ensures later { NeverFalls (S.faults shelf.old) (S.faults shelf.new) }
-    ensures comes { IfOk result (λ a. ComesTo (S.told shelf.old).names (S.told shelf.new).names (VerifiesProof (S.told shelf.old).names (read_verification verification.entry) bitcoin.now (option_copied litecoin.entry))
-        (StopsAt (verification.entry.proof.now ∷ verification.entry.target.now ∷ []) (S.told shelf.old).opened (S.told shelf.new).opened (S.faults shelf.old) (S.faults shelf.new)) (Rose (S.faults shelf.old).writing (S.faults shelf.new).writing) a.status (string_bytes a.text)) }
+    ensures { Carries (λ told. VerifiesProof told (read_verification verification.entry) bitcoin.now (option_copied litecoin.entry))
+        (verification.entry.proof.now ∷ verification.entry.target.now ∷ []) (S.told shelf.old) (S.told shelf.new) (S.faults shelf.old) (S.faults shelf.new) result }
 {
     match read_proof(alloc, verification.proof, shelf) {
         Ok(proof) => verify_target(alloc, verification.target, &proof, bitcoin, litecoin, shelf),
@@ -95,13 +79,8 @@ fn verify_target<S: Shelf>(
     litecoin: Option<&Headers>,
     shelf: &mut S,
 ) -> Result<Answer, OutOfMemory>
-    ensures names { (S.told shelf.new).names ≡ (S.told shelf.old).names }
-    ensures opened { OpensFront (target.now ∷ []) (S.told shelf.old).opened (S.told shelf.new).opened }
-    ensures short { IfOk result (λ _. (S.told shelf.new).short ≡ (S.told shelf.old).short) }
-    ensures slots { (k : ℕ) → (S.told shelf.new).slots k ≡ (S.told shelf.old).slots k }
-    ensures later { NeverFalls (S.faults shelf.old) (S.faults shelf.new) }
-    ensures comes { IfOk result (λ a. ComesTo (S.told shelf.old).names (S.told shelf.new).names (VerifiesTarget (S.told shelf.old).names target.now bitcoin.now (option_copied litecoin.entry) proof.now)
-        (StopsAt (target.now ∷ []) (S.told shelf.old).opened (S.told shelf.new).opened (S.faults shelf.old) (S.faults shelf.new)) (Rose (S.faults shelf.old).writing (S.faults shelf.new).writing) a.status (string_bytes a.text)) }
+    ensures { Carries (λ told. VerifiesTarget told target.now bitcoin.now (option_copied litecoin.entry) proof.now) (target.now ∷ [])
+        (S.told shelf.old) (S.told shelf.new) (S.faults shelf.old) (S.faults shelf.new) result }
 {
     match hash_target(target, proof.hash, shelf) {
         Ok(digest) => verdict_answer(alloc, proof, &digest, bitcoin, litecoin),

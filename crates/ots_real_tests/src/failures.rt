@@ -1,7 +1,7 @@
 // Failures of the system, each by a call that fails on any Linux.
 ghost use Rattle.std.specs.Prelude.{◌≡◌, IsTrue};
 ghost use Rattle.ots_io.specs.Cause.{Rose};
-ghost use Rattle.ots_io.specs.Shelf.{OnlyReading, OnlyWriting};
+ghost use Rattle.ots_io.specs.Shelf.{OnlyWriting};
 
 use ots_io::{
     CreateError, DialError, Dialer, DirShelf, Failed, OpenError, Shelf, Sink, StdSink, TcpDialer,
@@ -11,10 +11,10 @@ use std::fs::{File, OpenOptions, Permissions};
 use std::os::unix::fs::PermissionsExt;
 use std::test::Fail;
 
-// Whether a name is opened and can't be read. That is a counted fault of reading alone.
+// Whether a name is opened and can't be read. That is a counted fault of reading, and none of writing.
 fn opens_unreadable<S: Shelf>(shelf: &mut S, name: &str) -> bool
     ensures counted { IsTrue result → Rose (S.faults shelf.old).reading (S.faults shelf.new).reading }
-    ensures counts { IsTrue result → OnlyReading (S.faults shelf.old) (S.faults shelf.new) }
+    ensures writing { (S.faults shelf.new).writing ≡ (S.faults shelf.old).writing }
 {
     let Ok(slot) = shelf.open(name) else {
         return false;

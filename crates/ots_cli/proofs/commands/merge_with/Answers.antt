@@ -1,24 +1,14 @@
-use Rattle.std.proofs.Common.{[]}
 use Rattle.ots_cli.specs.Answer.{Merges, is_given, is_refused}
-use Rattle.ots_cli.proofs.Opened.{stops_here, then_opened, none_opened}
-use Rattle.ots_cli.proofs.Endings.{later_comes, later_leaves, refused_comes, behind_a_read}
+use Rattle.ots_cli.specs.Found.{RefusesProof}
+use Rattle.ots_cli.proofs.Carrying.{refused_carries, then_carries}
 use Rattle.ots_cli.proofs.commands.merge_with.Goals as goal
 
-pub returns-in-Ok-clause-leaves : goal.returns-in-Ok-clause-leaves
-returns-in-Ok-clause-leaves g c =
-    later_leaves _ _ _ (λ z. Merges z c.args.to.now c.args.first.now c.in-Ok.proof) _ c.in-Ok.ensures.names
-    (λ e h. is_given c.in-Ok.proof c.in-Ok.ensures.answer h) c.write_joined.ensures.leaves
+pub returns-in-Ok : goal.returns-in-Ok
+returns-in-Ok g c =
+    then_carries _ RefusesProof _ _ c.in-Ok.proof (λ told. Merges told c.args.to.now c.args.first.now c.in-Ok.proof) _ _ _ _ _ _ _ c.write_joined.result
+    (λ e h. is_given c.in-Ok.proof c.in-Ok.ensures.answer h) c.in-Ok.ensures c.write_joined.ensures
 
-pub returns-in-Ok-clause-comes : goal.returns-in-Ok-clause-comes
-returns-in-Ok-clause-comes g c =
-    later_comes _ _ _ (λ z. Merges z c.args.to.now c.args.first.now c.in-Ok.proof) _ _ _ _ _ c.write_joined.result c.in-Ok.ensures.names
-    (λ e h. is_given c.in-Ok.proof c.in-Ok.ensures.answer h)
-    (λ name none. absurd none) (behind_a_read _ _ _ c.in-Ok.ensures.writing) c.write_joined.ensures.comes
-
-pub returns-in-Err-clause-comes : goal.returns-in-Err-clause-comes
-returns-in-Err-clause-comes g c =
-    refused_comes _ _ _ _ _ _ c.args.second.now (λ d h. is_refused h) c.in-Err.ensures.names c.in-Err.error c.input_refusal.result
-    c.input_refusal.ensures.status c.input_refusal.ensures.text c.in-Err.ensures.answer (stops_here _ _ _ _ _ _ _ c.in-Err.ensures.opened)
-
-pub returns-in-Ok-clause-opened : goal.returns-in-Ok-clause-opened
-returns-in-Ok-clause-opened g c = then_opened _ [] _ _ _ c.in-Ok.ensures.opened (none_opened [] _ _ c.write_joined.ensures.opened)
+pub returns-in-Err : goal.returns-in-Err
+returns-in-Err g c =
+    refused_carries _ RefusesProof _ _ c.in-Err.error _ _ _ _ _ c.input_refusal.result (λ d h. is_refused h)
+    c.input_refusal.ensures.status c.input_refusal.ensures.text c.in-Err.ensures
