@@ -20,7 +20,7 @@ from opentimestamps.core.serialize import BytesSerializationContext, StreamDeser
 from opentimestamps.core.timestamp import DetachedTimestampFile, Timestamp
 
 TOP = os.path.dirname(os.path.dirname(os.path.abspath(__file__)))
-PROGRAM = os.path.join(TOP, 'crates', 'ots', 'out', 'ots')
+PROGRAM = os.path.join(TOP, 'build', 'ots')
 PATHS = 100_000
 ROUNDS = 5
 

@@ -40,7 +40,7 @@ except ImportError:
     sys.exit(0)
 
 TOP = os.path.dirname(os.path.dirname(os.path.abspath(__file__)))
-PROGRAM = os.path.join(TOP, 'crates', 'ots', 'out', 'ots')
+PROGRAM = os.path.join(TOP, 'build', 'ots')
 
 CALENDARS = ['https://alice.btc.calendar.opentimestamps.org', 'https://bob.btc.calendar.opentimestamps.org',
              'https://finney.calendar.eternitywall.com', 'http://127.0.0.1:14788', '']

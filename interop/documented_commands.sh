@@ -1,0 +1,127 @@
+#!/bin/sh
+# Runs the commands that the pages show, as they are written, and compares what each prints with the page:
+#     interop/documented_commands.sh
+# README.md, docs/GUIDE.md, docs/FORMAT.md: in a block between ``` a line that begins with "$ " is a command,
+# and the lines behind it, up to the next one, are what it prints. A block of the language sh is one command;
+# its lines "# prints TEXT" are what it prints. Blocks that ask a node are left out. man/ots.1: the same of its
+# literal blocks. The program has to be built (./run ots); xxd and openssl have to be there. It ends with 0 where
+# all is as written, with 1 on a difference, and with 70 where the program is not there.
+set -u
+
+top=$(CDPATH='' cd -- "$(dirname -- "$0")/.." && pwd) || exit 70
+if [ ! -x "$top/build/ots" ]; then
+    echo "build/ots is not there: ./run ots builds it" >&2
+    exit 70
+fi
+work=$(mktemp -d) || exit 70
+trap 'rm -rf "$work"' EXIT
+trap 'exit 70' HUP INT TERM
+
+# Writes each command of the page as FOLDER/NUMBER.command, and what it is to print as FOLDER/NUMBER.wanted.
+# The number is the line of the page where the command stands.
+commands_of() {
+    awk -v folder="$2" '
+        function begin() {
+            name = sprintf("%s/%05d", folder, NR)
+            printf "" >(name ".command")
+            printf "" >(name ".wanted")
+            is_open = 1
+        }
+        function end() {
+            if (is_open) {
+                close(name ".command")
+                close(name ".wanted")
+            }
+            is_open = 0
+        }
+        /^ *```/ || /^\.Bd -literal/ || /^\.Ed/ {
+            end()
+            inside = !inside
+            match($0, /^ */)
+            indent = RLENGTH
+            is_script = inside && $0 ~ /```sh$/
+            if (is_script) begin()
+            next
+        }
+        !inside { next }
+        {
+            text = $0
+            for (i = 0; i < indent && substr(text, 1, 1) == " "; i++) text = substr(text, 2)
+        }
+        is_script {
+            print text >(name ".command")
+            if (sub(/^# prints /, "", text)) print text >(name ".wanted")
+            next
+        }
+        text ~ /^\$ / {
+            end()
+            begin()
+            print substr(text, 3) >(name ".command")
+            next
+        }
+        is_open { print text >(name ".wanted") }
+    ' "$1"
+}
+
+asks_a_node() {
+    grep -q -e bitcoin-cli -e litecoin-cli "$1"
+}
+
+# A folder in which the page's commands run: the examples, the same files under the names that the guide uses,
+# and the two scripts of the repository's top.
+make_folder() {
+    mkdir -p "$1/bin" || exit 70
+    cp -R "$top/examples" "$1/examples"
+    cp "$top/examples/headers" "$1/headers"
+    cp "$top/examples/coinbase" "$1/file"
+    cp "$top/examples/coinbase.ots" "$1/file.ots"
+    ln -s "$top/build/ots" "$1/bin/ots"
+    for script in run install; do
+        printf '#!/bin/sh\nexec "%s/%s" "$@"\n' "$top" "$script" >"$1/$script"
+        chmod +x "$1/$script"
+    done
+}
+
+run=0
+failed=0
+
+# Runs the commands of a page in order, in a folder made for it or in this one below that.
+try_page() {
+    page=$1
+    room=$work/$(basename "$page")
+    mkdir -p "$room.commands" || exit 70
+    make_folder "$room"
+    commands_of "$top/$page" "$room.commands"
+    tried=0
+    for command in "$room.commands"/*.command; do
+        if [ ! -e "$command" ] || asks_a_node "$command"; then
+            continue
+        fi
+        tried=$((tried + 1))
+        (cd "$room/$2" && HOME=$room PATH=$room/bin:$PATH sh "$command") </dev/null >"$work/got" 2>"$work/errors"
+        if ! cmp -s "$work/got" "${command%.command}.wanted"; then
+            failed=$((failed + 1))
+            line=$(basename "$command" .command | sed 's/^0*//')
+            echo "$page, line $line prints something else than the page says:"
+            sed 's/^/    /' "$command"
+            diff "${command%.command}.wanted" "$work/got" | sed 's/^/    /'
+            sed 's/^/    /' "$work/errors"
+        fi
+    done
+    if [ $tried -eq 0 ]; then
+        failed=$((failed + 1))
+        echo "$page: no command was found"
+    fi
+    run=$((run + tried))
+    echo "$page: $tried commands"
+}
+
+try_page README.md .
+try_page docs/GUIDE.md .
+try_page docs/FORMAT.md .
+try_page man/ots.1 examples
+if [ $failed -ne 0 ]; then
+    echo "$failed of $run commands print something else"
+    exit 1
+fi
+echo "all $run commands print what the pages say"
