@@ -5,23 +5,20 @@ use Rattle.std.specs.Ordering.{is_eq}
 use Rattle.std.specs.Prelude.{not, bytes_eq}
 use Rattle.std.specs.Cmp.Lexicographic.{same_text}
 use Rattle.std.specs.declared.cmp.Ordering.{Ordering}
-use Rattle.std.specs.declared.cmp.Ordering.TheVariants.{Less, Equal, Greater}
 use Rattle.std.proofs.lemmas.Cmp.{tied_itself}
 use Rattle.std.proofs.lemmas.List.{take_more_same, get_or_default}
 use Rattle.ots_tree.specs.declared.token.Token.{Token}
 use Rattle.ots_tree.specs.declared.token.Token.TheVariants as token
-use Rattle.ots_tree.specs.Wire.{Node, Path, paths, pre, spelled, IsPre, IsToken}
+use Rattle.ots_tree.specs.Wire.{Node, Path, paths, pre, spelled, IsToken}
 use Rattle.ots_tree.specs.Sound.{IsSoundPath, IsSoundPre}
 use Rattle.ots_tree.proofs.Determined.{bytes-apart, same_pre}
 use Rattle.ots_canon.specs.Order.{step_cmp, Has, HaveSame}
 use Rattle.ots_canon.specs.Canonical.{IsTreeOf, IsCanonTree, IsCanonOf}
 use Rattle.ots_canon.specs.Join.{HaveSamePaths, IsJoinOf}
-use Rattle.ots_canon.specs.Ways.{token_step, paths_of_all}
-use Rattle.ots_canon.proofs.Orders.{step_total, same_step, same_op, same_end, head_of}
+use Rattle.ots_canon.specs.Steps.{token_step}
+use Rattle.ots_canon.proofs.Orders.{equal_of, step_total, same_step, same_op, same_end, head_of}
 use Rattle.ots_canon.proofs.Rising.{same_chain, same_back, one_canon}
 use Rattle.ots_canon.proofs.OneTree.{one_tree}
-use Rattle.ots_canon.proofs.WalkPaths.{two_trees}
-use Rattle.ots_canon.proofs.Forms.{some_path}
 
 same_key : (x y : Token) → IsToken x → IsToken y → token_step x ≡ token_step y → x ≡ y
 same_key token.Fork token.Fork hx hy e = refl
@@ -33,11 +30,6 @@ same_key (token.Op o) (token.Attestation b) hx hy e = absurd (let f = head_of e 
 same_key (token.Attestation a) token.Fork hx hy e = absurd (let f = head_of e in omega arith)
 same_key (token.Attestation a) (token.Op p) hx hy e = absurd (let f = head_of e in omega arith)
 same_key (token.Attestation a) (token.Attestation b) hx hy e = let same = same_end a b hx hy e in cc
-
-equal_of : (r : Ordering) → is_eq r ≡ true → r ≡ Equal
-equal_of Less e = absurd cc
-equal_of Equal e = refl
-equal_of Greater e = absurd cc
 
 pub same_token : (x y : Token) (r : Ordering) → IsToken x → IsToken y → r ≡ step_cmp (token_step x) (token_step y) → is_eq r ≡ true → x ≡ y
 same_token x y r hx hy e t = same_key x y hx hy (same_step (token_step x) (token_step y) (sym e ∙ equal_of r t))
@@ -51,24 +43,6 @@ pub not_equal : (x : Token) (r : Ordering) → r ≡ step_cmp (token_step x) (to
 not_equal x r e f = let tie = ap is_eq (e ∙ tied_itself step_total (token_step x)) in absurd cc
 
 -- ---- joins
-
-pub some_joined : (ts us vs : List Token) → IsPre ts → IsPre us → vs ≡ ts ++ us → paths_of_all vs ≡ [] → ⊥
-some_joined ts us vs p q e none =
-    front_of (paths p.0) (paths q.0) (some_path p.0) (sym (two_trees p.0 q.0) ∙ (λ i. paths_of_all (p.1 i ++ q.1 i)) ∙ ap paths_of_all (sym e) ∙ none)
-  where
-    front_of : (ps qs : List Path) → (ps ≡ [] → ⊥) → ps ++ qs ≡ [] → ⊥
-    front_of [] qs h f = h refl
-    front_of (p' ∷ ps) qs h f = absurd cc
-
-pub join_of : (ts us vs out tree : List Token) → IsPre ts → IsPre us → vs ≡ ts ++ us → IsCanonTree (paths_of_all vs) out → tree ≡ out → IsJoinOf ts us tree
-join_of ts us vs out tree p q e h same = record {
-  first = p.0;
-  first_are = p.1;
-  second = q.0;
-  second_are = q.1;
-  form = subst (IsCanonTree (paths p.0 ++ paths q.0)) (sym same)
-      (subst (λ (z : List Path). IsCanonTree z out) (ap paths_of_all e ∙ (λ i. paths_of_all (sym p.1 i ++ sym q.1 i)) ∙ two_trees p.0 q.0) h);
-}
 
 all_joined : (ts us : List Token) → AllByRecursion IsToken ts → AllByRecursion IsToken us → AllByRecursion IsToken (ts ++ us)
 all_joined [] us h g = g

@@ -2,12 +2,8 @@ pub mod Order
 pub mod Canonical
 pub mod Join
 pub mod Prune
-pub mod Ways
-pub mod Charted
-pub mod Behind
-pub mod Meeting
-pub mod Falling
-pub mod Written
+pub mod Steps
 pub mod Rises
-pub mod Lower
-pub mod Kept
+pub mod Places
+pub mod Frames
+pub mod Leading

@@ -4,8 +4,9 @@ ghost use Rattle.std.specs.List.{AllByRecursion};
 ghost use Rattle.ots_tree.specs.Wire.{IsToken};
 ghost use Rattle.ots_canon.specs.Join.{HaveSamePaths, IsMergeOf, IsMergeError, IsJoinOf, HaveOnePair};
 
-use crate::form::{canon, canonical_tokens};
-use crate::meeting::compare_steps;
+use crate::form::canon;
+use crate::merging::merged_tokens;
+use crate::tokens::compare_steps;
 use ots_base::OutOfMemory;
 use ots_ops::{Digest, HashOp};
 use ots_tree::{Detached, Token, Tree, from_tokens, limits_of_detached};
@@ -71,8 +72,8 @@ pub fn merge(alloc: Global, first: &Detached, second: &Detached) -> Result<Detac
 fn joined(alloc: Global, first: &Tree, second: &Tree) -> Result<Tree, OutOfMemory>
     ensures { IfOk result (λ tree. IsJoinOf first.now second.now tree) }
 {
-    let tokens = both(alloc, first.tokens(), second.tokens())?;
-    let tokens = canonical_tokens(alloc, &tokens)?;
+    let both = both(alloc, first.tokens(), second.tokens())?;
+    let tokens = merged_tokens(alloc, &both, &[0, first.tokens().len()])?;
     from_tokens(alloc, tokens)
 }
 
@@ -80,7 +81,7 @@ fn joined(alloc: Global, first: &Tree, second: &Tree) -> Result<Tree, OutOfMemor
 fn both(alloc: Global, first: &[Token], second: &[Token]) -> Result<Vec<Token>, OutOfMemory>
     ensures { IfOk result (λ tokens. tokens.items ≡ first.now ++ second.now) }
 {
-    let mut tokens = Vec::with_capacity(alloc, first.len())?;
+    let mut tokens = Vec::with_capacity(alloc, first.len().saturating_add(second.len()))?;
     copy_to(first, &mut tokens)?;
     copy_to(second, &mut tokens)?;
     Ok(tokens)

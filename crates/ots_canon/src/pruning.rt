@@ -1,17 +1,13 @@
 //! Keeping the one path that says most.
-ghost use Rattle.std.specs.Prelude.{◌≡◌, ◌<◌, length, IfOk};
-ghost use Rattle.std.specs.List.{AllByRecursion};
-ghost use Rattle.ots_tree.specs.Wire.{IsToken};
-ghost use Rattle.ots_canon.specs.Charted.{ArePlaces};
-ghost use Rattle.ots_canon.specs.Kept.{IsKeptEnd, IsLowerOf};
-ghost use Rattle.ots_canon.specs.Lower.{token_height, is_lower, lower};
+ghost use Rattle.std.specs.Prelude.{◌≡◌, ◌+◌, ◌<◌, ◌↔◌, ◌∷◌, [], IfOk, Some, true, length, All};
+ghost use Rattle.std.specs.List.{filter};
+ghost use Rattle.ots_canon.specs.Leading.{token_height, lower, IsLeastHeight, Leads, AreLeads, AreLeadsFrom, IsFirstMarked, first_of, is_of_run, IsLineOfFirst};
+ghost use Rattle.ots_canon.specs.Places.{HasNode, AreNodes, AreEnds};
 ghost use Rattle.ots_canon.specs.Prune.{IsPruneOf};
-ghost use Rattle.ots_canon.specs.Written.{HavePaths};
 
-use crate::chart::{ends_of, places_of};
 use crate::form::canon;
-use crate::meeting::Chart;
-use crate::writing::tree_tokens;
+use crate::merging::{gather_items, items_behind};
+use crate::tokens::{compare_at, ends_of};
 use ots_attest::Attestation;
 use ots_base::OutOfMemory;
 use ots_tree::{Token, Tree, from_tokens};
@@ -24,77 +20,35 @@ pub fn prune(alloc: Global, tree: &Tree) -> Result<Tree, OutOfMemory>
     ensures { IfOk result (λ pruned. IsPruneOf tree.now pruned) }
 {
     let tokens = tree.tokens();
-    let places = places_of(alloc, tokens)?;
-    let ends = ends_of(alloc, tokens)?;
-    let chart = Chart {
-        tokens,
-        places: &places,
-    };
-    match end_to_keep(&chart, &ends) {
-        Some(found) => {
-            let kept = tree_tokens(alloc, &chart, &[found.end])?;
+    match least_height(tokens) {
+        Some(height) => {
+            let kept = first_path(alloc, tokens, height)?;
             from_tokens(alloc, kept)
         }
         None => canon(alloc, tree),
     }
 }
 
-/// The end of a path in Bitcoin, with its height.
-#[derive(Clone, Copy)]
-struct Lowest {
-    end: usize,
-    height: u64,
-}
-
-/// The path that is to be kept, of those that end in these tokens.
-fn end_to_keep(chart: &Chart, ends: &[usize]) -> Option<Lowest>
-    requires places { ArePlaces chart.now.tokens.now chart.now.places.now }
-    requires limits { AllByRecursion IsToken chart.now.tokens.now }
-    requires paths { HavePaths chart.now.tokens.now ends.now }
-    ensures { IsKeptEnd chart.now.tokens.now ends.now result }
+/// The least height of the Bitcoin attestations among these tokens.
+fn least_height(tokens: &[Token]) -> Option<u64>
+    ensures { IsLeastHeight tokens.now result }
 {
-    let mut found = None;
-    for end in ends {
-        found = lower(chart, *end, found);
+    let mut least = None;
+    for token in tokens {
+        least = lower(least, bitcoin_height(token));
     }
-    found
+    least
 }
 
-/// The one that is to be kept of those before, if there is one, and the one that ends here.
-fn lower(chart: &Chart, end: usize, found: Option<Lowest>) -> Option<Lowest>
-    requires places { ArePlaces chart.now.tokens.now chart.now.places.now }
-    requires in_range { end < length chart.now.tokens.now }
-    ensures { IsLowerOf chart.now.tokens.now end found result }
+/// The lower of two heights, where there are two.
+fn lower(one: Option<u64>, other: Option<u64>) -> Option<u64>
+    ensures { result ≡ lower one other }
 {
-    let height = bitcoin_height(&chart.tokens[end]);
-    lower_with(chart, end, height, found)
-}
-
-/// The same, where the height of the one that ends here is known, if it has one.
-fn lower_with(
-    chart: &Chart,
-    end: usize,
-    height: Option<u64>,
-    found: Option<Lowest>,
-) -> Option<Lowest>
-    requires { ArePlaces chart.now.tokens.now chart.now.places.now }
-    ensures { result ≡ lower chart.now.tokens.now end height found }
-{
-    let Some(height) = height else {
-        return found;
-    };
-    match found {
-        Some(best) if !is_lower(chart, end, height, best) => found,
-        _ => Some(Lowest { end, height }),
+    match (one, other) {
+        (Some(one), Some(other)) => Some(if other < one { other } else { one }),
+        (Some(one), None) => Some(one),
+        (None, other) => other,
     }
-}
-
-/// Whether the path that ends here is to be kept in place of another.
-fn is_lower(chart: &Chart, end: usize, height: u64, best: Lowest) -> bool
-    requires { ArePlaces chart.now.tokens.now chart.now.places.now }
-    ensures { result ≡ is_lower chart.now.tokens.now end height best }
-{
-    height < best.height || height == best.height && chart.compare(best.end, end).is_gt()
 }
 
 /// The height of a Bitcoin attestation.
@@ -105,4 +59,121 @@ fn bitcoin_height(token: &Token) -> Option<u64>
         Token::Attestation(Attestation::Bitcoin(height)) => Some(*height),
         _ => None,
     }
+}
+
+/// The first in the order of paths of those that end in this Bitcoin height: its operations, and its
+/// attestation. Nothing where no path does.
+///
+/// Only nodes that lead there are entered. Those at which paths begin alike are one group.
+fn first_path(alloc: Global, tokens: &[Token], height: u64) -> Result<Vec<Token>, OutOfMemory>
+    requires nodes { AreNodes tokens.now }
+    requires root { HasNode tokens.now 0 }
+    ensures { IfOk result (λ path. IsLineOfFirst tokens.now height (0 ∷ []) path.items) }
+{
+    let ends = ends_of(alloc, tokens)?;
+    let leads = leads_of(alloc, tokens, &ends, height)?;
+    let mut path = Vec::new(alloc);
+    let mut items = Vec::new(alloc);
+    gather_items(tokens, &ends, 0, &mut items)?;
+    while let Some(first) = first_leading(tokens, &leads, &items) {
+        let token = &tokens[first];
+        path.push(token.copy()?)?;
+        if let Token::Attestation(_) = token {
+            return Ok(path);
+        }
+        let run = run_of(alloc, tokens, &leads, &items, first)?;
+        items = items_behind(alloc, tokens, &ends, &run)?;
+    }
+    Ok(path)
+}
+
+/// For each token whether the node that begins there has a path that ends in this Bitcoin height.
+fn leads_of(
+    alloc: Global,
+    tokens: &[Token],
+    ends: &[usize],
+    height: u64,
+) -> Result<Vec<bool>, OutOfMemory>
+    requires nodes { AreNodes tokens.now }
+    requires ends { AreEnds tokens.now ends.now }
+    ensures { IfOk result (λ leads. AreLeads tokens.now height leads.items) }
+{
+    let mut leads = Vec::new(alloc);
+    leads.resize(tokens.len(), false)?;
+    let mut at = tokens.len();
+    while at > 0 {
+        at -= 1;
+        leads[at] = leads_at(tokens, ends, height, at, &leads);
+    }
+    Ok(leads)
+}
+
+/// Whether the node that begins here has such a path, where that is known of those behind.
+fn leads_at(tokens: &[Token], ends: &[usize], height: u64, at: usize, leads: &[bool]) -> bool
+    requires nodes { AreNodes tokens.now }
+    requires ends { AreEnds tokens.now ends.now }
+    requires in_range { at < length tokens.now }
+    requires leads { AreLeadsFrom tokens.now height (at + 1) leads.now }
+    ensures { (result ≡ true) ↔ Leads tokens.now height at }
+{
+    let token = &tokens[at];
+    match token {
+        Token::Fork => leads[at + 1] || leads[ends[at + 1]],
+        Token::Op(_) => leads[at + 1],
+        Token::Attestation(_) => is_bitcoin(token, height),
+    }
+}
+
+/// Whether it is the Bitcoin attestation of this height.
+fn is_bitcoin(token: &Token, height: u64) -> bool
+    ensures { (result ≡ true) ↔ (token_height token.now ≡ Some height) }
+{
+    match bitcoin_height(token) {
+        Some(other) => other == height,
+        None => false,
+    }
+}
+
+/// Of the items at these places that lead to the height the first in their order.
+fn first_leading(tokens: &[Token], leads: &[bool], items: &[usize]) -> Option<usize>
+    requires { All (λ k. k < length leads.now) items.now }
+    ensures { IsFirstMarked tokens.now leads.now items.now result }
+{
+    let mut first = None;
+    for place in items {
+        if leads[*place] {
+            first = Some(first_of(tokens, first, *place));
+        }
+    }
+    first
+}
+
+/// The one of two places that comes first, where there are two.
+fn first_of(tokens: &[Token], found: Option<usize>, place: usize) -> usize
+    ensures { result ≡ first_of tokens.now found place }
+{
+    match found {
+        Some(first) if !compare_at(tokens, place, first).is_lt() => first,
+        _ => place,
+    }
+}
+
+/// Of the places of items that lead to the height those that begin as the one at `first` does.
+fn run_of(
+    alloc: Global,
+    tokens: &[Token],
+    leads: &[bool],
+    items: &[usize],
+    first: usize,
+) -> Result<Vec<usize>, OutOfMemory>
+    requires { All (λ k. k < length leads.now) items.now }
+    ensures { IfOk result (λ run. run.items ≡ filter (is_of_run tokens.now leads.now first) items.now) }
+{
+    let mut run = Vec::new(alloc);
+    for place in items {
+        if leads[*place] && compare_at(tokens, first, *place).is_eq() {
+            run.push(*place)?;
+        }
+    }
+    Ok(run)
 }

@@ -1,7 +1,8 @@
 //! Trees as texts of their bytes.
+use ots_detached::read_bytes;
 use ots_io::BytesSink;
 use ots_reader::read_tree;
-use ots_tree::{Shape, Tree, spell_to};
+use ots_tree::{Detached, Shape, Tree, spell_to};
 use std::alloc::Global;
 use std::process::Abort;
 use std::test::Fail;
@@ -69,10 +70,29 @@ pub fn tree(alloc: Global, text: &[u8]) -> Result<Tree, Fail> {
     read(alloc, &bytes)
 }
 
+/// What stands before the hash of a proof's digest.
+const HEADER: &[u8] = b"\x00OpenTimestamps\x00\x00Proof\x00\xbf\x89\xe2\xe8\x84\xe8\x92\x94\x01";
+
+/// The proof with a tree of these bytes, of a digest whose hash and bytes these are.
+pub fn read_proof(alloc: Global, digest: &[u8], tree: &[u8]) -> Result<Detached, Fail> {
+    let mut bytes = Vec::from_slice(alloc, HEADER)?;
+    bytes.extend_from_slice(digest)?;
+    bytes.extend_from_slice(tree)?;
+    match read_bytes(alloc, &bytes) {
+        Ok(proof) => Ok(proof),
+        Err(_) => Err("these bytes are a proof".into()),
+    }
+}
+
 /// The tree has the bytes of this text.
 pub fn expect(rt: &impl Abort, alloc: Global, tree: &Tree, text: &[u8]) -> Result<(), Fail> {
-    let mut sink = BytesSink::new(alloc, 1000, &[])?;
+    expect_bytes(rt, alloc, tree, &bytes_of(alloc, text)?)
+}
+
+/// The tree has these bytes.
+pub fn expect_bytes(rt: &impl Abort, alloc: Global, tree: &Tree, bytes: &[u8]) -> Result<(), Fail> {
+    let mut sink = BytesSink::new(alloc, 10_000, &[])?;
     spell_to(tree, &mut sink)?;
-    assert_eq!(rt; sink.bytes(), bytes_of(alloc, text)?.as_slice());
+    assert_eq!(rt; sink.bytes(), bytes);
     Ok(())
 }

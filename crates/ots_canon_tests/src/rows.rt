@@ -1,7 +1,6 @@
 //! Small trees and proofs.
-use crate::bytes::{bytes_of, expect, tree};
+use crate::bytes::{bytes_of, expect, read_proof, tree};
 use ots_canon::{MergeError, canon, equal, is_canonical, merge, prune};
-use ots_detached::read_bytes;
 use ots_ops::HashOp;
 use ots_tree::Detached;
 use std::alloc::Global;
@@ -120,9 +119,6 @@ fn pruning_keeps_the_first_path_of_the_least_height(rt: HostRuntime) -> Result<(
     Ok(())
 }
 
-/// What stands before the hash of a proof's digest.
-const HEADER: &[u8] = b"\x00OpenTimestamps\x00\x00Proof\x00\xbf\x89\xe2\xe8\x84\xe8\x92\x94\x01";
-
 /// The SHA-256 of `Hello World!` and a line feed, behind its tag.
 const HELLO: &[u8] =
     b"08 03 ba 20 4e 50 d1 26 e4 67 4c 00 5e 04 d8 2e 84 c2 13 66 78 0a f1 f4 3b d5 4a 37 81 6b 6a b3 40";
@@ -139,13 +135,7 @@ const RIPEMD160: &[u8] = b"03 07 07 07 07 07 07 07 07 07 07 07 07 07 07 07 07 07
 
 /// The proof of this digest with this tree.
 fn proof(alloc: Global, digest: &[u8], text: &[u8]) -> Result<Detached, Fail> {
-    let mut bytes = Vec::from_slice(alloc, HEADER)?;
-    bytes.extend_from_slice(&bytes_of(alloc, digest)?)?;
-    bytes.extend_from_slice(&bytes_of(alloc, text)?)?;
-    match read_bytes(alloc, &bytes) {
-        Ok(proof) => Ok(proof),
-        Err(_) => Err("these bytes are a proof".into()),
-    }
+    read_proof(alloc, &bytes_of(alloc, digest)?, &bytes_of(alloc, text)?)
 }
 
 /// The proof that two proofs are joined to.

@@ -1,20 +1,23 @@
+use Rattle.ots_canon.proofs.Canons.{one_nodes}
 use Rattle.ots_canon.proofs.Forms.{if_ok}
-use Rattle.ots_canon.proofs.Lowering.{have_one, pruned, not_pruned}
+use Rattle.ots_canon.proofs.Pruned.{kept_pre, prune_kept, prune_none}
 use Rattle.ots_canon.proofs.pruning.prune.Goals as goal
 
-pub tree_tokens-requires-clause-paths : goal.tree_tokens-requires-clause-paths
-tree_tokens-requires-clause-paths c = have_one c.tokens-tokens.result.now c.in-Some.ensures.ps c.in-Some.found c.in-Some.ensures.is
+pub first_path-requires-clause-nodes : goal.first_path-requires-clause-nodes
+first_path-requires-clause-nodes c = one_nodes c.args.tree.now c.tokens-tokens.result.now c.tokens-tokens.ensures.tokens c.tokens-tokens.ensures.pre
 
-pub returns-in-Some : goal.returns-in-Some
-returns-in-Some c =
-    if_ok c.from_tokens.result _ _ (λ tree e.
-    pruned c.args.tree.now c.tokens-tokens.result.now c.in_ok-kept-in-Some.kept.items tree c.in_ok-ends.ends.items c.in-Some.found
-    c.tokens-tokens.ensures.tokens c.tokens-tokens.ensures.pre c.in_ok-ends.ensures (rw c.deref-2.ensures.value at c.in-Some.ensures) c.in_ok-kept-in-Some.ensures e)
+pub from_tokens-requires : goal.from_tokens-requires
+from_tokens-requires c =
+    kept_pre c.args.tree.now c.in_ok-kept-in-Some.kept.items c.in-Some.height c.tokens-tokens.ensures.pre
+    (rw c.tokens-tokens.ensures.tokens at c.in-Some.ensures) (rw c.tokens-tokens.ensures.tokens at c.in_ok-kept-in-Some.ensures)
+
+pub returns-in_ok-kept-in-Some : goal.returns-in_ok-kept-in-Some
+returns-in_ok-kept-in-Some c =
+    if_ok c.from_tokens.result _ _ (λ pruned e.
+    prune_kept c.args.tree.now c.in_ok-kept-in-Some.kept.items pruned c.in-Some.height c.tokens-tokens.ensures.pre
+    (rw c.tokens-tokens.ensures.tokens at c.in-Some.ensures) (rw c.tokens-tokens.ensures.tokens at c.in_ok-kept-in-Some.ensures) e)
     c.from_tokens.ensures
 
-pub returns : goal.returns
-returns c =
-    if_ok c.canon.result _ _ (λ tree form.
-    not_pruned c.args.tree.now c.tokens-tokens.result.now tree c.in_ok-ends.ends.items
-    c.tokens-tokens.ensures.tokens c.tokens-tokens.ensures.pre c.in_ok-ends.ensures (rw c.deref-2.ensures.value at c.in-None.ensures) form)
-    c.canon.ensures
+pub returns-in-None : goal.returns-in-None
+returns-in-None c =
+    if_ok c.canon.result _ _ (λ form h. prune_none c.args.tree.now form (rw c.tokens-tokens.ensures.tokens at c.in-None.ensures) h) c.canon.ensures

@@ -1,0 +1,172 @@
+-- Gathering the items of nodes.
+use Rattle.std.proofs.Common.{◌≡◌, ◌↔◌, ◌⊎◌, ℕ, ◌+◌, ◌<◌, ◌≤◌, List, [], ◌∷◌, ◌++◌, length, get_or, take, sym, ap, subst, ◌∙◌, inl, inr, arith, append_assoc, length-append}
+use Rattle.std.specs.Prelude.{All}
+use Rattle.std.proofs.lemmas.List.{append-nil, take_more, take_all}
+use Rattle.std.proofs.lemmas.List.Elements.{All-nil, All-push, All-append, Contains-get_or}
+use Rattle.std.proofs.lemmas.List.Sums.{sum_by-append, sum_by_push}
+use Rattle.ots_ops.specs.declared.op.Op.{Op}
+use Rattle.ots_tree.specs.declared.token.Token.{Token}
+use Rattle.ots_tree.specs.declared.token.Token.TheVariants as token
+use Rattle.ots_tree.specs.Wire.{last, more, step, Path, paths, paths_of_item, pre_item}
+use Rattle.ots_canon.specs.Places.{IsNodeAt, HasNode, IsItem, AreEnds, HasAt, HasAmong, HasBehind, Covers, size, total, Gathers, AreBehind, IsFormOf}
+use Rattle.ots_canon.proofs.Nodes.{node_in, behind_op, behind_fork, behind_item, some_token, length_op, length_more, token_is, item_node, size_is, has_here}
+use Rattle.ots_canon.proofs.Ends.{AtFork, AtOp, at_fork, at_op, weaker}
+use Rattle.ots_canon.proofs.Among.{contains_some, alike, back, onward, both, regrouped, among_none, union, pushed, has_append, some_has}
+
+-- ---- the items of one node
+
+-- the places of some items are added, and the others are those of the node at `at`
+pub record Gathering (ts : List Token) (es : List ℕ) (node at : ℕ) (before now : List ℕ) : Type 0 where
+  pub more : List ℕ
+  pub are : now ≡ before ++ more
+  pub items : All (IsItem ts) more
+  pub here : HasNode ts at
+  pub same : (p : Path) → (HasAmong ts more p ⊎ HasAt ts at p) ↔ HasAt ts node p
+  pub few : total es more + size es at ≤ size es node
+
+pub gathering_none : (ts : List Token) (es : List ℕ) (node : ℕ) (before : List ℕ) → HasNode ts node → Gathering ts es node node before before
+gathering_none ts es node before h = record {
+  more = [];
+  are = sym (append-nil before);
+  items = All-nil (IsItem ts);
+  here = h;
+  same = λ p. ((λ g. elim g [ inl a ↦ absurd (among_none a) | inr b ↦ b ]), (λ g. inr g));
+  few = omega arith;
+}
+
+-- the paths of a node with a fork are those of its first item and of the rest
+pub fork_paths : {ts : List Token} {es : List ℕ} {k : ℕ} → AtFork ts es k → (p : Path) → HasAt ts k p ↔ (HasAt ts (k + 1) p ⊎ HasAt ts (get_or es (k + 1) 0) p)
+fork_paths {ts} {es} {k} f p =
+    subst (λ (z : ℕ). HasAt ts k p ↔ (HasAt ts (k + 1) p ⊎ HasAt ts z p)) (sym f.next)
+    (onward (has_here ts k (more f.item f.node) f.is_at p)
+    (onward (back (has_append (paths_of_item f.item) (paths f.node) p))
+    (back (both (has_here ts (k + 1) (last f.item) (behind_fork ts k f.item f.node f.is_at) p)
+    (has_here ts (k + 1 + length (pre_item f.item)) f.node (behind_item ts k f.item f.node f.is_at) p)))))
+
+pub gathering_more : {ts : List Token} {es : List ℕ} {node at : ℕ} {before now : List ℕ} (after : List ℕ) → AreEnds ts es → AtFork ts es at
+    → after ≡ now ++ (at + 1) ∷ [] → Gathering ts es node at before now → Gathering ts es node (get_or es (at + 1) 0) before after
+gathering_more {ts} {es} {node} {at} {before} {now} after ends f e g =
+    let one = behind_fork ts at f.item f.node f.is_at in
+    let two : IsNodeAt ts (get_or es (at + 1) 0) f.node = subst (λ (z : ℕ). IsNodeAt ts z f.node) (sym f.next) (behind_item ts at f.item f.node f.is_at) in
+    let size_one = size_is ts es (at + 1) (last f.item) ends one in
+    let size_two = size_is ts es (get_or es (at + 1) 0) f.node ends two in
+    let size_all = size_is ts es at (more f.item f.node) ends f.is_at in
+    let all = length_more f.item f.node in
+    let added = sum_by_push (size es) g.more (at + 1) in
+    let few = g.few in
+    record {
+      more = g.more ++ (at + 1) ∷ [];
+      are = e ∙ ap (λ (z : List ℕ). z ++ (at + 1) ∷ []) g.are ∙ append_assoc before g.more ((at + 1) ∷ []);
+      items = All-push (IsItem ts) g.more (at + 1) g.items (record { item = f.item; is_at = one });
+      here = record { node = f.node; is_at = two };
+      same = λ p. onward (both (pushed (HasAt ts) g.more (at + 1) p) alike) (onward regrouped (onward (both alike (back (fork_paths f p))) (g.same p)));
+      few = omega arith;
+    }
+
+pub gathering_fork : {ts : List Token} {es : List ℕ} {node at : ℕ} {before now : List ℕ} {x : Token} → AreEnds ts es → x ≡ get_or ts at x → x ≡ token.Fork
+    → Gathering ts es node at before now → AtFork ts es at
+gathering_fork {ts} {es} {at = at} {x = x} ends is f g = at_fork ts es at x (weaker ts es (at + 1) ends) g.here is f
+
+pub gathering_within : {ts : List Token} {es : List ℕ} {node at : ℕ} {before now : List ℕ} → Gathering ts es node at before now → at < length ts
+gathering_within {ts} {at = at} g = node_in g.here
+
+pub gathered : {ts : List Token} {es : List ℕ} {node at : ℕ} {before now : List ℕ} (after : List ℕ) {x : Token} → x ≡ get_or ts at x → (x ≡ token.Fork → ⊥)
+    → after ≡ now ++ at ∷ [] → Gathering ts es node at before now → Gathers ts es node before after
+gathered {ts} {es} {node} {at} {before} {now} after {x} is not_fork e g =
+    let split = item_node g.here.node x (is ∙ token_is ts at g.here.node x g.here.is_at) not_fork in
+    let added = sum_by_push (size es) g.more at in
+    let few = g.few in
+    record {
+      more = g.more ++ at ∷ [];
+      are = e ∙ ap (λ (z : List ℕ). z ++ at ∷ []) g.are ∙ append_assoc before g.more (at ∷ []);
+      items = All-push (IsItem ts) g.more at g.items (record { item = split.0; is_at = subst (IsNodeAt ts at) split.1 g.here.is_at });
+      same = λ p. onward (pushed (HasAt ts) g.more at p) (g.same p);
+      few = omega arith;
+    }
+
+-- ---- the items of several nodes
+
+pub covers_none : (ts : List Token) (H : ℕ → Path → Type 0) → Covers ts H [] []
+covers_none ts H = record { items = All-nil (IsItem ts); same = λ p. ((λ h. absurd (among_none h)), (λ h. absurd (among_none h))) }
+
+pub covers_more : {ts : List Token} {H : ℕ → Path → Type 0} {ks before : List ℕ} (k : ℕ) (ls : List ℕ) → All (IsItem ts) ls → ((p : Path) → HasAmong ts ls p ↔ H k p)
+    → Covers ts H ks before → Covers ts H (ks ++ k ∷ []) (before ++ ls)
+covers_more {ts} {H} {ks} {before} k ls items same c = record {
+  items = All-append (IsItem ts) before ls c.items items;
+  same = λ p. onward (union (HasAt ts) before ls p) (onward (both (c.same p) (same p)) (back (pushed H ks k p)));
+}
+
+pub items_more : {ts : List Token} {es : List ℕ} (ks : List ℕ) (n : ℕ) {before after : List ℕ} → n < length ks → Gathers ts es (get_or ks n 0) before after
+    → Covers ts (HasAt ts) (take n ks) before → Covers ts (HasAt ts) (take (n + 1) ks) after
+items_more {ts} ks n {before} {after} l g c =
+    subst (Covers ts (HasAt ts) (take (n + 1) ks)) (sym g.are)
+    (subst (λ (z : List ℕ). Covers ts (HasAt ts) z (before ++ g.more)) (sym (take_more ks n 0 l)) (covers_more (get_or ks n 0) g.more g.items g.same c))
+
+pub items_all : {ts : List Token} (ks now : List ℕ) (n : ℕ) → length ks ≤ n → Covers ts (HasAt ts) (take n ks) now → Covers ts (HasAt ts) ks now
+items_all {ts} ks now n l h = subst (λ (z : List ℕ). Covers ts (HasAt ts) z now) (take_all n ks l) h
+
+-- a node among these has a path
+pub items_some : {ts : List Token} {ks now : List ℕ} → 0 < length ks → All (HasNode ts) ks → Covers ts (HasAt ts) ks now → 0 < length now
+items_some {ts} {ks} {now} l h g =
+    let t = h 0 0 l in
+    let some = some_has t.node in
+    let found = (g.same some.0).1 (record { place = get_or ks 0 0; listed = Contains-get_or ks 0 0 l; has = record { node = t.node; is_at = t.is_at; has = some.1 } }) in
+    contains_some now found.place found.listed
+
+pub form_of : {ts : List Token} {ks now : List ℕ} {us : List Token} → Covers ts (HasAt ts) ks now → IsFormOf ts now us → IsFormOf ts ks us
+form_of g f = record { node = f.node; canonical = f.canonical; same = λ p. onward (back (g.same p)) (f.same p); are = f.are }
+
+-- ---- the items behind operations
+
+pub behind_none : (ts : List Token) (es : List ℕ) → AreBehind ts es [] []
+behind_none ts es = record { covers = covers_none ts (HasBehind ts); few = omega arith }
+
+behind_more : {ts : List Token} {es ks before : List ℕ} (k : ℕ) (ls : List ℕ) → All (IsItem ts) ls → ((p : Path) → HasAmong ts ls p ↔ HasBehind ts k p) → total es ls + 1 ≤ size es k
+    → AreBehind ts es ks before → AreBehind ts es (ks ++ k ∷ []) (before ++ ls)
+behind_more {ts} {es} {ks} {before} k ls items same l b =
+    let added = sum_by_push (size es) ks k in
+    let joined = sum_by-append (size es) before ls in
+    let longer = length-append ks (k ∷ []) in
+    let few = b.few in
+    record { covers = covers_more k ls items same b.covers; few = omega arith }
+
+behind_at : {ts : List Token} {es : List ℕ} {k : ℕ} {o : Op} → AtOp ts es k o → (p : Path) → HasBehind ts k p ↔ HasAt ts (k + 1) p
+behind_at {ts} {es} {k} {o} f p = (
+  (λ h. record { node = h.node; is_at = behind_op ts k h.op h.node h.is_at; has = h.has }),
+  (λ h. record { op = o; node = f.node; is_at = f.is_at; has = (has_here ts (k + 1) f.node f.behind p).0 h }),
+)
+
+pub items_op : {ts : List Token} {es : List ℕ} (run : List ℕ) (n : ℕ) {y : Token} {o : Op} → n < length run → All (IsItem ts) run → AreEnds ts es
+    → y ≡ get_or ts (get_or run n 0) y → y ≡ token.Op o → AtOp ts es (get_or run n 0) o
+items_op {ts} {es} run n {y} {o} l h ends is f =
+    let i = h n 0 l in
+    at_op ts es (get_or run n 0) y o (weaker ts es (get_or run n 0 + 1) ends) (record { node = last i.item; is_at = i.is_at }) is f
+
+pub behind_next : {ts : List Token} {es : List ℕ} (run : List ℕ) (n : ℕ) {o : Op} {before after : List ℕ} → n < length run → AreEnds ts es → AtOp ts es (get_or run n 0) o
+    → Gathers ts es (get_or run n 0 + 1) before after → AreBehind ts es (take n run) before → AreBehind ts es (take (n + 1) run) after
+behind_next {ts} {es} run n {o} {before} {after} l ends at g b =
+    let size_one = size_is ts es (get_or run n 0 + 1) at.node ends at.behind in
+    let size_all = size_is ts es (get_or run n 0) (last (step o at.node)) ends at.is_at in
+    let all = length_op o at.node in
+    let few = g.few in
+    subst (AreBehind ts es (take (n + 1) run)) (sym g.are)
+    (subst (λ (z : List ℕ). AreBehind ts es z (before ++ g.more)) (sym (take_more run n 0 l))
+    (behind_more (get_or run n 0) g.more g.items (λ p. onward (g.same p) (back (behind_at at p))) (omega arith) b))
+
+-- nothing stands behind an attestation
+pub behind_skip : {ts : List Token} {es : List ℕ} (run : List ℕ) (n : ℕ) {y : Token} {before : List ℕ} → n < length run → All (IsItem ts) run → AreEnds ts es
+    → y ≡ get_or ts (get_or run n 0) y → ((o : Op) → y ≡ token.Op o → ⊥) → AreBehind ts es (take n run) before → AreBehind ts es (take (n + 1) run) before
+behind_skip {ts} {es} run n {y} {before} l h ends is not_op b =
+    let i = h n 0 l in
+    let size_all = size_is ts es (get_or run n 0) (last i.item) ends i.is_at in
+    let some = some_token (last i.item) in
+    let none : (p : Path) → HasBehind ts (get_or run n 0) p → ⊥ = λ p a. not_op a.op (is ∙ token_is ts (get_or run n 0) (last (step a.op a.node)) y a.is_at) in
+    subst (AreBehind ts es (take (n + 1) run)) (append-nil before)
+    (subst (λ (z : List ℕ). AreBehind ts es z (before ++ [])) (sym (take_more run n 0 l))
+    (behind_more (get_or run n 0) [] (All-nil (IsItem ts)) (λ p. ((λ a. absurd (among_none a)), (λ a. absurd (none p a)))) (omega arith) b))
+
+pub item_within : {ts : List Token} (run : List ℕ) (n : ℕ) → n < length run → All (IsItem ts) run → get_or run n 0 < length ts
+item_within run n l h = let i = h n 0 l in node_in (record { node = last i.item; is_at = i.is_at })
+
+pub behind_node : {ts : List Token} {es : List ℕ} {k : ℕ} {o : Op} → AtOp ts es k o → HasNode ts (k + 1)
+behind_node h = record { node = h.node; is_at = h.behind }

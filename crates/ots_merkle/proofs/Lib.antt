@@ -1,0 +1,7 @@
+mod NoSize
+pub mod Trees
+pub mod Rows
+pub mod PathLaws
+pub mod Extending
+pub mod Blocks
+pub mod Spare
