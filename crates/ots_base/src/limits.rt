@@ -12,9 +12,9 @@ pub const MAX_ARGUMENT: usize = 4096;
 /// `core/op.py`, `OpHexlify.MAX_MSG_LENGTH`).
 pub const MAX_HEXLIFIED: usize = 2048;
 
-/// The most operations on a path from the digest to an attestation. The reference library has a
-/// limit of its own on how deep a tree is (python-opentimestamps, `core/timestamp.py`); this one is
-/// this project's.
+/// The most operations on a path from the digest to an attestation. python-opentimestamps reads as
+/// many and refuses one more (`core/timestamp.py`, `Timestamp.deserialize`, whose `_recursion_limit`
+/// of 256 counts the messages: the digest and each result).
 pub const MAX_OPERATIONS: u32 = 255;
 
 /// The most bytes of an attestation's payload (python-opentimestamps, `core/notary.py`,

@@ -1,11 +1,11 @@
-pub mod Reading
-pub mod OneAnswer
-pub mod Parsed
-pub mod Endings
-pub mod Outputs
-pub mod Numbers
-pub mod Opened
-pub mod Yes
-pub mod Taken
-pub mod ReadsBack
-pub mod Carrying
+mod Reading
+mod Outputs
+mod Opened
+mod Gathering
+mod Rewritten
+mod Carrying
+mod Outcome
+mod OneAnswer
+mod Taken
+mod Yes
+mod ReadsBack

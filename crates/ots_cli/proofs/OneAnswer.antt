@@ -1,7 +1,5 @@
--- A command has one answer.
-use Rattle.std.proofs.Common.{◌≡◌, ℕ, List, Option, Some, None, inl, inr, sym, ap, subst, ◌∙◌, arith}
-use Rattle.std.specs.Prelude.{IsSome}
-use Rattle.std.proofs.lemmas.Bool.{false≢true}
+-- A command has one answer, and so one status.
+use Rattle.std.proofs.Common.{◌≡◌, ℕ, List, ◌++◌, Option, Some, None, inl, inr, sym, ap, subst, ◌∙◌, arith}
 use Rattle.std.specs.FinMap as map
 use Rattle.ots_outside.specs.Shelf.{Names}
 use Rattle.ots_tree.specs.declared.detached.Detached.{Detached}
@@ -16,16 +14,24 @@ use Rattle.ots_detached.proofs.Files.{one_fault}
 use Rattle.ots_detached.proofs.BothWays.{no_fault, file_size, one_file, same_detached}
 use Rattle.ots_cli.specs.declared.status.Status.{Status}
 use Rattle.ots_cli.specs.declared.status.Status.TheVariants.{Done, No, Usage, BadProof, NoFile, Exists, ReadFault, WriteFault, TooBig, BadHeaders, FileTooLong, Differs, OutOfMemory}
-use Rattle.ots_cli.specs.Ending.{Ending}
+use Rattle.ots_cli.specs.Ending.{Ending, printing, refused}
 use Rattle.ots_cli.specs.Rewritten.{IsRewritten}
 use Rattle.ots_cli.specs.declared.rewriting.Rewriting.{Rewriting}
 use Rattle.ots_cli.specs.declared.rewriting.Rewriting.TheVariants.{Canon, Prune}
 use Rattle.ots_canon.specs.Join.{IsMergeOf}
 use Rattle.ots_canon.proofs.Lawful.{one_form, one_join, one_prune}
 use Rattle.ots_cli.specs.Found.{HasUnder, IsHashOf, RefusesProof, too_big, bad_proof, RefusesTable, cut, too_many, RefusesTarget}
-use Rattle.ots_cli.specs.Text.{verdict_status}
-use Rattle.ots_cli.specs.Words.{Command, HeaderFile, Verification, info, canon, merge, prune, verify}
-use Rattle.ots_cli.specs.Answer.{Answers, ComesTo, ends, reads_no_more, writes_no_more, Ends, prints_nothing, prints_a_front, prints, PrintsInfo, UnlessFailed, PrintsVerdict, RefusesInput, no_file, refuses, WithInput, is_given, is_refused, WithProof, WithTable, WithPerhapsTable, WithTarget, VerifiesTarget, VerifiesProof, VerifiesBy, Verifies, Writes, too_long, exists, is_made, WritesOf, Merges, differ, joined}
+use Rattle.ots_cli.specs.Text.{verdict_status, verdict_text}
+use Rattle.ots_words.specs.Words.{Command, HeaderFile, Verification, info, canon, merge, prune, verify}
+use Rattle.ots_cli.specs.Answer.{Answers, Comes, as_defined, not_read, PrintsInfo, UnlessFailed, PrintsVerdict, RefusesInput, no_file, refuses, WithInput, is_given, is_refused, WithProof, WithTable, WithPerhapsTable, WithTarget, VerifiesTarget, VerifiesProof, VerifiesBy, Verifies, Writes, too_long, is_made, WritesOf, Merges, differ, joined}
+use Rattle.ots_cli.specs.CarriedOut.{Ends, carried_out, no_memory, status_over}
+use Rattle.ots_cli.proofs.Outcome.{carried_status, only_prints, over_names}
+use Rattle.ots_info.specs.Listing.{file_line, item_line}
+use Rattle.ots_tree.proofs.Determined.{same_pre}
+use Rattle.ots_tree.specs.Listed.{listed}
+use Rattle.ots_tree.specs.declared.token.TokenAt.{TokenAt}
+use Rattle.ots_eval.specs.declared.verdicts.Verdict.{Verdict}
+use Rattle.std.specs.List.{flat_map}
 
 -- the bytes under a name are the only ones
 one_under : (names : Names) (name b c : List ℕ) → map.get names name ≡ Some b → map.get names name ≡ Some c → b ≡ c
@@ -38,21 +44,21 @@ none_under names name b e f = let clash : None ≡ Some b = sym e ∙ f in cc
 module _ {A : Type 0} (names : Names) (name : List ℕ) (Gives : List ℕ → A → Type 0) (Refuses : List ℕ → Status → Type 0)
     (one_given : (b : List ℕ) (x y : A) → Gives b x → Gives b y → x ≡ y) (one_refused : (b : List ℕ) (s t : Status) → Refuses b s → Refuses b t → s ≡ t)
     (not_both : (b : List ℕ) (x : A) (s : Status) → Gives b x → Refuses b s → ⊥) where
-  one_refusal : (d e : Ending) → RefusesInput (Some names) name Refuses d → RefusesInput (Some names) name Refuses e → d.status ≡ e.status
-  one_refusal d e (no_file none f) (no_file none' g) = ap (λ (z : Ending). z.status) (f ∙ sym g)
+  one_refusal : (d e : Ending) → RefusesInput (Some names) name Refuses d → RefusesInput (Some names) name Refuses e → d ≡ e
+  one_refusal d e (no_file none f) (no_file none' g) = f ∙ sym g
   one_refusal d e (no_file none f) (refuses s h g) = absurd (none_under names name h.0 none h.1)
   one_refusal d e (refuses s h f) (no_file none g) = absurd (none_under names name h.0 none h.1)
   one_refusal d e (refuses s h f) (refuses t k g) =
-      ap (λ (z : Ending). z.status) f
-      ∙ one_refused h.0 s t h.2 (subst (λ (z : List ℕ). Refuses z t) (one_under names name k.0 h.0 k.1 h.1) k.2)
-      ∙ ap (λ (z : Ending). z.status) (sym g)
+      f
+      ∙ ap (refused name) (one_refused h.0 s t h.2 (subst (λ (z : List ℕ). Refuses z t) (one_under names name k.0 h.0 k.1 h.1) k.2))
+      ∙ sym g
 
   not_refused : (b : List ℕ) (x : A) (e : Ending) → map.get names name ≡ Some b → Gives b x → RefusesInput (Some names) name Refuses e → ⊥
   not_refused b x e at is (no_file none f) = none_under names name b none at
   not_refused b x e at is (refuses s h f) = not_both b x s is (subst (λ (z : List ℕ). Refuses z s) (one_under names name h.0 b h.1 at) h.2)
 
-  one_input : (P : A → Ending → Type 0) (d e : Ending) → ((x : A) → P x d → P x e → d.status ≡ e.status)
-      → WithInput (Some names) name Gives Refuses P d → WithInput (Some names) name Gives Refuses P e → d.status ≡ e.status
+  one_input : (P : A → Ending → Type 0) (d e : Ending) → ((x : A) → P x d → P x e → d ≡ e)
+      → WithInput (Some names) name Gives Refuses P d → WithInput (Some names) name Gives Refuses P e → d ≡ e
   one_input P d e one (is_given x (b, at, is) h) (is_given y (c, too, as_well) k) =
       let same : x ≡ y = one_given b x y is (subst (λ (z : List ℕ). Gives z y) (one_under names name c b too at) as_well) in
       one y (subst (λ (z : A). P z d) same h) k
@@ -77,8 +83,8 @@ proof_or_not : (b : List ℕ) (p : Detached) (s : Status) → IsFileOf b p → R
 proof_or_not b p s is (too_big long f) = let fits = file_size b p is in omega arith
 proof_or_not b p s is (bad_proof k fits h f) = no_fault b p k is h
 
-with_proof : (names : Names) (name : List ℕ) (P : Detached → Ending → Type 0) (d e : Ending) → ((p : Detached) → P p d → P p e → d.status ≡ e.status)
-    → WithProof (Some names) name P d → WithProof (Some names) name P e → d.status ≡ e.status
+with_proof : (names : Names) (name : List ℕ) (P : Detached → Ending → Type 0) (d e : Ending) → ((p : Detached) → P p d → P p e → d ≡ e)
+    → WithProof (Some names) name P d → WithProof (Some names) name P e → d ≡ e
 with_proof names name = one_input names name IsFileOf RefusesProof (λ b p q f g. one_file b p q f g) proof_refusal proof_or_not
 
 pub given_proof : (names : Names) (name : List ℕ) (P : Detached → Ending → Type 0) (p : Detached) (e : Ending) → HasUnder (Some names) name (λ b. IsFileOf b p)
@@ -99,8 +105,8 @@ table_or_not first b table s is (cut (fits, inl none) f) =
     let size = length_of_table first b table is in let some = is.limits.some in omega arith
 table_or_not first b table s is (cut (fits, inr part) f) = part (let size = length_of_table first b table is in omega arith)
 
-with_table : (names : Names) (file : HeaderFile) (P : Table → Ending → Type 0) (d e : Ending) → ((t : Table) → P t d → P t e → d.status ≡ e.status)
-    → WithTable (Some names) file P d → WithTable (Some names) file P e → d.status ≡ e.status
+with_table : (names : Names) (file : HeaderFile) (P : Table → Ending → Type 0) (d e : Ending) → ((t : Table) → P t d → P t e → d ≡ e)
+    → WithTable (Some names) file P d → WithTable (Some names) file P e → d ≡ e
 with_table names file =
     one_input names file.name (IsTableOf file.first) RefusesTable (λ b t u f g. one_table_lem file.first b t u f g) table_refusal (table_or_not file.first)
 
@@ -110,7 +116,7 @@ given_table names file P t e has =
     given names file.name (IsTableOf file.first) RefusesTable (λ b x y f g. one_table_lem file.first b x y f g) table_refusal (table_or_not file.first) P t e has.0 has.1 has.2
 
 with_perhaps_table : (names : Names) (file : Option HeaderFile) (P : Option Table → Ending → Type 0) (d e : Ending)
-    → ((t : Option Table) → P t d → P t e → d.status ≡ e.status) → WithPerhapsTable (Some names) file P d → WithPerhapsTable (Some names) file P e → d.status ≡ e.status
+    → ((t : Option Table) → P t d → P t e → d ≡ e) → WithPerhapsTable (Some names) file P d → WithPerhapsTable (Some names) file P e → d ≡ e
 with_perhaps_table names None P d e one f g = one None f g
 with_perhaps_table names (Some file) P d e one f g = with_table names file (λ t. P (Some t)) d e (λ t. one (Some t)) f g
 
@@ -126,94 +132,82 @@ pub given_target : (names : Names) (name : List ℕ) (hash : HashOp) (P : List �
 given_target names name hash P d e has =
     given names name (IsHashOf hash) RefusesTarget (λ b x y f g. f.1 ∙ sym g.1) target_refusal (target_or_not hash) P d e has.0 has.1 has.2
 
-with_target : (names : Names) (name : List ℕ) (hash : HashOp) (P : List ℕ → Ending → Type 0) (d e : Ending) → ((x : List ℕ) → P x d → P x e → d.status ≡ e.status)
-    → WithTarget (Some names) name hash P d → WithTarget (Some names) name hash P e → d.status ≡ e.status
+with_target : (names : Names) (name : List ℕ) (hash : HashOp) (P : List ℕ → Ending → Type 0) (d e : Ending) → ((x : List ℕ) → P x d → P x e → d ≡ e)
+    → WithTarget (Some names) name hash P d → WithTarget (Some names) name hash P e → d ≡ e
 with_target names name hash =
     one_input names name (IsHashOf hash) RefusesTarget (λ b x y f g. f.1 ∙ sym g.1) target_refusal (target_or_not hash)
 
 -- a proof is written in one way
-is_there : (o : Option (List ℕ)) → IsSome o → o ≡ None → ⊥
-is_there None some none = absurd (false≢true some)
-is_there (Some b) some none = cc
+one_writing : (name : List ℕ) (r : Detached) (d e : Ending) → Writes name r d → Writes name r e → d ≡ e
+one_writing name r d e (too_long long f) (too_long long' g) = f ∙ sym g
+one_writing name r d e (too_long long f) (is_made is g) = absurd (let fits = file_size _ r is in omega arith)
+one_writing name r d e (is_made is f) (too_long long g) = absurd (let fits = file_size _ r is in omega arith)
+one_writing name r d e (is_made is f) (is_made is' g) = f ∙ sym g
 
-one_writing : (names : Names) (name : List ℕ) (r : Detached) (d e : Ending) → Writes (Some names) name r d → Writes (Some names) name r e → d.status ≡ e.status
-one_writing names name r d e (too_long long f) (too_long long' g) = ap (λ (z : Ending). z.status) (f ∙ sym g)
-one_writing names name r d e (too_long long f) (exists fits there g) = absurd (omega arith)
-one_writing names name r d e (too_long long f) (is_made is absent g) = absurd (let fits = file_size _ r is in omega arith)
-one_writing names name r d e (exists fits there f) (too_long long g) = absurd (omega arith)
-one_writing names name r d e (exists fits there f) (exists fits' there' g) = ap (λ (z : Ending). z.status) (f ∙ sym g)
-one_writing names name r d e (exists fits there f) (is_made fits' absent g) = absurd (is_there (map.get names name) there absent)
-one_writing names name r d e (is_made is absent f) (too_long long g) = absurd (let fits = file_size _ r is in omega arith)
-one_writing names name r d e (is_made fits absent f) (exists fits' there g) = absurd (is_there (map.get names name) there absent)
-one_writing names name r d e (is_made fits absent f) (is_made fits' absent' g) = ap (λ (z : Ending). z.status) (f ∙ sym g)
+-- the text of a proof is the only one
+one_text : (p : Detached) (d e : Ending) → PrintsInfo p d → PrintsInfo p e → d ≡ e
+one_text p d e (text, (items, (t, ts, ls), is), f) (text', (items', (u, us, ms), is'), g) =
+    let node : t ≡ u = same_pre t u (ts ∙ sym us) in
+    let same : items ≡ items' = sym ls ∙ ap (listed 0) node ∙ ms in
+    let texts : text ≡ text' = is ∙ ap (λ (z : List TokenAt). file_line p.hash p.digest ++ flat_map item_line z) same ∙ sym is' in
+    f ∙ ap (printing Done) texts ∙ sym g
 
 -- a result is the only one
 one_rewritten : (way : Rewriting) (p r s : Detached) → IsRewritten way p r → IsRewritten way p s → r ≡ s
 one_rewritten Canon p r s f g = same_detached r s (f.hash ∙ sym g.hash) (f.digest ∙ sym g.digest) (one_form p.tree r.tree s.tree f.tree g.tree)
 one_rewritten Prune p r s f g = same_detached r s (f.hash ∙ sym g.hash) (f.digest ∙ sym g.digest) (one_prune p.tree r.tree s.tree f.tree g.tree)
 
-rewrites : (names : Names) (way : Rewriting) (from to : List ℕ) (d e : Ending) → WithProof (Some names) from (λ p. WritesOf (Some names) to (IsRewritten way p)) d
-    → WithProof (Some names) from (λ p. WritesOf (Some names) to (IsRewritten way p)) e → d.status ≡ e.status
+rewrites : (names : Names) (way : Rewriting) (from to : List ℕ) (d e : Ending) → WithProof (Some names) from (λ p. WritesOf to (IsRewritten way p)) d
+    → WithProof (Some names) from (λ p. WritesOf to (IsRewritten way p)) e → d ≡ e
 rewrites names way from to d e =
-    with_proof names from (λ p. WritesOf (Some names) to (IsRewritten way p)) d e
-    (λ p h k. one_writing names to k.0 d e (subst (λ (z : Detached). Writes (Some names) to z d) (one_rewritten way p h.0 k.0 h.1 k.1) h.2) k.2)
+    with_proof names from (λ p. WritesOf to (IsRewritten way p)) d e
+    (λ p h k. one_writing to k.0 d e (subst (λ (z : Detached). Writes to z d) (one_rewritten way p h.0 k.0 h.1 k.1) h.2) k.2)
 
 one_merged : (p q r s : Detached) → IsMergeOf p q r → IsMergeOf p q s → r ≡ s
 one_merged p q r s f g = same_detached r s (f.hash ∙ sym g.hash) (f.digest ∙ sym g.digest) (one_join p.tree q.tree r.tree s.tree f.tree g.tree)
 
-merges : (names : Names) (to : List ℕ) (p q : Detached) (d e : Ending) → Merges (Some names) to p q d → Merges (Some names) to p q e → d.status ≡ e.status
-merges names to p q d e (differ other f) (differ other' g) = ap (λ (z : Ending). z.status) (f ∙ sym g)
-merges names to p q d e (differ other f) (joined r is h) = absurd (other is.pair)
-merges names to p q d e (joined r is h) (differ other g) = absurd (other is.pair)
-merges names to p q d e (joined r is h) (joined s too k) =
-    one_writing names to s d e (subst (λ (z : Detached). Writes (Some names) to z d) (one_merged p q r s is too) h) k
+merges : (to : List ℕ) (p q : Detached) (d e : Ending) → Merges to p q d → Merges to p q e → d ≡ e
+merges to p q d e (differ other f) (differ other' g) = f ∙ sym g
+merges to p q d e (differ other f) (joined r is h) = absurd (other is.pair)
+merges to p q d e (joined r is h) (differ other g) = absurd (other is.pair)
+merges to p q d e (joined r is h) (joined s too k) =
+    one_writing to s d e (subst (λ (z : Detached). Writes to z d) (one_merged p q r s is too) h) k
 
 -- a verdict is the only one
-verifies : (names : Names) (v : Verification) (d e : Ending) → Verifies (Some names) v d → Verifies (Some names) v e → d.status ≡ e.status
+verifies : (names : Names) (v : Verification) (d e : Ending) → Verifies (Some names) v d → Verifies (Some names) v e → d ≡ e
 verifies names v d e =
     with_table names v.bitcoin (VerifiesBy (Some names) v) d e
     (λ b. with_perhaps_table names v.litecoin (VerifiesProof (Some names) v b) d e
     (λ l. with_proof names v.proof (VerifiesTarget (Some names) v.target b l) d e
     (λ p. with_target names v.target p.hash (PrintsVerdict p b l) d e
-    (λ x f g. ap (λ (z : Ending). z.status) f.2 ∙ ap verdict_status (one p x b l f.0 g.0 f.1 g.1) ∙ ap (λ (z : Ending). z.status) (sym g.2)))))
+    (λ x f g. f.2 ∙ ap (λ (z : Verdict). printing (verdict_status z) (verdict_text z)) (one p x b l f.0 g.0 f.1 g.1) ∙ sym g.2))))
 
-pub one_status : (told : Option Names) (command : Option Command) (d e : Ending) → IsSome told → Answers told command d → Answers told command e → d.status ≡ e.status
-one_status told None d e known f g = ap (λ (z : Ending). z.status) (f ∙ sym g)
-one_status None (Some command) d e known f g = absurd (false≢true known)
-one_status (Some names) (Some (info name)) d e known f g = with_proof names name PrintsInfo d e (λ p h k. h.status ∙ sym k.status) f g
-one_status (Some names) (Some (canon from to)) d e known f g = rewrites names Canon from to d e f g
-one_status (Some names) (Some (merge first second to)) d e known f g =
-    with_proof names first (λ p. WithProof (Some names) second (Merges (Some names) to p)) d e
-    (λ p. with_proof names second (Merges (Some names) to p) d e (λ q. merges names to p q d e)) f g
-one_status (Some names) (Some (prune from to)) d e known f g = rewrites names Prune from to d e f g
-one_status (Some names) (Some (verify v)) d e known f g = verifies names v d e f g
+-- A command has one answer.
+pub one_answer : (names : Names) (command : Option Command) (d e : Ending) → Answers (Some names) command d → Answers (Some names) command e → d ≡ e
+one_answer names None d e f g = f ∙ sym g
+one_answer names (Some (info name)) d e f g = with_proof names name PrintsInfo d e (λ p. one_text p d e) f g
+one_answer names (Some (canon from to)) d e f g = rewrites names Canon from to d e f g
+one_answer names (Some (merge first second to)) d e f g =
+    with_proof names first (λ p. WithProof (Some names) second (Merges to p)) d e
+    (λ p. with_proof names second (Merges to p) d e (λ q. merges to p q d e)) f g
+one_answer names (Some (prune from to)) d e f g = rewrites names Prune from to d e f g
+one_answer names (Some (verify v)) d e f g = verifies names v d e f g
 
 -- ---- the status that is answered
 
--- a status, unless it is that of a fault
-unless : (s r : Status) → r ≡ s → UnlessFailed s r
-unless s Done e = e
-unless s Usage e = e
-unless s (BadProof f) e = e
-unless s NoFile e = e
-unless s Exists e = e
-unless s TooBig e = e
-unless s No e = e
-unless s (BadHeaders n) e = e
-unless s FileTooLong e = e
-unless s (Differs h d k f) e = e
-unless s ReadFault e = tt
-unless s WriteFault e = tt
-unless s OutOfMemory e = tt
-
-comes_exact : (old new : Option Names) (command : Option Command) (R : List ℕ → Type 0) (rose : Type 0) (r : Status) (t : List ℕ) (e : Ending)
-    → ComesTo old new (Answers old command) R rose r t → IsSome old → Answers old command e → UnlessFailed e.status r
-comes_exact old new command R rose r t e (ends d h status text files) known is = unless e.status r (status ∙ one_status old command d e known h is)
-comes_exact old new command R rose r t e (reads_no_more name read status text names) known is = subst (UnlessFailed e.status) (sym status) tt
-comes_exact old new command R rose r t e (writes_no_more d name made h broken fault status text names) known is = subst (UnlessFailed e.status) (sym status) tt
-
-pub exact : (old new : Option Names) (command : Option Command) (R : List ℕ → Type 0) (rose lost : Type 0) (before after : Option (List ℕ)) (r : Status) (e : Ending)
-    → Ends (ComesTo old new (Answers old command) R rose) lost before after r → IsSome old → Answers old command e → UnlessFailed e.status r
-exact old new command R rose lost before after r e (prints_nothing status kept) known is = subst (UnlessFailed e.status) (sym status) tt
-exact old new command R rose lost before after r e (prints_a_front other text status fault comes front) known is = subst (UnlessFailed e.status) (sym status) tt
-exact old new command R rose lost before after r e (prints text comes whole) known is = comes_exact old new command R rose r text e comes known is
+pub exact : (names : Names) (old new : Option Names) (command : Option Command) (stops_at : List ℕ → Type 0) (writing lost : Type 0) (taken now : Option (List ℕ)) (r : Status)
+    (e : Ending) → Ends (Comes (Answers old command) stops_at) writing lost old new taken now r → old ≡ Some names → Answers (Some names) command e
+    → UnlessFailed (status_over names e.status e.acts) r
+exact names old new command stops_at writing lost taken now r e h told is =
+    of_names (subst (λ (z : Option Names). Ends (Comes (Answers z command) stops_at) writing lost z new taken now r) told h) where
+      of_names : Ends (Comes (Answers (Some names) command) stops_at) writing lost (Some names) new taken now r → UnlessFailed (status_over names e.status e.acts) r
+      of_names (no_memory ran same kept) = subst (UnlessFailed (status_over names e.status e.acts)) (sym ran) tt
+      of_names (carried_out d (as_defined a) c) =
+          subst (λ (z : Ending). UnlessFailed (status_over names z.status z.acts) r) (one_answer names command d e a is)
+          (over_names writing lost d.status d.acts names new taken now r c)
+      of_names (carried_out d (not_read name stops at) c) = elim (carried_status writing lost d.status d.acts (Some names) new taken now r c) [
+        | inl may ↦ subst (UnlessFailed (status_over names e.status e.acts)) (sym (only_prints d r ReadFault _ at may)) tt
+        | inr (inl fault) ↦ subst (UnlessFailed (status_over names e.status e.acts)) (sym fault) tt
+        | inr (inr (inl fault)) ↦ subst (UnlessFailed (status_over names e.status e.acts)) (sym fault) tt
+        | inr (inr (inr ran)) ↦ subst (UnlessFailed (status_over names e.status e.acts)) (sym ran) tt
+      ]

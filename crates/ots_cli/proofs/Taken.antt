@@ -8,12 +8,14 @@ use Rattle.ots_eval.specs.declared.verdicts.Verdict.{Verdict}
 use Rattle.ots_eval.specs.declared.verdicts.Verdict.TheVariants.{Yes, NoDigest, NoPath}
 use Rattle.ots_cli.specs.declared.status.Status.{Status}
 use Rattle.ots_cli.specs.declared.status.Status.TheVariants.{Done, No, Usage, BadProof, NoFile, Exists, ReadFault, WriteFault, TooBig, BadHeaders, FileTooLong, Differs, OutOfMemory}
-use Rattle.ots_cli.specs.Ending.{Ending}
-use Rattle.ots_cli.specs.Answer.{Answers, ComesTo, ends, reads_no_more, writes_no_more, Ends, prints_nothing, prints_a_front, prints, no_file, refuses, is_given, is_refused, WithProof, WithTable, WithPerhapsTable, WithTarget, PrintsVerdict, Writes, too_long, exists, is_made, Merges, differ, joined, VerifiesProof, VerifiesTarget, VerifiesBy}
+use Rattle.ots_cli.specs.Ending.{Ending, makes, printing}
+use Rattle.ots_cli.specs.Answer.{Answers, Comes, no_file, refuses, is_given, is_refused, PrintsInfo, WithProof, WithTable, WithPerhapsTable, WithTarget, PrintsVerdict, Writes, too_long, is_made, Merges, differ, joined, VerifiesProof, VerifiesTarget, VerifiesBy}
+use Rattle.ots_cli.specs.CarriedOut.{Ends}
+use Rattle.ots_cli.proofs.Outcome.{Failed, MayEnd, only_prints, outcome}
 use Rattle.ots_cli.specs.Found.{too_big, bad_proof, cut, too_many}
 use Rattle.ots_cli.specs.Taken.{IsProof, TakesProofs, proofs_read}
 use Rattle.ots_cli.specs.Text.{verdict_status}
-use Rattle.ots_cli.specs.Words.{Command, HeaderFile, info, canon, merge, prune, verify}
+use Rattle.ots_words.specs.Words.{Command, HeaderFile, info, canon, merge, prune, verify}
 
 -- the status of an ending is this one, of which it is said
 of_status : (names : Names) (proofs : List (List ℕ)) (s t : Status) → s ≡ t → TakesProofs names proofs t → TakesProofs names proofs s
@@ -35,77 +37,79 @@ one_more names name rest FileTooLong is h = (is, h)
 one_more names name rest (Differs h d k e) is g = (is, g)
 one_more names name rest OutOfMemory is h = tt
 
-status_of_ending : (d e : Ending) → d ≡ e → d.status ≡ e.status
-status_of_ending d e is = ap (λ (z : Ending). z.status) is
+-- what one ending says
+module _ (names : Names) (e : Ending) (s : Status) (may : MayEnd e s) where
+  -- a refusal, or a text
+  of_text : (proofs : List (List ℕ)) (t : Status) (text : List ℕ) → e ≡ printing t text → TakesProofs names proofs t → TakesProofs names proofs s
+  of_text proofs t text is h = of_status names proofs s t (only_prints e s t text is may) h
 
--- a proof is read first
-of_proof : (names : Names) (name : List ℕ) (rest : List (List ℕ)) (P : Detached → Ending → Type 0) (e : Ending)
-    → ((p : Detached) → P p e → TakesProofs names rest e.status) → WithProof (Some names) name P e → TakesProofs names (name ∷ rest) e.status
-of_proof names name rest P e then (is_given p (b, at, is) h) = one_more names name rest e.status (b, at, (p, is)) (then p h)
-of_proof names name rest P e then (is_refused (no_file none f)) = of_status names (name ∷ rest) e.status NoFile (status_of_ending e _ f) tt
-of_proof names name rest P e then (is_refused (refuses s (b, at, too_big long is) f)) =
-    of_status names (name ∷ rest) e.status TooBig (status_of_ending e _ f ∙ is) (inl (b, at, long))
-of_proof names name rest P e then (is_refused (refuses s (b, at, bad_proof k fits has is) f)) =
-    of_status names (name ∷ rest) e.status (BadProof k) (status_of_ending e _ f ∙ is) (inl (b, at, (fits, has)))
+  -- a proof is read first
+  of_proof : (name : List ℕ) (rest : List (List ℕ)) (P : Detached → Ending → Type 0)
+      → ((p : Detached) → P p e → TakesProofs names rest s) → WithProof (Some names) name P e → TakesProofs names (name ∷ rest) s
+  of_proof name rest P then (is_given p (b, at, is) h) = one_more names name rest s (b, at, (p, is)) (then p h)
+  of_proof name rest P then (is_refused (no_file none f)) = of_text (name ∷ rest) NoFile _ f tt
+  of_proof name rest P then (is_refused (refuses t (b, at, too_big long is) f)) =
+      of_text (name ∷ rest) t _ f (of_status names (name ∷ rest) t TooBig is (inl (b, at, long)))
+  of_proof name rest P then (is_refused (refuses t (b, at, bad_proof k fits has is) f)) =
+      of_text (name ∷ rest) t _ f (of_status names (name ∷ rest) t (BadProof k) is (inl (b, at, (fits, has))))
 
--- what comes behind the proofs
-of_writing : (names : Names) (name : List ℕ) (r : Detached) (e : Ending) → Writes (Some names) name r e → TakesProofs names [] e.status
-of_writing names name r e (too_long long f) = of_status names [] e.status TooBig (status_of_ending e _ f) tt
-of_writing names name r e (exists fits there f) = of_status names [] e.status Exists (status_of_ending e _ f) tt
-of_writing names name r e (is_made fits absent f) = of_status names [] e.status Done (status_of_ending e _ f) tt
+  -- what comes behind the proofs
+  made : (name bytes : List ℕ) → e ≡ record { status = Done; acts = makes name bytes ∷ [] } → MayEnd e s → TakesProofs names [] s
+  made name bytes f (inl same) = of_status names [] s Done (same ∙ ap (λ (z : Ending). z.status) f) tt
+  made name bytes f (inr (some, exists)) = of_status names [] s Exists exists tt
 
-of_merging : (names : Names) (to : List ℕ) (p q : Detached) (e : Ending) → Merges (Some names) to p q e → TakesProofs names [] e.status
-of_merging names to p q e (differ other f) = of_status names [] e.status (Differs p.hash p.digest q.hash q.digest) (status_of_ending e _ f) tt
-of_merging names to p q e (joined r is h) = of_writing names to r e h
+  of_writing : (name : List ℕ) (r : Detached) → Writes name r e → TakesProofs names [] s
+  of_writing name r (too_long long f) = of_text [] TooBig _ f tt
+  of_writing name r (is_made is f) = made _ _ f may
 
-of_verdict : (names : Names) (v : Verdict) → TakesProofs names [] (verdict_status v)
-of_verdict names (Yes c height time) = tt
-of_verdict names NoDigest = tt
-of_verdict names NoPath = tt
+  of_merging : (to : List ℕ) (p q : Detached) → Merges to p q e → TakesProofs names [] s
+  of_merging to p q (differ other f) = of_text [] (Differs p.hash p.digest q.hash q.digest) _ f tt
+  of_merging to p q (joined r is h) = of_writing to r h
 
-of_target : (names : Names) (name : List ℕ) (hash : HashOp) (p : Detached) (b : Table) (l : Option Table) (e : Ending)
-    → WithTarget (Some names) name hash (PrintsVerdict p b l) e → TakesProofs names [] e.status
-of_target names name hash p b l e (is_given d has h) = of_status names [] e.status (verdict_status h.0) (status_of_ending e _ h.2) (of_verdict names h.0)
-of_target names name hash p b l e (is_refused (no_file none f)) = of_status names [] e.status NoFile (status_of_ending e _ f) tt
-of_target names name hash p b l e (is_refused (refuses s has f)) = of_status names [] e.status FileTooLong (status_of_ending e _ f ∙ has.2.1) tt
+  of_verdict : (v : Verdict) → TakesProofs names [] (verdict_status v)
+  of_verdict (Yes c height time) = tt
+  of_verdict NoDigest = tt
+  of_verdict NoPath = tt
 
--- headers are read before
-of_table : (names : Names) (file : HeaderFile) (proofs : List (List ℕ)) (P : Table → Ending → Type 0) (e : Ending)
-    → ((t : Table) → P t e → TakesProofs names proofs e.status) → WithTable (Some names) file P e → TakesProofs names proofs e.status
-of_table names file proofs P e then (is_given t has h) = then t h
-of_table names file proofs P e then (is_refused (no_file none f)) = of_status names proofs e.status NoFile (status_of_ending e _ f) tt
-of_table names file proofs P e then (is_refused (refuses s (b, at, cut part is) f)) = of_status names proofs e.status (BadHeaders _) (status_of_ending e _ f ∙ is) tt
-of_table names file proofs P e then (is_refused (refuses s (b, at, too_many long is) f)) = of_status names proofs e.status (BadHeaders _) (status_of_ending e _ f ∙ is) tt
+  of_target : (name : List ℕ) (hash : HashOp) (p : Detached) (b : Table) (l : Option Table)
+      → WithTarget (Some names) name hash (PrintsVerdict p b l) e → TakesProofs names [] s
+  of_target name hash p b l (is_given d has h) = of_text [] (verdict_status h.0) _ h.2 (of_verdict h.0)
+  of_target name hash p b l (is_refused (no_file none f)) = of_text [] NoFile _ f tt
+  of_target name hash p b l (is_refused (refuses t has f)) = of_text [] t _ f (of_status names [] t FileTooLong has.2.1 tt)
 
-of_perhaps_table : (names : Names) (file : Option HeaderFile) (proofs : List (List ℕ)) (P : Option Table → Ending → Type 0) (e : Ending)
-    → ((t : Option Table) → P t e → TakesProofs names proofs e.status) → WithPerhapsTable (Some names) file P e → TakesProofs names proofs e.status
-of_perhaps_table names None proofs P e then h = then None h
-of_perhaps_table names (Some file) proofs P e then h = of_table names file proofs (λ t. P (Some t)) e (λ t. then (Some t)) h
+  -- headers are read before
+  of_table : (file : HeaderFile) (proofs : List (List ℕ)) (P : Table → Ending → Type 0)
+      → ((t : Table) → P t e → TakesProofs names proofs s) → WithTable (Some names) file P e → TakesProofs names proofs s
+  of_table file proofs P then (is_given t has h) = then t h
+  of_table file proofs P then (is_refused (no_file none f)) = of_text proofs NoFile _ f tt
+  of_table file proofs P then (is_refused (refuses t (b, at, cut part is) f)) = of_text proofs t _ f (of_status names proofs t (BadHeaders _) is tt)
+  of_table file proofs P then (is_refused (refuses t (b, at, too_many long is) f)) = of_text proofs t _ f (of_status names proofs t (BadHeaders _) is tt)
 
-takes : (names : Names) (c : Command) (e : Ending) → Answers (Some names) (Some c) e → TakesProofs names (proofs_read c) e.status
-takes names (info name) e h = of_proof names name [] _ e (λ p printed. of_status names [] e.status Done printed.status tt) h
-takes names (canon from to) e h = of_proof names from [] _ e (λ p result. of_writing names to result.0 e result.2) h
-takes names (merge first second to) e h =
-    of_proof names first (second ∷ []) _ e (λ p. of_proof names second [] _ e (λ q. of_merging names to p q e)) h
-takes names (prune from to) e h = of_proof names from [] _ e (λ p result. of_writing names to result.0 e result.2) h
-takes names (verify v) e h =
-    of_table names v.bitcoin (v.proof ∷ []) (VerifiesBy (Some names) v) e
-    (λ b. of_perhaps_table names v.litecoin (v.proof ∷ []) (VerifiesProof (Some names) v b) e
-    (λ l. of_proof names v.proof [] (VerifiesTarget (Some names) v.target b l) e (λ p. of_target names v.target p.hash p b l e))) h
+  of_perhaps_table : (file : Option HeaderFile) (proofs : List (List ℕ)) (P : Option Table → Ending → Type 0)
+      → ((t : Option Table) → P t e → TakesProofs names proofs s) → WithPerhapsTable (Some names) file P e → TakesProofs names proofs s
+  of_perhaps_table None proofs P then h = then None h
+  of_perhaps_table (Some file) proofs P then h = of_table file proofs (λ t. P (Some t)) (λ t. then (Some t)) h
 
-module _ (names : Names) (c : Command) where
-  comes_taken : (new : Option Names) (R : List ℕ → Type 0) (rose : Type 0) (s : Status) (text : List ℕ)
-      → ComesTo (Some names) new (Answers (Some names) (Some c)) R rose s text → TakesProofs names (proofs_read c) s
-  comes_taken new R rose s text (ends e answers status printed files) = of_status names (proofs_read c) s e.status status (takes names c e answers)
-  comes_taken new R rose s text (reads_no_more name stops status printed same) = of_status names (proofs_read c) s ReadFault status tt
-  comes_taken new R rose s text (writes_no_more e name made answers broken fault status printed files) = of_status names (proofs_read c) s WriteFault status tt
+  takes : (c : Command) → Answers (Some names) (Some c) e → TakesProofs names (proofs_read c) s
+  takes (info name) h = of_proof name [] PrintsInfo (λ p printed. of_text [] Done _ printed.2 tt) h
+  takes (canon from to) h = of_proof from [] _ (λ p result. of_writing to result.0 result.2) h
+  takes (merge first second to) h = of_proof first (second ∷ []) _ (λ p. of_proof second [] _ (λ q. of_merging to p q)) h
+  takes (prune from to) h = of_proof from [] _ (λ p result. of_writing to result.0 result.2) h
+  takes (verify v) h =
+      of_table v.bitcoin (v.proof ∷ []) (VerifiesBy (Some names) v)
+      (λ b. of_perhaps_table v.litecoin (v.proof ∷ []) (VerifiesProof (Some names) v b)
+      (λ l. of_proof v.proof [] (VerifiesTarget (Some names) v.target b l) (λ p. of_target v.target p.hash p b l))) h
 
-  pub are_taken : (old new : Option Names) (command : Option Command) (R : List ℕ → Type 0) (rose lost : Type 0) (before after : Option (List ℕ)) (s : Status)
-      → old ≡ Some names → command ≡ Some c → Ends (ComesTo old new (Answers old command) R rose) lost before after s → TakesProofs names (proofs_read c) s
-  are_taken old new command R rose lost before after s told asks (prints_nothing status kept) = of_status names (proofs_read c) s OutOfMemory status tt
-  are_taken old new command R rose lost before after s told asks (prints_a_front other text status fault comes front) =
-      of_status names (proofs_read c) s WriteFault status tt
-  are_taken old new command R rose lost before after s told asks (prints text comes whole) =
-      comes_taken new R rose s text
-      (subst (λ (z : Option Command). ComesTo (Some names) new (Answers (Some names) z) R rose s text) asks
-      (subst (λ (z : Option Names). ComesTo z new (Answers z command) R rose s text) told comes))
+of_fault : (names : Names) (proofs : List (List ℕ)) (s : Status) → Failed s → TakesProofs names proofs s
+of_fault names proofs s (inl is) = of_status names proofs s ReadFault is tt
+of_fault names proofs s (inr (inl is)) = of_status names proofs s WriteFault is tt
+of_fault names proofs s (inr (inr is)) = of_status names proofs s OutOfMemory is tt
+
+pub are_taken : (names : Names) (c : Command) (old new : Option Names) (command : Option Command) (stops_at : List ℕ → Type 0) (writing lost : Type 0)
+    (taken now : Option (List ℕ)) (s : Status) → old ≡ Some names → command ≡ Some c → Ends (Comes (Answers old command) stops_at) writing lost old new taken now s
+    → TakesProofs names (proofs_read c) s
+are_taken names c old new command stops_at writing lost taken now s told asks h = elim (outcome _ _ _ _ _ _ _ _ s h) [
+  | inr failed ↦ of_fault names (proofs_read c) s failed
+  | inl (e, a, may) ↦
+      takes names e s may c (subst (λ (z : Option Command). Answers (Some names) z e) asks (subst (λ (z : Option Names). Answers z command e) told a))
+]

@@ -1,5 +1,5 @@
 -- `verify` is done exactly where some path takes the target's digest to a given root.
-use Rattle.std.proofs.Common.{◌≡◌, ℕ, List, Option, Some, None, refl, sym, ap, subst, ◌∙◌}
+use Rattle.std.proofs.Common.{◌≡◌, ℕ, List, Option, Some, None, inl, inr, refl, sym, ap, subst, ◌∙◌}
 use Rattle.ots_outside.specs.Shelf.{Names}
 use Rattle.ots_ops.specs.Hashed.{hashed}
 use Rattle.ots_tree.specs.declared.detached.Detached.{Detached}
@@ -11,15 +11,17 @@ use Rattle.ots_eval.specs.declared.verdicts.Verdict.TheVariants.{Yes, NoDigest, 
 use Rattle.ots_cli.specs.declared.status.Status.{Status}
 use Rattle.ots_cli.specs.declared.status.Status.TheVariants.{Done, No, Usage, BadProof, NoFile, Exists, ReadFault, WriteFault, TooBig, BadHeaders, FileTooLong, Differs, OutOfMemory}
 use Rattle.ots_cli.specs.Ending.{Ending}
-use Rattle.ots_cli.specs.Answer.{Answers, ComesTo, ends, reads_no_more, writes_no_more, Ends, prints_nothing, prints_a_front, prints, PrintsVerdict, Verifies, VerifiesBy, VerifiesProof, VerifiesTarget, WithPerhapsTable}
+use Rattle.ots_cli.specs.Answer.{Answers, Comes, HasPerhapsTable, PrintsVerdict, Verifies, VerifiesBy, VerifiesProof, VerifiesTarget, WithPerhapsTable}
+use Rattle.ots_cli.specs.CarriedOut.{Ends}
+use Rattle.ots_cli.proofs.Outcome.{only_prints, outcome}
 use Rattle.ots_cli.specs.Text.{verdict_status}
-use Rattle.ots_cli.specs.Words.{Command, HeaderFile, Verification, verify}
-use Rattle.ots_cli.specs.Yes.{HasFiles, HasPerhapsTable, IsDoneExactlyWhere, SaysYes}
+use Rattle.ots_words.specs.Words.{Command, HeaderFile, Verification, verify}
+use Rattle.ots_cli.specs.Yes.{HasFiles, IsDoneExactlyWhere, SaysYes}
 use Rattle.ots_cli.proofs.OneAnswer.{given_proof, given_table, given_target}
 
 -- the verdict that is printed is that on the files
 given_perhaps : (names : Names) (file : Option HeaderFile) (table : Option Table) (P : Option Table → Ending → Type 0) (e : Ending)
-    → HasPerhapsTable names file table → WithPerhapsTable (Some names) file P e → P table e
+    → HasPerhapsTable (Some names) file table → WithPerhapsTable (Some names) file P e → P table e
 given_perhaps names None None P e has h = h
 given_perhaps names None (Some table) P e has h = absurd has
 given_perhaps names (Some file) None P e has h = absurd has
@@ -65,25 +67,17 @@ exactly says (BadHeaders n) to from = λ h. absurd (let clash = from h in cc)
 exactly says FileTooLong to from = λ h. absurd (let clash = from h in cc)
 exactly says (Differs h d k e) to from = λ g. absurd (let clash = from g in cc)
 
-module _ (names : Names) (v : Verification) (b : Table) (l : Option Table) (p : Detached) (target : List ℕ) (has : HasFiles names v b l p target) where
-  comes_exactly : (new : Option Names) (R : List ℕ → Type 0) (rose : Type 0) (s : Status) (text : List ℕ)
-      → ComesTo (Some names) new (Verifies (Some names) v) R rose s text → IsDoneExactlyWhere (SaysYes p target b l) s
-  comes_exactly new R rose s text (ends e answers status printed files) =
-      let printed_verdict = prints_verdict names v b l p target e has answers in
-      let is : s ≡ verdict_status printed_verdict.0 = status ∙ ap (λ (z : Ending). z.status) printed_verdict.2 in
-      exactly (SaysYes p target b l) s (λ done. yes_says p target b l printed_verdict.0 printed_verdict.1 (sym is ∙ done))
-      (λ says. is ∙ says_yes p target b l printed_verdict.0 printed_verdict.1 says)
-  comes_exactly new R rose s text (reads_no_more name stops status printed same) = subst (IsDoneExactlyWhere (SaysYes p target b l)) (sym status) tt
-  comes_exactly new R rose s text (writes_no_more e name made answers broken fault status printed files) =
-      subst (IsDoneExactlyWhere (SaysYes p target b l)) (sym status) tt
-
-  pub done_exactly : (old new : Option Names) (command : Option Command) (R : List ℕ → Type 0) (rose lost : Type 0) (before after : Option (List ℕ)) (s : Status)
-      → old ≡ Some names → command ≡ Some (verify v) → Ends (ComesTo old new (Answers old command) R rose) lost before after s
-      → IsDoneExactlyWhere (SaysYes p target b l) s
-  done_exactly old new command R rose lost before after s told asks (prints_nothing status kept) = subst (IsDoneExactlyWhere (SaysYes p target b l)) (sym status) tt
-  done_exactly old new command R rose lost before after s told asks (prints_a_front other text status fault comes front) =
-      subst (IsDoneExactlyWhere (SaysYes p target b l)) (sym status) tt
-  done_exactly old new command R rose lost before after s told asks (prints text comes whole) =
-      comes_exactly new R rose s text
-      (subst (λ (z : Option Command). ComesTo (Some names) new (Answers (Some names) z) R rose s text) asks
-      (subst (λ (z : Option Names). ComesTo z new (Answers z command) R rose s text) told comes))
+pub done_exactly : (names : Names) (v : Verification) (b : Table) (l : Option Table) (p : Detached) (target : List ℕ) → HasFiles names v b l p target
+    → (old new : Option Names) (command : Option Command) (stops_at : List ℕ → Type 0) (writing lost : Type 0) (taken now : Option (List ℕ)) (s : Status)
+    → old ≡ Some names → command ≡ Some (verify v) → Ends (Comes (Answers old command) stops_at) writing lost old new taken now s
+    → IsDoneExactlyWhere (SaysYes p target b l) s
+done_exactly names v b l p target has old new command stops_at writing lost taken now s told asks h = elim (outcome _ _ _ _ _ _ _ _ s h) [
+  | inr (inl is) ↦ subst (IsDoneExactlyWhere (SaysYes p target b l)) (sym is) tt
+  | inr (inr (inl is)) ↦ subst (IsDoneExactlyWhere (SaysYes p target b l)) (sym is) tt
+  | inr (inr (inr is)) ↦ subst (IsDoneExactlyWhere (SaysYes p target b l)) (sym is) tt
+  | inl (e, a, may) ↦
+      let verdict = prints_verdict names v b l p target e has
+      (subst (λ (z : Option Command). Answers (Some names) z e) asks (subst (λ (z : Option Names). Answers z command e) told a)) in
+      let is = only_prints e s (verdict_status verdict.0) _ verdict.2 may in
+      exactly (SaysYes p target b l) s (λ done. yes_says p target b l verdict.0 verdict.1 (sym is ∙ done)) (λ says. is ∙ says_yes p target b l verdict.0 verdict.1 says)
+]

@@ -1,8 +1,7 @@
--- What a command answers, prints and writes, and what stands after each status.
-use Rattle.std.specs.Prelude.{◌≡◌, ◌⊎◌, ◌<◌, ◌≤◌, ℕ, List, [], ◌∷◌, length, Option, Some, None}
+-- What a command answers: how it ends, by what is under the names that it reads.
+use Rattle.std.specs.Prelude.{◌≡◌, ◌<◌, ℕ, List, [], ◌∷◌, length, Option, Some, None}
 use Rattle.ots_base.specs.declared.limits.TheConstants.{MAX_PROOF_FILE}
 use Rattle.ots_outside.specs.Shelf.{Names}
-use Rattle.ots_outside.specs.Streams.{Takes, TakesFront}
 use Rattle.ots_tree.specs.declared.detached.Detached.{Detached}
 use Rattle.ots_ops.specs.declared.hash_op.HashOp.{HashOp}
 use Rattle.ots_detached.specs.File.{IsFileOf, file_of}
@@ -10,18 +9,20 @@ use Rattle.ots_bitcoin.specs.HeaderTable.{Table}
 use Rattle.ots_bitcoin.specs.TableRead.{IsTableOf}
 use Rattle.ots_eval.specs.Confirmed.{IsVerdict}
 use Rattle.ots_eval.specs.declared.verdicts.Verdict.{Verdict}
+use Rattle.ots_cli.specs.declared.inputs.Inputs.{Inputs}
+use Rattle.ots_cli.specs.declared.inputs.Inputs.TheVariants as inputs
 use Rattle.ots_cli.specs.declared.status.Status.{Status}
-use Rattle.ots_cli.specs.declared.status.Status.TheVariants.{Done, No, Usage, BadProof, NoFile, Exists, ReadFault, WriteFault, TooBig, BadHeaders, FileTooLong, Differs, OutOfMemory}
-use Rattle.ots_cli.specs.Ending.{Ending, File, refused, AddsFiles, IsBroken}
-use Rattle.ots_cli.specs.Found.{IsUnder, IsThere, HasUnder, IsHashOf, RefusesProof, RefusesTable, RefusesTarget}
-use Rattle.ots_cli.specs.Refusal.{refusal_text}
-use Rattle.ots_cli.specs.Text.{IsInfoText, verdict_status, verdict_text}
+use Rattle.ots_cli.specs.declared.status.Status.TheVariants.{Done, Usage, NoFile, ReadFault, WriteFault, TooBig, Differs, OutOfMemory}
+use Rattle.ots_cli.specs.Ending.{Ending, makes, printing, refused}
+use Rattle.ots_cli.specs.Found.{IsUnder, HasUnder, IsHashOf, RefusesProof, RefusesTable, RefusesTarget}
+use Rattle.ots_info.specs.Listing.{IsInfoText}
+use Rattle.ots_cli.specs.Text.{verdict_status, verdict_text}
 use Rattle.ots_canon.specs.Join.{HaveOnePair, IsMergeOf}
 use Rattle.ots_cli.specs.Rewritten.{IsRewritten}
 use Rattle.ots_cli.specs.declared.rewriting.Rewriting.TheVariants.{Canon, Prune}
-use Rattle.ots_cli.specs.Words.{Command, HeaderFile, Verification, info, canon, merge, prune, verify}
+use Rattle.ots_words.specs.Words.{Command, HeaderFile, Verification, info, canon, merge, prune, verify}
 
--- ---- what a command comes to where nothing of the outside fails
+-- ---- where nothing of the outside fails
 
 -- The command ends for a name that is not there, or whose input is refused.
 pub data RefusesInput (told : Option Names) (name : List ℕ) (Refuses : List ℕ → Status → Type 0) (e : Ending) : Type 0 where
@@ -49,32 +50,40 @@ abbrev pub WithPerhapsTable : Option Names → Option HeaderFile → (Option Tab
 WithPerhapsTable told None goes_on e = goes_on None e
 WithPerhapsTable told (Some file) goes_on e = WithTable told file (λ table. goes_on (Some table)) e
 
--- Its text is printed.
-pub record PrintsInfo (proof : Detached) (e : Ending) : Type 0 where
-  pub status : e.status ≡ Done
-  pub text : IsInfoText proof e.text
-  pub files : e.files ≡ []
+-- They are under their name, or none are given.
+abbrev pub HasPerhapsTable : Option Names → Option HeaderFile → Option Table → Type 0
+HasPerhapsTable told None None = Unit {0}
+HasPerhapsTable told None (Some table) = ⊥
+HasPerhapsTable told (Some file) None = ⊥
+HasPerhapsTable told (Some file) (Some table) = HasUnder told file.name (λ bytes. IsTableOf file.first bytes table)
 
--- A proof is written under a name: it is too long for a file, or the name is there already, or the file is made.
-pub data Writes (told : Option Names) (name : List ℕ) (proof : Detached) (e : Ending) : Type 0 where
-  too_long : MAX_PROOF_FILE < length (file_of proof) → e ≡ refused name TooBig → Writes told name proof e
-  exists : length (file_of proof) ≤ MAX_PROOF_FILE → IsThere told name → e ≡ refused name Exists → Writes told name proof e
-  is_made : IsFileOf (file_of proof) proof → IsUnder told name None
-      → e ≡ record { status = Done; text = []; files = record { name = name; bytes = file_of proof } ∷ [] } → Writes told name proof e
+-- They are given, and refused.
+abbrev pub RefusesPerhapsTable : Option Names → Option HeaderFile → Ending → Type 0
+RefusesPerhapsTable told None e = ⊥
+RefusesPerhapsTable told (Some file) e = RefusesInput told file.name RefusesTable e
+
+-- Its text is printed.
+abbrev pub PrintsInfo : Detached → Ending → Type 0
+PrintsInfo proof e = (text : List ℕ) × IsInfoText proof text × (e ≡ printing Done text)
+
+-- A proof is written under a name: it is too long for a file, or the file is made.
+pub data Writes (name : List ℕ) (proof : Detached) (e : Ending) : Type 0 where
+  too_long : MAX_PROOF_FILE < length (file_of proof) → e ≡ refused name TooBig → Writes name proof e
+  is_made : IsFileOf (file_of proof) proof → e ≡ record { status = Done; acts = makes name (file_of proof) ∷ [] } → Writes name proof e
 
 -- A result is written.
-abbrev pub WritesOf : Option Names → List ℕ → (Detached → Type 0) → Ending → Type 0
-WritesOf told name IsResult e = (r : Detached) × IsResult r × Writes told name r e
+abbrev pub WritesOf : List ℕ → (Detached → Type 0) → Ending → Type 0
+WritesOf name IsResult e = (r : Detached) × IsResult r × Writes name r e
 
 -- The proofs are joined and that is written, where they are of one digest; otherwise their hashes and digests are told.
-pub data Merges (told : Option Names) (name : List ℕ) (first second : Detached) (e : Ending) : Type 0 where
-  differ : (HaveOnePair first second → ⊥) → e ≡ refused [] (Differs first.hash first.digest second.hash second.digest) → Merges told name first second e
-  joined : (r : Detached) → IsMergeOf first second r → Writes told name r e → Merges told name first second e
+pub data Merges (name : List ℕ) (first second : Detached) (e : Ending) : Type 0 where
+  differ : (HaveOnePair first second → ⊥) → e ≡ refused [] (Differs first.hash first.digest second.hash second.digest) → Merges name first second e
+  joined : (r : Detached) → IsMergeOf first second r → Writes name r e → Merges name first second e
 
 -- The verdict is printed.
 abbrev pub PrintsVerdict : Detached → Table → Option Table → List ℕ → Ending → Type 0
 PrintsVerdict proof bitcoin litecoin digest e =
-    (v : Verdict) × IsVerdict proof digest bitcoin litecoin v × (e ≡ record { status = verdict_status v; text = verdict_text v; files = [] })
+    (v : Verdict) × IsVerdict proof digest bitcoin litecoin v × (e ≡ printing (verdict_status v) (verdict_text v))
 
 -- The headers of Bitcoin are read, those of Litecoin where they are given, then the proof, and the target is hashed by
 -- the hash of the proof.
@@ -94,59 +103,29 @@ Verifies told v = WithTable told v.bitcoin (VerifiesBy told v)
 abbrev pub Answers : Option Names → Option Command → Ending → Type 0
 Answers told None e = e ≡ refused [] Usage
 Answers told (Some (info proof)) e = WithProof told proof PrintsInfo e
-Answers told (Some (canon from to)) e = WithProof told from (λ p. WritesOf told to (IsRewritten Canon p)) e
-Answers told (Some (merge first second to)) e = WithProof told first (λ p. WithProof told second (Merges told to p)) e
-Answers told (Some (prune from to)) e = WithProof told from (λ p. WritesOf told to (IsRewritten Prune p)) e
+Answers told (Some (canon from to)) e = WithProof told from (λ p. WritesOf to (IsRewritten Canon p)) e
+Answers told (Some (merge first second to)) e = WithProof told first (λ p. WithProof told second (Merges to p)) e
+Answers told (Some (prune from to)) e = WithProof told from (λ p. WritesOf to (IsRewritten Prune p)) e
 Answers told (Some (verify v)) e = Verifies told v e
 
--- ---- what it comes to where calls of the shelf may fail, before it is printed
+-- ---- what is decided of inputs
 
--- `answers` says how it ends where nothing fails, `stops_at` of a name that reading it failed, and `rose` that creating or
--- writing a file did.
-pub data ComesTo (old new : Option Names) (answers : Ending → Type 0) (stops_at : List ℕ → Type 0) (rose : Type 0) (status : Status) (text : List ℕ) : Type 0 where
-  -- it ends as it is defined
-  ends : (e : Ending) → answers e → status ≡ e.status → text ≡ e.text → AddsFiles e.files old new → ComesTo old new answers stops_at rose status text
-  -- a read failed, and no file is made
-  reads_no_more : (name : List ℕ) → stops_at name → status ≡ ReadFault → text ≡ refusal_text name ReadFault → new ≡ old
-      → ComesTo old new answers stops_at rose status text
-  -- a file was to be made, which is not whole
-  writes_no_more : (e : Ending) (name : List ℕ) (made : List File) → answers e → IsBroken name e.files made → rose → status ≡ WriteFault
-      → text ≡ refusal_text name WriteFault → AddsFiles made old new → ComesTo old new answers stops_at rose status text
+abbrev pub Decides : Inputs → Ending → Type 0
+Decides (inputs.Info proof) e = PrintsInfo proof e
+Decides (inputs.Rewrite way proof to) e = WritesOf to.now (IsRewritten way proof) e
+Decides (inputs.Merge first second to) e = Merges to.now first second e
+Decides (inputs.Verify v) e = PrintsVerdict v.proof v.bitcoin v.litecoin v.digest e
 
--- However it ends, no name changes but for the files that it is to make, and these in order.
-pub data Leaves (old new : Option Names) (answers : Ending → Type 0) : Type 0 where
-  no_file_made : new ≡ old → Leaves old new answers
-  all_made : (e : Ending) → answers e → AddsFiles e.files old new → Leaves old new answers
-  some_made : (e : Ending) (name : List ℕ) (made : List File) → answers e → IsBroken name e.files made → AddsFiles made old new
-      → Leaves old new answers
+-- ---- with what may fail
 
--- ---- what is printed
+-- It ends as it is defined; or a name could not be read, at which the shelf counted a fault, and that is told.
+pub data Comes (answers : Ending → Type 0) (stops_at : List ℕ → Type 0) (e : Ending) : Type 0 where
+  as_defined : answers e → Comes answers stops_at e
+  not_read : (name : List ℕ) → stops_at name → e ≡ refused name ReadFault → Comes answers stops_at e
 
--- What a sink that held `old` has taken where a command ended with this status: nothing where memory ran out, a front
--- of the text where the sink failed, and otherwise the whole text. A file that is not whole has a line of its own.
-pub data Ends (comes : Status → List ℕ → Type 0) (rose : Type 0) (old new : Option (List ℕ)) (status : Status) : Type 0 where
-  prints_nothing : status ≡ OutOfMemory → new ≡ old → Ends comes rose old new status
-  prints_a_front : (other : Status) (text : List ℕ) → status ≡ WriteFault → rose → comes other text → TakesFront old new text
-      → Ends comes rose old new status
-  prints : (text : List ℕ) → comes status text → Takes old new text → Ends comes rose old new status
-
--- Printing a text: all of it was taken, or a front of it at a fault of the sink.
-abbrev pub Prints : Status → List ℕ → Type 0 → Option (List ℕ) → Option (List ℕ) → Status → Type 0
-Prints status text rose old new result =
-    ((result ≡ status) × Takes old new text) ⊎ ((result ≡ WriteFault) × rose × TakesFront old new text)
-
--- The answer is this one, unless something of the outside failed or memory ran out.
+-- The status is this one, unless something of the outside failed or memory ran out.
 abbrev pub UnlessFailed : Status → Status → Type 0
 UnlessFailed status ReadFault = Unit {0}
 UnlessFailed status WriteFault = Unit {0}
 UnlessFailed status OutOfMemory = Unit {0}
-UnlessFailed status Done = Done ≡ status
-UnlessFailed status No = No ≡ status
-UnlessFailed status Usage = Usage ≡ status
-UnlessFailed status (BadProof f) = BadProof f ≡ status
-UnlessFailed status NoFile = NoFile ≡ status
-UnlessFailed status Exists = Exists ≡ status
-UnlessFailed status TooBig = TooBig ≡ status
-UnlessFailed status (BadHeaders n) = BadHeaders n ≡ status
-UnlessFailed status FileTooLong = FileTooLong ≡ status
-UnlessFailed status (Differs h d k e) = Differs h d k e ≡ status
+UnlessFailed status other = other ≡ status

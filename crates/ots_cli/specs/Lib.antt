@@ -1,14 +1,14 @@
 pub mod Status
-pub mod Words
 pub mod Opened
 pub mod Text
 pub mod Found
 pub mod ReadsBack
 pub mod Refusal
-pub mod Output
 pub mod Rewritten
 pub mod Ending
+pub mod Decided
 pub mod Answer
 pub mod Yes
 pub mod Taken
-pub mod Carried
+pub mod CarriedOut
+pub mod Gathered

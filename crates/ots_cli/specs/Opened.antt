@@ -5,7 +5,7 @@ use Rattle.ots_base.specs.Cause.{Rose}
 use Rattle.ots_outside.specs.Shelf.{ShelfFaults}
 use Rattle.ots_cli.specs.declared.input.InputError.{InputError}
 use Rattle.ots_cli.specs.declared.input.InputError.TheVariants.{ReadFault}
-use Rattle.ots_cli.specs.Words.{Command, HeaderFile, info, canon, merge, prune, verify}
+use Rattle.ots_words.specs.Words.{Command, HeaderFile, info, canon, merge, prune, verify}
 
 -- the name of headers that may be given
 abbrev pub names_of : Option HeaderFile → List (List ℕ)

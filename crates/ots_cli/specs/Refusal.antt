@@ -3,16 +3,10 @@ use Rattle.std.specs.Prelude.{ℕ, List, [], ◌++◌, codes, decimal}
 use Rattle.ots_reader.specs.Printed.{printed}
 use Rattle.ots_cli.specs.declared.status.Status.{Status}
 use Rattle.ots_cli.specs.declared.status.Status.TheVariants.{Done, No, Usage, BadProof, NoFile, Exists, ReadFault, WriteFault, TooBig, BadHeaders, FileTooLong, Differs, OutOfMemory}
-use Rattle.hex.specs.Hex.{encode_lower}
-use Rattle.ots_ops.specs.declared.hash_op.HashOp.{HashOp}
-use Rattle.ots_cli.specs.Text.{hash_words, line}
+use Rattle.ots_info.specs.Listing.{line, pair_words}
 
 abbrev pub usage_words : List ℕ
 usage_words = codes "usage: ots info, canon, merge, prune, verify, stamp, upgrade, sample"
-
--- a hash and a digest
-abbrev pub pair_words : HashOp → List ℕ → List ℕ
-pair_words hash digest = hash_words hash ++ codes " " ++ encode_lower digest
 
 -- over a name; a status that has no line prints nothing
 abbrev pub refusal_text : List ℕ → Status → List ℕ

@@ -12,7 +12,7 @@ use Rattle.ots_detached.specs.FileFault.{HasFault}
 use Rattle.ots_cli.specs.declared.status.Status.{Status}
 use Rattle.ots_cli.specs.declared.status.Status.TheVariants.{Done, No, BadProof, Exists, TooBig, FileTooLong, Differs}
 use Rattle.ots_cli.specs.Found.{HasUnder}
-use Rattle.ots_cli.specs.Words.{Command, info, canon, merge, prune, verify}
+use Rattle.ots_words.specs.Words.{Command, info, canon, merge, prune, verify}
 
 -- the names of the proofs that a command reads, in order
 abbrev pub proofs_read : Command → List (List ℕ)

@@ -1,78 +1,23 @@
--- The printed lines. Each ends in LF. Bytes print as lower-case hexadecimal.
-use Rattle.std.specs.Prelude.{◌≡◌, ℕ, List, [], ◌∷◌, ◌++◌, codes, decimal}
-use Rattle.std.specs.List.{flat_map}
-use Rattle.hex.specs.Hex.{encode_lower}
-use Rattle.ots_ops.specs.declared.hash_op.HashOp.{HashOp}
-use Rattle.ots_ops.specs.declared.hash_op.HashOp.TheVariants as hash
-use Rattle.ots_ops.specs.declared.op.Op.{Op}
-use Rattle.ots_ops.specs.declared.op.Op.TheVariants as op
-use Rattle.ots_attest.specs.declared.attestation.Attestation.{Attestation}
-use Rattle.ots_attest.specs.declared.attestation.Attestation.TheVariants.{Pending, Bitcoin, Litecoin, Unknown}
-use Rattle.ots_tree.specs.declared.detached.Detached.{Detached}
-use Rattle.ots_tree.specs.Listed.{IsListed}
-use Rattle.ots_tree.specs.declared.token.Token.{Token}
-use Rattle.ots_tree.specs.declared.token.Token.TheVariants as token
-use Rattle.ots_tree.specs.declared.token.TokenAt.{TokenAt}
+-- The line of a verdict, and the status that comes with it.
+use Rattle.std.specs.Prelude.{ℕ, List, ◌++◌, codes, decimal}
+use Rattle.ots_eval.specs.declared.verdicts.Chain.{Chain}
 use Rattle.ots_eval.specs.declared.verdicts.Chain.TheVariants as chain
 use Rattle.ots_eval.specs.declared.verdicts.Verdict.{Verdict}
 use Rattle.ots_eval.specs.declared.verdicts.Verdict.TheVariants.{Yes, NoDigest, NoPath}
+use Rattle.ots_info.specs.Listing.{line}
 use Rattle.ots_cli.specs.declared.status.Status.{Status}
 use Rattle.ots_cli.specs.declared.status.Status.TheVariants.{Done, No}
 
-abbrev pub hash_words : HashOp → List ℕ
-hash_words hash.Sha1 = codes "sha1"
-hash_words hash.Ripemd160 = codes "ripemd160"
-hash_words hash.Sha256 = codes "sha256"
+abbrev pub yes_words : Chain → List ℕ
+yes_words chain.Bitcoin = codes "yes block "
+yes_words chain.Litecoin = codes "yes litecoin block "
 
--- what is empty prints as a dash
-abbrev pub or_dash : List ℕ → List ℕ
-or_dash [] = codes "-"
-or_dash (b ∷ bytes) = b ∷ bytes
-
-abbrev pub op_words : Op → List ℕ
-op_words op.Sha1 = hash_words hash.Sha1
-op_words op.Ripemd160 = hash_words hash.Ripemd160
-op_words op.Sha256 = hash_words hash.Sha256
-op_words (op.Append bytes) = codes "append " ++ encode_lower bytes
-op_words (op.Prepend bytes) = codes "prepend " ++ encode_lower bytes
-op_words op.Reverse = codes "reverse"
-op_words op.Hexlify = codes "hexlify"
-
-abbrev pub attestation_words : Attestation → List ℕ
-attestation_words (Pending uri) = codes "pending " ++ or_dash uri
-attestation_words (Bitcoin height) = codes "bitcoin " ++ decimal height
-attestation_words (Litecoin height) = codes "litecoin " ++ decimal height
-attestation_words (Unknown other) = codes "unknown " ++ encode_lower other.kind ++ codes " " ++ or_dash (encode_lower other.payload)
-
--- words and LF
-abbrev pub line : List ℕ → List ℕ
-line words = words ++ 10 ∷ []
-
--- the number of operations before an item, a space, and its words; a fork prints nothing
-abbrev pub item_words : ℕ → Token → List ℕ
-item_words depth token.Fork = []
-item_words depth (token.Op o) = line (decimal depth ++ codes " " ++ op_words o)
-item_words depth (token.Attestation a) = line (decimal depth ++ codes " " ++ attestation_words a)
-
-abbrev pub item_line : TokenAt → List ℕ
-item_line at = item_words at.depth at.token
-
--- the hash and the digest of the file
-abbrev pub file_line : HashOp → List ℕ → List ℕ
-file_line h digest = line (codes "file " ++ hash_words h ++ codes " " ++ encode_lower digest)
-
--- `info` prints the line of the file, and then a line for each item in preorder.
-abbrev pub IsInfoText : Detached → List ℕ → Type 0
-IsInfoText proof text = (items : List TokenAt) × IsListed proof.tree items × (text ≡ file_line proof.hash proof.digest ++ flat_map item_line items)
-
--- the line of a verdict
 abbrev pub verdict_text : Verdict → List ℕ
-verdict_text (Yes chain.Bitcoin height time) = line (codes "yes block " ++ decimal height ++ codes " time " ++ decimal time)
-verdict_text (Yes chain.Litecoin height time) = line (codes "yes litecoin block " ++ decimal height ++ codes " time " ++ decimal time)
+verdict_text (Yes c height time) = line (yes_words c ++ decimal height ++ codes " time " ++ decimal time)
 verdict_text NoDigest = line (codes "no digest")
 verdict_text NoPath = line (codes "no path")
 
 abbrev pub verdict_status : Verdict → Status
-verdict_status (Yes chain height time) = Done
+verdict_status (Yes c height time) = Done
 verdict_status NoDigest = No
 verdict_status NoPath = No

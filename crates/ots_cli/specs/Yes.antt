@@ -13,8 +13,9 @@ use Rattle.ots_eval.specs.declared.verdicts.Chain.{Chain}
 use Rattle.ots_eval.specs.declared.verdicts.Chain.TheVariants as chain
 use Rattle.ots_cli.specs.declared.status.Status.{Status}
 use Rattle.ots_cli.specs.declared.status.Status.TheVariants.{Done, ReadFault, WriteFault, OutOfMemory}
+use Rattle.ots_cli.specs.Answer.{HasPerhapsTable}
 use Rattle.ots_cli.specs.Found.{HasUnder}
-use Rattle.ots_cli.specs.Words.{HeaderFile, Verification}
+use Rattle.ots_words.specs.Words.{Verification}
 
 -- By the headers of this chain, where they are given, some path confirms the height.
 abbrev pub IsConfirmedOn : Chain → Table → Option Table → Detached → ℕ → Type 0
@@ -27,17 +28,10 @@ abbrev pub SaysYes : Detached → List ℕ → Table → Option Table → Type 0
 SaysYes proof target bitcoin litecoin =
     (hashed proof.hash target ≡ proof.digest) × (c : Chain) × (height : ℕ) × IsConfirmedOn c bitcoin litecoin proof height
 
--- The headers that may be given are under their name.
-abbrev pub HasPerhapsTable : Names → Option HeaderFile → Option Table → Type 0
-HasPerhapsTable names None None = Unit {0}
-HasPerhapsTable names None (Some table) = ⊥
-HasPerhapsTable names (Some file) None = ⊥
-HasPerhapsTable names (Some file) (Some table) = HasUnder (Some names) file.name (λ bytes. IsTableOf file.first bytes table)
-
 -- Under the names that `verify` reads are headers, a proof, and a target of at most 2^40 bytes.
 pub record HasFiles (names : Names) (v : Verification) (bitcoin : Table) (litecoin : Option Table) (proof : Detached) (target : List ℕ) : Type 0 where
   pub of_bitcoin : HasUnder (Some names) v.bitcoin.name (λ bytes. IsTableOf v.bitcoin.first bytes bitcoin)
-  pub of_litecoin : HasPerhapsTable names v.litecoin litecoin
+  pub of_litecoin : HasPerhapsTable (Some names) v.litecoin litecoin
   pub of_proof : HasUnder (Some names) v.proof (λ bytes. IsFileOf bytes proof)
   pub of_target : HasUnder (Some names) v.target (λ bytes. (bytes ≡ target) × (length bytes ≤ MAX_TARGET_FILE))
 

@@ -1,11 +1,11 @@
-//! Reading an input by its name.
-ghost use Rattle.std.specs.Prelude.{◌≡◌};
+//! Reading an input by its name: the only code that opens one.
+ghost use Rattle.std.specs.Prelude.{◌≡◌, ◌≤◌, ◌-◌, ◌^◌};
 ghost use Rattle.ots_detached.specs.File.{IsFileOf};
 ghost use Rattle.ots_bitcoin.specs.TableRead.{IsTableOf};
-ghost use Rattle.ots_cli.specs.Carried.{Reads};
-ghost use Rattle.ots_cli.specs.Found.{IsHashOf, RefusesProof, RefusesTable, RefusesTarget, refused_headers, refused_open, refused_proof, refused_target};
+ghost use Rattle.ots_cli.specs.Gathered.{ReadsName, ReadsUnder};
+ghost use Rattle.ots_cli.specs.Found.{IsHashOf, RefusesProof, RefusesTable, RefusesTarget, refused_headers, refused_open, refused_proof, refused_target, status_of};
 
-use crate::command::HeaderFile;
+use crate::status::Status;
 use ots_base::MAX_TARGET_FILE;
 use ots_bitcoin::{Headers, HeadersError};
 use ots_detached::{FileError, HashError, hash_source, read_file};
@@ -13,7 +13,15 @@ use ots_ops::{Digest, HashOp};
 use ots_outside::{OpenError, Shelf, SlotSource};
 use ots_reader::Fault;
 use ots_tree::Detached;
+use ots_words::HeaderFile;
 use std::alloc::Global;
+
+/// Where reading stopped: a name that gave no input, and why.
+#[derive(Clone, Copy)]
+pub struct Stop<'a> {
+    pub name: &'a str,
+    pub cause: InputError,
+}
 
 /// Why a name gave no input.
 #[derive(Clone, Copy, Debug, PartialEq, Eq)]
@@ -32,6 +40,23 @@ pub enum InputError {
     FileTooLong,
     /// Memory ran out.
     OutOfMemory,
+}
+
+impl InputError {
+    /// The status of a run that ends with it; for want of memory there is none that is told.
+    pub fn status(self) -> Option<Status>
+        ensures { result ≡ status_of self }
+    {
+        Some(match self {
+            InputError::NoFile => Status::NoFile,
+            InputError::ReadFault => Status::ReadFault,
+            InputError::TooBig => Status::TooBig,
+            InputError::BadProof(fault) => Status::BadProof(fault),
+            InputError::BadHeaders(length) => Status::BadHeaders(length),
+            InputError::FileTooLong => Status::FileTooLong,
+            InputError::OutOfMemory => return None,
+        })
+    }
 }
 
 impl From<OpenError> for InputError {
@@ -83,12 +108,22 @@ impl From<HashError> for InputError {
 }
 
 /// The proof that a name's whole input is. All that the shelf tells of names and slots stays.
-pub fn read_proof<S: Shelf>(
+pub fn read_proof<'a, S: Shelf>(
     alloc: Global,
-    name: &str,
+    name: &'a str,
     shelf: &mut S,
-) -> Result<Detached, InputError>
-    ensures { Reads IsFileOf RefusesProof name.now (S.told shelf.old) (S.told shelf.new) (S.faults shelf.old) (S.faults shelf.new) result }
+) -> Result<Detached, Stop<'a>>
+    ensures { ReadsName IsFileOf RefusesProof name.entry.now (S.told shelf.old) (S.told shelf.new) (S.faults shelf.old) (S.faults shelf.new) result }
+{
+    match proof_under(alloc, name, shelf) {
+        Ok(proof) => Ok(proof),
+        Err(cause) => Err(Stop { name, cause }),
+    }
+}
+
+/// The same, without the name.
+fn proof_under<S: Shelf>(alloc: Global, name: &str, shelf: &mut S) -> Result<Detached, InputError>
+    ensures { ReadsUnder IsFileOf RefusesProof name.now (S.told shelf.old) (S.told shelf.new) (S.faults shelf.old) (S.faults shelf.new) result }
 {
     let slot = shelf.open(name)?;
     let read = read_file(alloc, &mut SlotSource::new(shelf, slot));
@@ -97,24 +132,57 @@ pub fn read_proof<S: Shelf>(
 }
 
 /// The header table that a name's whole input is. All that the shelf tells of names and slots stays.
-pub fn read_headers<S: Shelf>(
+pub fn read_headers<'a, S: Shelf>(
     alloc: Global,
-    file: HeaderFile<'_>,
+    file: HeaderFile<'a>,
     shelf: &mut S,
-) -> Result<Headers, InputError>
-    ensures { Reads (IsTableOf file.entry.first) RefusesTable file.entry.name.now
+) -> Result<Headers, Stop<'a>>
+    ensures { ReadsName (IsTableOf file.entry.first) RefusesTable file.entry.name.now
         (S.told shelf.old) (S.told shelf.new) (S.faults shelf.old) (S.faults shelf.new) result }
 {
-    let slot = shelf.open(file.name)?;
-    let read = Headers::read(alloc, file.first, &mut SlotSource::new(shelf, slot));
+    match headers_under(alloc, file.name, file.first, shelf) {
+        Ok(headers) => Ok(headers),
+        Err(cause) => Err(Stop {
+            name: file.name,
+            cause,
+        }),
+    }
+}
+
+/// The same, without the name.
+fn headers_under<S: Shelf>(
+    alloc: Global,
+    name: &str,
+    first: u64,
+    shelf: &mut S,
+) -> Result<Headers, InputError>
+    requires { first ≤ 2 ^ 63 - 1 }
+    ensures { ReadsUnder (IsTableOf first) RefusesTable name.now (S.told shelf.old) (S.told shelf.new) (S.faults shelf.old) (S.faults shelf.new) result }
+{
+    let slot = shelf.open(name)?;
+    let read = Headers::read(alloc, first, &mut SlotSource::new(shelf, slot));
     shelf.close(slot);
     Ok(read?)
 }
 
 /// The digest that a hash makes of a name's whole input. All that the shelf tells of names and slots
 /// stays.
-pub fn hash_target<S: Shelf>(name: &str, hash: HashOp, shelf: &mut S) -> Result<Digest, InputError>
-    ensures { Reads (IsHashOf hash) RefusesTarget name.now (S.told shelf.old) (S.told shelf.new) (S.faults shelf.old) (S.faults shelf.new) result }
+pub fn hash_target<'a, S: Shelf>(
+    name: &'a str,
+    hash: HashOp,
+    shelf: &mut S,
+) -> Result<Digest, Stop<'a>>
+    ensures { ReadsName (IsHashOf hash) RefusesTarget name.entry.now (S.told shelf.old) (S.told shelf.new) (S.faults shelf.old) (S.faults shelf.new) result }
+{
+    match digest_under(name, hash, shelf) {
+        Ok(digest) => Ok(digest),
+        Err(cause) => Err(Stop { name, cause }),
+    }
+}
+
+/// The same, without the name.
+fn digest_under<S: Shelf>(name: &str, hash: HashOp, shelf: &mut S) -> Result<Digest, InputError>
+    ensures { ReadsUnder (IsHashOf hash) RefusesTarget name.now (S.told shelf.old) (S.told shelf.new) (S.faults shelf.old) (S.faults shelf.new) result }
 {
     let slot = shelf.open(name)?;
     let hashed = hash_source(&mut SlotSource::new(shelf, slot), hash, MAX_TARGET_FILE);

@@ -1,20 +1,21 @@
 //! The client `ots`: what its words, the shelf and the sink make it do, proved, so that the
 //! program only makes the real objects and calls it.
+//!
+//! A run has three steps, each in a place of its own: `gather` reads all that the words name,
+//! `decide` says how that ends, and `carry_out` prints and makes what it ends with.
 #![tactic(auto)]
 
-mod answer;
-mod arguments;
-mod command;
-mod commands;
+mod carry_out;
+mod decide;
+mod ending;
+mod gather;
 mod input;
+mod inputs;
 mod output;
-mod refusal;
 mod rewriting;
 mod run;
 mod status;
 mod text;
-mod verifying;
-mod words;
 
 pub use run::run_client;
 pub use status::Status;

@@ -1,20 +1,17 @@
-//! Writing a proof under a name.
-ghost use Rattle.std.specs.Prelude.{◌≡◌, ◌≤◌, ℕ, IsErrOf};
+//! Making the file of a proof.
+ghost use Rattle.std.specs.Prelude.{◌≡◌, ℕ, IsErrOf};
 ghost use Rattle.ots_base.specs.Cause.{HasCauseWhere};
 ghost use Rattle.ots_outside.specs.Shelf.{OnlyWriting};
 ghost use Rattle.ots_detached.specs.File.{file_of};
-ghost use Rattle.ots_cli.specs.Output.{Outputs, not_created};
+ghost use Rattle.ots_cli.specs.CarriedOut.{Outputs, not_created};
 
-use ots_base::MAX_PROOF_FILE;
-use ots_detached::{file_length, write_file};
+use ots_detached::write_file;
 use ots_outside::{CreateError, Shelf, SlotSink};
 use ots_tree::{Detached, WriteFault};
 
-/// Why a proof was not written.
+/// Why a file was not made.
 #[derive(Clone, Copy, Debug, PartialEq, Eq)]
 pub enum OutputError {
-    /// Its file would have more than 4,194,304 bytes. No name was created.
-    TooBig,
     /// The shelf has the name already.
     Exists,
     /// The shelf counted a fault while the name was created or written. Where it was created, it
@@ -38,7 +35,7 @@ impl From<CreateError> for OutputError {
 
 /// Creates a name that holds the file of a proof. All that the shelf tells of other names and of
 /// slots stays.
-pub fn write_proof<S: Shelf>(name: &str, proof: &Detached, shelf: &mut S) -> Result<(), OutputError>
+pub fn make_file<S: Shelf>(name: &str, proof: &Detached, shelf: &mut S) -> Result<(), OutputError>
     ensures names { Outputs name.now (file_of proof.now) (S.told shelf.old).names (S.told shelf.new).names result }
     ensures opened { (S.told shelf.new).opened ≡ (S.told shelf.old).opened }
     ensures short { ¬ IsErrOf result OutputError.OutOfMemory → (S.told shelf.new).short ≡ (S.told shelf.old).short }
@@ -46,9 +43,6 @@ pub fn write_proof<S: Shelf>(name: &str, proof: &Detached, shelf: &mut S) -> Res
     ensures cause { HasCauseWhere (IsErrOf result OutputError.WriteFault) (S.faults shelf.old).writing (S.faults shelf.new).writing }
     ensures counts { OnlyWriting (S.faults shelf.old) (S.faults shelf.new) }
 {
-    if file_length(proof) > MAX_PROOF_FILE as u64 {
-        return Err(OutputError::TooBig);
-    }
     let slot = shelf.create(name)?;
     let written = write_file(proof, &mut SlotSink::new(shelf, slot));
     shelf.close(slot);

@@ -1,22 +1,27 @@
 //! The top call.
-ghost use Rattle.std.specs.Prelude.{◌≡◌, ◌≢◌, ◌≤◌, ℕ, List, Some, map, string_bytes, IsSome};
+ghost use Rattle.std.specs.Prelude.{◌≡◌, ◌≢◌, ◌≤◌, ℕ, List, Some};
 ghost use Rattle.std.specs.declared.option.Option.{Option};
 ghost use Rattle.ots_base.specs.Cause.{Rose};
-ghost use Rattle.ots_cli.specs.Answer.{Answers, ComesTo, Ends, Leaves, Prints, UnlessFailed};
-ghost use Rattle.ots_cli.specs.Ending.{Ending};
+ghost use Rattle.ots_cli.specs.Answer.{Answers, Comes};
+ghost use Rattle.ots_cli.specs.CarriedOut.{Ends, EndsExactly};
+ghost use Rattle.ots_cli.specs.Gathered.{ComesToEnd};
 ghost use Rattle.ots_cli.specs.Opened.{OpensFront, StopsAt, names_read};
-ghost use Rattle.ots_cli.specs.ReadsBack.{ReadsBack, output_of};
+ghost use Rattle.ots_cli.specs.ReadsBack.{Leaves, ReadsBack, output_asked, output_of};
 ghost use Rattle.ots_cli.specs.Taken.{TakesProofs, proofs_read};
-ghost use Rattle.ots_cli.specs.Words.{Command, Verification, asked, verify};
+ghost use Rattle.ots_words.specs.Words.{Command as Asked, Verification, asked, read_as, verify};
 ghost use Rattle.ots_cli.specs.Yes.{HasFiles, IsDoneExactlyWhere, SaysYes};
 ghost use Rattle.ots_bitcoin.specs.HeaderTable.{Table};
 ghost use Rattle.ots_tree.specs.declared.detached.Detached.{Detached};
 ghost use Rattle.ots_outside.specs.Shelf.{Names, NeverFalls};
 
-use crate::answer::{Answer, answer_to};
+use crate::carry_out::carry_out;
+use crate::decide::decide;
+use crate::ending::Ending;
+use crate::gather::gather;
 use crate::status::Status;
 use ots_base::OutOfMemory;
-use ots_outside::{Dialer, Failed, Nonces, Shelf, Sink, write_all};
+use ots_outside::{Dialer, Nonces, Shelf, Sink};
+use ots_words::{Command, WordsError, read_words};
 use std::alloc::Global;
 
 /// Does what the words behind the program's name ask for, prints on the sink, and answers how it
@@ -35,7 +40,6 @@ pub fn run_client<S: Shelf, K: Sink, D: Dialer, N: Nonces>(
     dialer: &mut D,
     nonces: &mut N,
 ) -> Status
-    ensures leaves { Leaves (S.told shelf.old).names (S.told shelf.new).names (Answers (S.told shelf.old).names (asked words.now)) }
     ensures opened { OpensFront (names_read (asked words.now)) (S.told shelf.old).opened (S.told shelf.new).opened }
     ensures short { result ≢ Status.OutOfMemory → (S.told shelf.new).short ≡ (S.told shelf.old).short }
     ensures slots { (k : ℕ) → (S.told shelf.new).slots k ≡ (S.told shelf.old).slots k }
@@ -44,33 +48,56 @@ pub fn run_client<S: Shelf, K: Sink, D: Dialer, N: Nonces>(
     ensures same { K.same out.old out.new }
     ensures dialer { dialer.new ≡ dialer.old }
     ensures nonces { nonces.new ≡ nonces.old }
-    ensures ends { Ends (ComesTo (S.told shelf.old).names (S.told shelf.new).names (Answers (S.told shelf.old).names (asked words.now))
-        (StopsAt (names_read (asked words.now)) (S.told shelf.old).opened (S.told shelf.new).opened (S.faults shelf.old) (S.faults shelf.new)) (Rose (S.faults shelf.old).writing (S.faults shelf.new).writing))
-        (Rose (K.faults out.old) (K.faults out.new)) (K.taken out.old) (K.taken out.new) result }
-    ensures takes { (names : Names) (c : Command) → (S.told shelf.old).names ≡ Some names → asked words.now ≡ Some c
+    ensures ends { Ends (Comes (Answers (S.told shelf.old).names (asked words.now))
+        (StopsAt (names_read (asked words.now)) (S.told shelf.old).opened (S.told shelf.new).opened (S.faults shelf.old) (S.faults shelf.new)))
+        (Rose (S.faults shelf.old).writing (S.faults shelf.new).writing) (Rose (K.faults out.old) (K.faults out.new))
+        (S.told shelf.old).names (S.told shelf.new).names (K.taken out.old) (K.taken out.new) result }
+    ensures exact { (names : Names) → (S.told shelf.old).names ≡ Some names → EndsExactly names (asked words.now) result }
+    ensures leaves { (names : Names) → (S.told shelf.old).names ≡ Some names → Leaves names (output_asked (asked words.now)) (S.told shelf.new).names }
+    ensures takes { (names : Names) (c : Asked) → (S.told shelf.old).names ≡ Some names → asked words.now ≡ Some c
         → TakesProofs names (proofs_read c) result }
     ensures yes { (names : Names) (v : Verification) (bitcoin : Table) (litecoin : Option Table) (proof : Detached) (target : List ℕ)
         → (S.told shelf.old).names ≡ Some names → asked words.now ≡ Some (verify v) → HasFiles names v bitcoin litecoin proof target
         → IsDoneExactlyWhere (SaysYes proof target bitcoin litecoin) result }
-    ensures reads_back { (names : Names) (c : Command) (to : List ℕ) → (S.told shelf.old).names ≡ Some names → asked words.now ≡ Some c
+    ensures reads_back { (names : Names) (c : Asked) (to : List ℕ) → (S.told shelf.old).names ≡ Some names → asked words.now ≡ Some c
         → output_of c ≡ Some to → result ≡ Status.Done → ReadsBack names c to (S.told shelf.new).names }
-    ensures exact { (e : Ending) → IsSome (S.told shelf.old).names
-        → Answers (S.told shelf.old).names (asked words.now) e → UnlessFailed e.status result }
 {
-    match answer_to(alloc, words, shelf) {
-        Ok(answer) => print(&answer, out),
+    match come_to_end(alloc, words, shelf) {
+        Ok(ending) => carry_out(&ending, shelf, out),
         Err(OutOfMemory) => Status::OutOfMemory,
     }
 }
 
-/// Prints the text of an answer. Its status comes only where all of it was taken.
-fn print<K: Sink>(answer: &Answer, out: &mut K) -> Status
-    ensures out_faults { K.faults out.old ≤ K.faults out.new }
-    ensures same { K.same out.old out.new }
-    ensures printed { Prints answer.now.status (string_bytes answer.now.text) (Rose (K.faults out.old) (K.faults out.new)) (K.taken out.old) (K.taken out.new) result }
+/// How these words end: all that they name is read, and it is decided what that comes to.
+fn come_to_end<'a, S: Shelf>(
+    alloc: Global,
+    words: &'a [String],
+    shelf: &mut S,
+) -> Result<Ending<'a>, OutOfMemory>
+    ensures { ComesToEnd (λ told. Answers told (asked words.entry.now)) (names_read (asked words.entry.now))
+        (S.told shelf.old) (S.told shelf.new) (S.faults shelf.old) (S.faults shelf.new) result }
 {
-    match write_all(out, answer.text.as_bytes()) {
-        Ok(()) => answer.status,
-        Err(Failed) => Status::WriteFault,
+    match read_words(alloc, words) {
+        Ok(command) => end_of(alloc, command, shelf),
+        Err(WordsError::Usage) => Ok(Ending::refused("", Status::Usage)),
+        Err(WordsError::OutOfMemory) => Err(OutOfMemory),
+    }
+}
+
+/// How a command ends.
+fn end_of<'a, S: Shelf>(
+    alloc: Global,
+    command: Command<'a>,
+    shelf: &mut S,
+) -> Result<Ending<'a>, OutOfMemory>
+    ensures { ComesToEnd (λ told. Answers told (Some (read_as command.entry))) (names_read (Some (read_as command.entry)))
+        (S.told shelf.old) (S.told shelf.new) (S.faults shelf.old) (S.faults shelf.new) result }
+{
+    match gather(alloc, command, shelf) {
+        Ok(inputs) => decide(alloc, inputs),
+        Err(stop) => match stop.cause.status() {
+            Some(status) => Ok(Ending::refused(stop.name, status)),
+            None => Err(OutOfMemory),
+        },
     }
 }

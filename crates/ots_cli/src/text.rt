@@ -1,173 +1,102 @@
-//! The lines that are printed.
-ghost use Rattle.std.specs.Prelude.{◌≡◌, ◌++◌, string_bytes, IfOk, OnOk};
-ghost use Rattle.std.specs.List.{flat_map};
-ghost use Rattle.hex.specs.Hex.{encode_lower};
+//! The texts that are printed, piece after piece.
+ghost use Rattle.std.specs.Prelude.{◌≡◌, ◌≤◌, ◌++◌, ℕ, List, [], false, MatchResult};
+ghost use Rattle.ots_base.specs.Cause.{Rose};
 ghost use Rattle.ots_eval.specs.declared.verdicts.Verdict.TheVariants.{Yes};
-ghost use Rattle.ots_cli.specs.Text.{hash_words, op_words, attestation_words, item_line, file_line, or_dash, verdict_status, verdict_text, IsInfoText};
+ghost use Rattle.ots_info.specs.Listing.{line};
+ghost use Rattle.ots_outside.specs.Streams.{Takes, TakesFront};
+ghost use Rattle.ots_printer.specs.Printing.{Puts};
+ghost use Rattle.ots_cli.specs.Decided.{IsTextOf};
+ghost use Rattle.ots_cli.specs.Refusal.{refusal_text};
+ghost use Rattle.ots_cli.specs.Text.{verdict_status, verdict_text, yes_words};
+ghost use Rattle.ots_cli.specs.declared.status.Status.TheVariants.{BadProof, Differs};
 
+use crate::ending::Text;
 use crate::status::Status;
-use ots_attest::Attestation;
-use ots_base::OutOfMemory;
 use ots_eval::{Chain, Verdict};
-use ots_ops::{Digest, HashOp, Op};
-use ots_tree::{Detached, Token, TokenAt, listed};
-use std::alloc::Global;
+use ots_info::{put_pair, put_proof};
+use ots_ops::{Digest, HashOp};
+use ots_outside::{Failed, Sink};
+use ots_printer::Printer;
+use ots_reader::Fault;
 
-/// The word for a hash.
-pub fn hash_words(hash: HashOp) -> &'static str
-    ensures { result.now ≡ hash_words hash }
+/// Prints a text of a run that ends with this status, or a front of it where the sink fails.
+pub fn print_text<K: Sink>(text: &Text<'_>, status: &Status, sink: &mut K) -> Result<(), Failed>
+    ensures printed { (bytes : List ℕ) × IsTextOf status.now text.now bytes × MatchResult result (λ _. Takes (K.taken sink.old) (K.taken sink.new) bytes)
+        (λ _. Rose (K.faults sink.old) (K.faults sink.new) × TakesFront (K.taken sink.old) (K.taken sink.new) bytes) }
+    ensures faults { K.faults sink.old ≤ K.faults sink.new }
+    ensures same { K.same sink.old sink.new }
 {
-    match hash {
-        HashOp::Sha1 => "sha1",
-        HashOp::Ripemd160 => "ripemd160",
-        HashOp::Sha256 => "sha256",
+    put_all(text, status, &mut Printer::new(sink))
+}
+
+/// Puts a text on a new printer, and finishes it.
+fn put_all<K: Sink>(
+    text: &Text<'_>,
+    status: &Status,
+    out: &mut Printer<'_, K>,
+) -> Result<(), Failed>
+    requires empty { out.old.held ≡ [] }
+    requires good { out.old.failed ≡ false }
+    ensures loan { out.new.sink.ghost_name ≡ out.old.sink.ghost_name }
+    ensures printed { (bytes : List ℕ) × IsTextOf status.now text.now bytes × MatchResult result (λ _. Takes (K.taken out.old.sink.now) (K.taken out.new.sink.now) bytes)
+        (λ _. Rose (K.faults out.old.sink.now) (K.faults out.new.sink.now) × TakesFront (K.taken out.old.sink.now) (K.taken out.new.sink.now) bytes) }
+    ensures faults { K.faults out.old.sink.now ≤ K.faults out.new.sink.now }
+    ensures same { K.same out.old.sink.now out.new.sink.now }
+{
+    put_text(text, status, out);
+    match out.finish() {
+        Ok(()) => Ok(()),
+        Err(Failed) => Err(Failed),
     }
 }
 
-/// Adds bytes in lower-case hexadecimal.
-pub fn push_hex(text: &mut String, bytes: &[u8]) -> Result<(), OutOfMemory>
-    ensures { OnOk result (string_bytes text.new ≡ string_bytes text.old ++ encode_lower bytes.now) }
+/// Puts a text.
+fn put_text<K: Sink>(text: &Text<'_>, status: &Status, out: &mut Printer<'_, K>)
+    ensures loan { out.new.sink.ghost_name ≡ out.old.sink.ghost_name }
+    ensures put { (bytes : List ℕ) × IsTextOf status.now text.now bytes × Puts K.taken K.faults K.same bytes out.old out.new }
 {
-    let digits = hex::encode(*text.allocator(), bytes)?;
-    text.push_str(digits.as_str())?;
-    Ok(())
-}
-
-/// Adds a line's words for an operation.
-fn push_op(text: &mut String, op: &Op) -> Result<(), OutOfMemory>
-    ensures { OnOk result (string_bytes text.new ≡ string_bytes text.old ++ op_words op.now) }
-{
-    match op {
-        Op::Sha1 => Ok(text.push_str(hash_words(HashOp::Sha1))?),
-        Op::Ripemd160 => Ok(text.push_str(hash_words(HashOp::Ripemd160))?),
-        Op::Sha256 => Ok(text.push_str(hash_words(HashOp::Sha256))?),
-        Op::Append(argument) => push_word_and_hex(text, "append ", argument.bytes()),
-        Op::Prepend(argument) => push_word_and_hex(text, "prepend ", argument.bytes()),
-        Op::Reverse => Ok(text.push_str("reverse")?),
-        Op::Hexlify => Ok(text.push_str("hexlify")?),
+    match text {
+        Text::Proof(proof) => put_proof(proof, out),
+        Text::Verdict(verdict) => put_verdict(*verdict, out),
+        Text::Refusal(name) => put_refusal(name, status, out),
     }
 }
 
-/// Adds a word and bytes in hexadecimal.
-fn push_word_and_hex(text: &mut String, word: &str, bytes: &[u8]) -> Result<(), OutOfMemory>
-    ensures { OnOk result (string_bytes text.new ≡ string_bytes text.old ++ (word.now ++ encode_lower bytes.now)) }
-{
-    text.push_str(word)?;
-    push_hex(text, bytes)
-}
+// ---- verdicts
 
-/// Adds a line's words for an attestation.
-fn push_attestation(text: &mut String, attestation: &Attestation) -> Result<(), OutOfMemory>
-    ensures { OnOk result (string_bytes text.new ≡ string_bytes text.old ++ attestation_words attestation.now) }
-{
-    match attestation {
-        Attestation::Pending(uri) => {
-            text.push_str("pending ")?;
-            push_or_dash(text, uri.text())
-        }
-        Attestation::Bitcoin(height) => Ok(write!(text, "bitcoin {}", *height)?),
-        Attestation::Litecoin(height) => Ok(write!(text, "litecoin {}", *height)?),
-        Attestation::Unknown(other) => {
-            push_word_and_hex(text, "unknown ", &other.kind)?;
-            text.push(' ')?;
-            push_payload(text, other.payload.bytes())
-        }
-    }
-}
-
-/// Adds a payload in hexadecimal, a dash where it is empty.
-fn push_payload(text: &mut String, payload: &[u8]) -> Result<(), OutOfMemory>
-    ensures { OnOk result (string_bytes text.new ≡ string_bytes text.old ++ or_dash (encode_lower payload.now)) }
-{
-    let digits = hex::encode(*text.allocator(), payload)?;
-    push_or_dash(text, digits.as_str())
-}
-
-/// Adds a word, a dash where it is empty.
-fn push_or_dash(text: &mut String, word: &str) -> Result<(), OutOfMemory>
-    ensures { OnOk result (string_bytes text.new ≡ string_bytes text.old ++ or_dash word.now) }
-{
-    if word.is_empty() {
-        text.push('-')?;
-    } else {
-        text.push_str(word)?;
-    }
-    Ok(())
-}
-
-/// Adds the line of an item; a fork has none.
-fn push_item(text: &mut String, at: &TokenAt) -> Result<(), OutOfMemory>
-    ensures { OnOk result (string_bytes text.new ≡ string_bytes text.old ++ item_line at.now) }
-{
-    match &at.token {
-        Token::Fork => Ok(()),
-        Token::Op(op) => {
-            write!(text, "{} ", at.depth)?;
-            push_op(text, op)?;
-            Ok(text.push('\n')?)
-        }
-        Token::Attestation(attestation) => {
-            write!(text, "{} ", at.depth)?;
-            push_attestation(text, attestation)?;
-            Ok(text.push('\n')?)
-        }
-    }
-}
-
-/// Adds the line of the file.
-fn push_file(text: &mut String, hash: HashOp, digest: &Digest) -> Result<(), OutOfMemory>
-    ensures { OnOk result (string_bytes text.new ≡ string_bytes text.old ++ file_line hash digest.now) }
-{
-    text.push_str("file ")?;
-    text.push_str(hash_words(hash))?;
-    text.push(' ')?;
-    push_hex(text, digest.bytes())?;
-    Ok(text.push('\n')?)
-}
-
-/// The text of `info`: the line of the file, then that of each item.
-pub fn info_text(alloc: Global, proof: &Detached) -> Result<String, OutOfMemory>
-    ensures { IfOk result (λ text. IsInfoText proof.now (string_bytes text)) }
-{
-    let mut text = String::new(alloc);
-    push_file(&mut text, proof.hash, &proof.digest)?;
-    let items = listed(alloc, &proof.tree)?;
-    push_items(&mut text, &items)?;
-    Ok(text)
-}
-
-/// Adds the line of each item.
-fn push_items(text: &mut String, items: &[TokenAt]) -> Result<(), OutOfMemory>
-    ensures { OnOk result (string_bytes text.new ≡ string_bytes text.old ++ flat_map item_line items.now) }
-{
-    for item in items {
-        push_item(text, item)?;
-    }
-    Ok(())
-}
-
-/// The line of a verdict.
-pub fn verdict_text(alloc: Global, verdict: Verdict) -> Result<String, OutOfMemory>
-    ensures { IfOk result (λ text. string_bytes text ≡ verdict_text verdict) }
+/// Puts the line of a verdict.
+fn put_verdict<K: Sink>(verdict: Verdict, out: &mut Printer<'_, K>)
+    ensures { Puts K.taken K.faults K.same (verdict_text verdict) out.old out.new }
 {
     match verdict {
         Verdict::Yes {
             chain,
             height,
             time,
-        } => yes_text(alloc, chain, height, time),
-        Verdict::NoDigest => Ok(format!(in alloc; "no digest\n")?),
-        Verdict::NoPath => Ok(format!(in alloc; "no path\n")?),
+        } => put_yes(chain, height, time, out),
+        Verdict::NoDigest => out.word("no digest\n"),
+        Verdict::NoPath => out.word("no path\n"),
     }
 }
 
-/// The line of a yes.
-fn yes_text(alloc: Global, chain: Chain, height: u64, time: u32) -> Result<String, OutOfMemory>
-    ensures { IfOk result (λ text. string_bytes text ≡ verdict_text (Yes chain height time)) }
+/// Puts the line of a yes.
+fn put_yes<K: Sink>(chain: Chain, height: u64, time: u32, out: &mut Printer<'_, K>)
+    ensures { Puts K.taken K.faults K.same (verdict_text (Yes chain height time)) out.old out.new }
+{
+    out.word(yes_words(chain));
+    out.number(height);
+    out.word(" time ");
+    out.number(time as u64);
+    out.word("\n");
+}
+
+/// The words before the height in the line of a yes.
+fn yes_words(chain: Chain) -> &'static str
+    ensures { result.now ≡ yes_words chain }
 {
     match chain {
-        Chain::Bitcoin => Ok(format!(in alloc; "yes block {height} time {time}\n")?),
-        Chain::Litecoin => Ok(format!(in alloc; "yes litecoin block {height} time {time}\n")?),
+        Chain::Bitcoin => "yes block ",
+        Chain::Litecoin => "yes litecoin block ",
     }
 }
 
@@ -179,4 +108,75 @@ pub fn verdict_status(verdict: Verdict) -> Status
         Verdict::Yes { .. } => Status::Done,
         Verdict::NoDigest | Verdict::NoPath => Status::No,
     }
+}
+
+// ---- refusals
+
+/// Puts the line of a refusal over a name, or nothing where the status has none.
+fn put_refusal<K: Sink>(name: &str, status: &Status, out: &mut Printer<'_, K>)
+    ensures { Puts K.taken K.faults K.same (refusal_text name.now status.now) out.old out.new }
+{
+    match status {
+        Status::Usage => out.word(
+            "usage: ots info, canon, merge, prune, verify, stamp, upgrade, sample\n",
+        ),
+        Status::BadProof(fault) => put_fault(name, *fault, out),
+        Status::NoFile => put_line("no file ", name, out),
+        Status::Exists => put_line("exists ", name, out),
+        Status::ReadFault => put_line("read fault ", name, out),
+        Status::WriteFault => put_line("write fault ", name, out),
+        Status::TooBig => put_line("too big ", name, out),
+        Status::BadHeaders(length) => {
+            out.word("bad headers ");
+            out.number(*length);
+            out.word("\n");
+        }
+        Status::FileTooLong => put_line("file too long ", name, out),
+        Status::Differs {
+            first_hash,
+            first_digest,
+            second_hash,
+            second_digest,
+        } => put_pairs(*first_hash, first_digest, *second_hash, second_digest, out),
+        Status::Done | Status::No | Status::OutOfMemory => {}
+    }
+}
+
+/// Puts a line of a word and a name.
+fn put_line<K: Sink>(word: &str, name: &str, out: &mut Printer<'_, K>)
+    ensures { Puts K.taken K.faults K.same (line (word.now ++ name.now)) out.old out.new }
+{
+    out.word(word);
+    out.word(name);
+    out.word("\n");
+}
+
+/// Puts the line for an input that is no proof file.
+fn put_fault<K: Sink>(name: &str, fault: Fault, out: &mut Printer<'_, K>)
+    ensures { Puts K.taken K.faults K.same (refusal_text name.now (BadProof fault)) out.old out.new }
+{
+    out.word("bad proof ");
+    out.word(name);
+    out.word(" at ");
+    out.number(fault.place);
+    out.word(": ");
+    out.word(fault.reason.words());
+    out.word("\n");
+}
+
+/// Puts the line for two proofs that can't be joined.
+fn put_pairs<K: Sink>(
+    first_hash: HashOp,
+    first_digest: &Digest,
+    second_hash: HashOp,
+    second_digest: &Digest,
+    out: &mut Printer<'_, K>,
+)
+    ensures { Puts K.taken K.faults K.same (refusal_text [] (Differs first_hash first_digest.now second_hash second_digest.now)) out.old out.new }
+{
+    out.word("differs ");
+    put_pair(first_hash, first_digest, out);
+    out.word(" ");
+    put_pair(second_hash, second_digest, out);
+    out.word("\n");
 }

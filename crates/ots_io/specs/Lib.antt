@@ -1,9 +1,12 @@
+pub mod RealForms
 pub use Rattle.ots_base.specs.Cause
 pub use Rattle.ots_base.specs.Memory
 pub use Rattle.ots_base.specs.Table
 pub use Rattle.ots_base.specs.Told
 pub use Rattle.ots_memory.specs.Calls
+pub use Rattle.ots_memory.specs.Conversations
 pub use Rattle.ots_memory.specs.Cut
+pub use Rattle.ots_memory.specs.Entries
 pub use Rattle.ots_memory.specs.ListAccepterTold
 pub use Rattle.ots_memory.specs.MapShelf
 pub use Rattle.ots_memory.specs.MapShelfTold
@@ -25,6 +28,7 @@ pub use Rattle.ots_real.specs.Counting
 pub use Rattle.ots_real.specs.DirShelf
 pub use Rattle.ots_real.specs.OpenFile
 pub use Rattle.ots_real.specs.RngNonces
+pub use Rattle.ots_real.specs.SlotTable
 pub use Rattle.ots_real.specs.Sockets
 pub use Rattle.ots_real.specs.StdStreams
 pub use Rattle.ots_real.specs.TcpDialer

@@ -9,7 +9,10 @@
 //! | `ots_real` | files, sockets, the system's clock and random source |
 #![tactic(auto)]
 
-pub use ots_base::OutOfMemory;
+pub use ots_base::{
+    MAX_ARGUMENT, MAX_HEADER_FILE, MAX_HEXLIFIED, MAX_MESSAGE, MAX_OPERATIONS, MAX_PAYLOAD,
+    MAX_PROOF_FILE, MAX_TARGET_FILE, MAX_URI, OutOfMemory,
+};
 pub use ots_memory::{
     BytesLink, BytesSink, BytesSource, DialerRoom, ListAccepter, ListNonces, MapShelf, PutError,
     ScriptDialer, SentTo, ShelfRoom,

@@ -3,3 +3,4 @@ pub mod Inputs
 pub mod KeptRoom
 pub mod Links
 pub mod Names
+pub mod Buffers

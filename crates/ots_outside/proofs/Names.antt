@@ -29,7 +29,7 @@ get-insert_same : (m : Names) (name bytes : List ℕ) → map.get (map.insert m 
 get-insert_same m name bytes =
     map.get-insert nat_list_cmp_total m name bytes name ∙ ap (λ b. cond b (Some bytes) (map.get m name)) (is_name-self name)
 
-get-insert_other : (m : Names) (name bytes other : List ℕ) → other ≢ name → map.get (map.insert m name bytes) other ≡ map.get m other
+pub get-insert_other : (m : Names) (name bytes other : List ℕ) → other ≢ name → map.get (map.insert m name bytes) other ≡ map.get m other
 get-insert_other m name bytes other differs =
     map.get-insert nat_list_cmp_total m name bytes other ∙ ap (λ b. cond b (Some bytes) (map.get m other)) (is_name-other name other differs)
 

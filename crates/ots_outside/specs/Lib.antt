@@ -1,4 +1,5 @@
 pub mod Accepter
+pub mod Buffered
 pub mod Dialer
 pub mod Input
 pub mod KeptBytes

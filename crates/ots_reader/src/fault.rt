@@ -1,4 +1,7 @@
 //! What is wrong with bytes that are no proof, and where.
+ghost use Rattle.std.specs.Prelude.{◌≡◌};
+ghost use Rattle.ots_reader.specs.Printed.{printed};
+
 use ots_base::OutOfMemory;
 use std::alloc::AllocFailed;
 use std::fmt;
@@ -46,6 +49,35 @@ pub enum Reason {
     TrailingBytes,
 }
 
+impl Reason {
+    /// The words that it prints as.
+    pub fn words(self) -> &'static str
+        ensures { result.now ≡ printed self }
+    {
+        match self {
+            Reason::Truncated => "truncated",
+            Reason::UnknownOp => "unknown operation",
+            Reason::Keccak => "keccak",
+            Reason::ForkFork => "fork after fork",
+            Reason::NonMinimal => "non-minimal number",
+            Reason::VaruintTooLarge => "number too large",
+            Reason::ArgEmpty => "empty argument",
+            Reason::ArgTooLong => "argument too long",
+            Reason::PayloadTooLong => "payload too long",
+            Reason::BadUri => "bad uri",
+            Reason::PayloadRest => "payload rest",
+            Reason::PayloadShort => "payload short",
+            Reason::PayloadVaruint => "payload number",
+            Reason::ResultTooLong => "result too long",
+            Reason::TooDeep => "too deep",
+            Reason::BadMagic => "bad magic",
+            Reason::BadVersion => "bad version",
+            Reason::BadHashOp => "bad hash operation",
+            Reason::TrailingBytes => "trailing bytes",
+        }
+    }
+}
+
 impl fmt::Display for Reason {
     ghost use Rattle.std.specs.Prelude.{Some};
     ghost use Rattle.ots_reader.specs.Printed.{printed};
@@ -53,27 +85,7 @@ impl fmt::Display for Reason {
     ghost output = { λ reason. Some (printed reason) };
 
     fn fmt<W: fmt::Write>(&self, f: &mut fmt::Formatter<W>) -> fmt::Result {
-        match self {
-            Reason::Truncated => f.write_str("truncated"),
-            Reason::UnknownOp => f.write_str("unknown operation"),
-            Reason::Keccak => f.write_str("keccak"),
-            Reason::ForkFork => f.write_str("fork after fork"),
-            Reason::NonMinimal => f.write_str("non-minimal number"),
-            Reason::VaruintTooLarge => f.write_str("number too large"),
-            Reason::ArgEmpty => f.write_str("empty argument"),
-            Reason::ArgTooLong => f.write_str("argument too long"),
-            Reason::PayloadTooLong => f.write_str("payload too long"),
-            Reason::BadUri => f.write_str("bad uri"),
-            Reason::PayloadRest => f.write_str("payload rest"),
-            Reason::PayloadShort => f.write_str("payload short"),
-            Reason::PayloadVaruint => f.write_str("payload number"),
-            Reason::ResultTooLong => f.write_str("result too long"),
-            Reason::TooDeep => f.write_str("too deep"),
-            Reason::BadMagic => f.write_str("bad magic"),
-            Reason::BadVersion => f.write_str("bad version"),
-            Reason::BadHashOp => f.write_str("bad hash operation"),
-            Reason::TrailingBytes => f.write_str("trailing bytes"),
-        }
+        f.write_str(self.words())
     }
 }
 

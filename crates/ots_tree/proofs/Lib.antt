@@ -1,8 +1,11 @@
-pub mod Beside
 pub mod Closing
 pub mod DepthWalk
 pub mod Determined
 pub mod Gathered
+pub mod Items
 pub mod ListedPaths
+pub mod MadePaths
+pub mod Numbered
 pub mod PathLengths
+pub mod PendingPaths
 pub mod Untruncated

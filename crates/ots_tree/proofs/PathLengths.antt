@@ -15,7 +15,7 @@ use Rattle.ots_tree.specs.Listed.{listed, listed_item}
 use Rattle.ots_tree.specs.Sound.{IsSoundPath, IsSound, IsSoundPre}
 use Rattle.ots_tree.specs.Kept.{beside, IsKept}
 use Rattle.ots_tree.specs.Passed.{passed, all_passed}
-use Rattle.ots_tree.proofs.Beside.{kept_beside, beside_at, length-beside}
+use Rattle.ots_tree.proofs.Numbered.{kept_beside, beside_at, length-beside}
 use Rattle.ots_tree.proofs.Closing.{all-append, all-left, all-right, down, up, step_leads, node_path}
 use Rattle.ots_tree.proofs.Determined.{same_pre}
 

@@ -4,5 +4,8 @@ pub mod Front
 pub mod Listed
 pub mod Kept
 pub mod OpenDepths
-pub mod Buffered
 pub mod Passed
+pub mod Made
+pub mod LastItem
+pub mod Pending
+pub mod PendingWalk

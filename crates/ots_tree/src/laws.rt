@@ -1,10 +1,13 @@
 //! Laws of trees.
-ghost use Rattle.std.specs.Prelude.{◌≡◌, ◌≢◌, ℕ, ◌≤◌, List, [], ◌++◌, ◌↔◌, length, map, filter};
+ghost use Rattle.std.specs.Prelude.{◌≡◌, ◌≢◌, ℕ, ◌≤◌, List, [], ◌∷◌, ◌++◌, ◌↔◌, length, map, filter};
 ghost use Rattle.std.specs.List.{AllByRecursion};
+ghost use Rattle.ots_attest.specs.declared.attestation.Attestation.{Attestation};
+ghost use Rattle.ots_ops.specs.declared.op.Op.{Op};
 ghost use Rattle.ots_tree.specs.Wire.{Node, pre, bytes, spell, paths, IsToken};
 ghost use Rattle.ots_tree.specs.declared.token.Token.{Token};
 ghost use Rattle.ots_tree.specs.Front.{opened, start, IsClosed};
-ghost use Rattle.ots_tree.specs.Sound.{IsSoundPre};
+ghost use Rattle.ots_tree.specs.Sound.{IsSoundPath, IsSoundPre};
+ghost use Rattle.ots_tree.specs.Made.{chain, lone, joined, behind, IsUnder, IsBeside, IsSoundBehind};
 ghost use Rattle.ots_tree.specs.Listed.{listed, token_of, is_attestation, end_below};
 ghost use Rattle.ots_ops.specs.HashOp.{digest_length};
 
@@ -48,4 +51,23 @@ pub fn one_spelling()
 pub fn limits_of_detached(proof: &Detached)
     ensures digest { length proof.now.digest ≡ digest_length proof.now.hash }
     ensures sound { IsSoundPre (length proof.now.digest) 0 proof.now.tree }
+{}
+
+/// The paths of trees that are made of others. A tree of one path has this path. In a chain the
+/// operations of the chain stand before those of each path. A node with the items of two has the paths
+/// of the first, and then those of the second.
+pub fn paths_of_made_trees()
+    ensures lone { (ops : List Op) (a : Attestation) → paths (lone ops a) ≡ record { ops = ops; end = a } ∷ [] }
+    ensures chain { (ops : List Op) (t : Node) → paths (chain ops t) ≡ map (behind ops) (paths t) }
+    ensures joined { (t u : Node) → paths (joined t u) ≡ paths t ++ paths u }
+{}
+
+/// When trees that are made of others are sound: a tree of one path where this path is; a chain where
+/// its operations have results and the tree behind them is sound on the last of these; and a node with
+/// the items of two where both are sound.
+pub fn sound_made_trees()
+    ensures lone { (n k : ℕ) (ops : List Op) (a : Attestation) → IsSoundPre n k (pre (lone ops a)) ↔ IsSoundPath n k (record { ops = ops; end = a }) }
+    ensures under { (n k : ℕ) (ops : List Op) (below made : List Token) → IsUnder ops below made → IsSoundPre n k made ↔ IsSoundBehind ops n k below }
+    ensures beside { (n k : ℕ) (first second made : List Token) → IsBeside first second made
+        → IsSoundPre n k made ↔ (IsSoundPre n k first × IsSoundPre n k second) }
 {}

@@ -6,6 +6,8 @@ mod detached;
 mod laws;
 mod length;
 mod listing;
+mod making;
+mod pending;
 mod shape;
 mod sound;
 mod spelling;
@@ -14,12 +16,15 @@ mod tree;
 
 pub use detached::Detached;
 pub use laws::{
-    fronts, limits_of_detached, one_listing, one_spelling, one_token, one_tree, some_path,
+    fronts, limits_of_detached, one_listing, one_spelling, one_token, one_tree,
+    paths_of_made_trees, some_path, sound_made_trees,
 };
 pub use length::spelled_length;
 pub use listing::listed;
+pub use making::{single, under};
+pub use pending::{PendingAt, pending_messages};
 pub use shape::Shape;
 pub use sound::is_sound;
 pub use spelling::{WriteFault, spell_to};
 pub use token::{Token, TokenAt, limits_of_token};
-pub use tree::{Tree, from_tokens};
+pub use tree::{Tree, beside, from_tokens};

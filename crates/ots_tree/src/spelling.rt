@@ -3,7 +3,7 @@ ghost use Rattle.std.specs.Prelude.{◌≡◌, ◌≤◌, ◌<◌, ◌+◌, ◌+
 ghost use Rattle.ots_base.specs.Cause.{HasCause};
 ghost use Rattle.ots_outside.specs.Streams.{Takes, TakesFront};
 ghost use Rattle.ots_tree.specs.Wire.{spell, spelled};
-ghost use Rattle.ots_tree.specs.Buffered.{Buffered};
+ghost use Rattle.ots_outside.specs.Buffered.{Buffered};
 
 use crate::token::Token;
 use crate::tree::Tree;

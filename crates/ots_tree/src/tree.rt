@@ -1,8 +1,11 @@
 //! A tree, kept as its tokens.
-ghost use Rattle.std.specs.Prelude.{◌≡◌, IfOk, [], reverse};
+ghost use Rattle.std.specs.Prelude.{◌≡◌, ◌<◌, IfOk, [], length, reverse, slice_index};
 ghost use Rattle.std.specs.List.{AllByRecursion};
 ghost use Rattle.ots_tree.specs.Wire.{IsPre, IsToken};
-ghost use Rattle.ots_tree.specs.Kept.{IsKept};
+ghost use Rattle.ots_tree.specs.Kept.{IsKept, beside};
+ghost use Rattle.ots_tree.specs.LastItem.{IsLastZero};
+ghost use Rattle.ots_tree.specs.Listed.{IsListed};
+ghost use Rattle.ots_tree.specs.Made.{IsBeside};
 ghost use Rattle.ots_tree.specs.OpenDepths.{after};
 
 use crate::token::{Token, limits_of_token};
@@ -55,11 +58,24 @@ impl Tree {
         self.tokens.as_slice()
     }
 
-    /// The number of operations before each token.
-    pub(crate) fn depths(&self) -> &[u32]
-        ensures { IsKept self.now result.now }
+    /// Beside each token the number of operations before it on its path. A number over 2^32 - 1 is
+    /// given as 2^32 - 1. So, side by side, `tokens` and these are what `listed` copies. It takes no
+    /// memory.
+    pub fn depths(&self) -> &[u32]
+        ensures kept { IsKept self.now result.now }
+        ensures listed { IsListed self.now (beside self.now result.now) }
+        ensures length { length result.now ≡ length self.now }
     {
         self.depths.as_slice()
+    }
+
+    /// The tokens, which the tree gives up.
+    pub(crate) fn into_tokens(self) -> Vec<Token>
+        ensures tokens { result.items ≡ self }
+        ensures pre { IsPre self }
+    {
+        let Tree { tokens, depths: _ } = self;
+        tokens
     }
 
     /// An equal tree, in memory of this one's allocator.
@@ -70,6 +86,44 @@ impl Tree {
         let depths = self.depths.clone()?;
         Ok(Tree { tokens, depths })
     }
+}
+
+/// The node with the items of the first tree and then those of the second. So it has the paths of
+/// the first, and then those of the second.
+///
+/// The tokens of both are moved and none of them is copied, into memory of the first one's allocator.
+/// It takes time for the last item of the first tree and for the second, and not for the other items
+/// of the first, as long as its memory need not grow.
+pub fn beside(first: Tree, second: Tree) -> Result<Tree, OutOfMemory>
+    ensures { IfOk result (IsBeside first second) }
+{
+    let Tree {
+        mut tokens,
+        mut depths,
+    } = first;
+    let Tree {
+        tokens: mut more_tokens,
+        depths: mut more_depths,
+    } = second;
+    let place = last_item(&depths);
+    tokens.insert(place, Token::Fork)?;
+    depths.insert(place, 0)?;
+    tokens.append(&mut more_tokens)?;
+    depths.append(&mut more_depths)?;
+    Ok(Tree { tokens, depths })
+}
+
+/// Where the last item of the root begins: at the last token that has no operation before it.
+fn last_item(depths: &[u32]) -> usize
+    requires some { 0 < length depths.now }
+    requires first { slice_index depths.now 0 ≡ 0 }
+    ensures { IsLastZero depths.now result }
+{
+    let mut place = depths.len() - 1;
+    while depths[place] != 0 {
+        place -= 1;
+    }
+    place
 }
 
 /// Equal tokens in the same order.

@@ -10,20 +10,21 @@ use std::process::Abort;
 use std::test::Fail;
 
 /// A Bitcoin attestation of the height 0.
-const BITCOIN_0: &[u8] = b"\x00\x05\x88\x96\x0d\x73\xd7\x19\x01\x01\x00";
+pub(crate) const BITCOIN_0: &[u8] = b"\x00\x05\x88\x96\x0d\x73\xd7\x19\x01\x01\x00";
 
 /// One of the height 7.
-const BITCOIN_7: &[u8] = b"\x00\x05\x88\x96\x0d\x73\xd7\x19\x01\x01\x07";
+pub(crate) const BITCOIN_7: &[u8] = b"\x00\x05\x88\x96\x0d\x73\xd7\x19\x01\x01\x07";
 
 /// A pending attestation of http://127.0.0.1:14788.
-const PENDING: &[u8] = b"\x00\x83\xdf\xe3\x0d\x2e\xf9\x0c\x8e\x17\x16http://127.0.0.1:14788";
+pub(crate) const PENDING: &[u8] =
+    b"\x00\x83\xdf\xe3\x0d\x2e\xf9\x0c\x8e\x17\x16http://127.0.0.1:14788";
 
-fn pending(alloc: Global) -> Result<Attestation, Fail> {
+pub(crate) fn pending(alloc: Global) -> Result<Attestation, Fail> {
     Ok(Attestation::Pending(Uri::new(alloc, "http://127.0.0.1:14788")?))
 }
 
 /// An append of so many bytes 5, of which there are at most 8192.
-fn append(alloc: Global, count: usize) -> Result<Op, Fail>
+pub(crate) fn append(alloc: Global, count: usize) -> Result<Op, Fail>
     requires { count ≤ 8192 }
 {
     let bytes = [5; 8192];
@@ -56,7 +57,7 @@ fn spelled(alloc: Global, tree: &Tree) -> Result<BytesSink, Fail> {
 }
 
 /// The tree and its copy are spelled in these bytes, and its tokens have these depths.
-fn expect(
+pub(crate) fn expect(
     rt: &impl Abort,
     alloc: Global,
     tree: &Tree,
@@ -66,6 +67,7 @@ fn expect(
     assert_eq!(rt; spelled(alloc, tree)?.bytes(), bytes);
     assert_eq!(rt; spelled(alloc, &tree.copy()?)?.bytes(), bytes);
     assert_eq!(rt; spelled_length(tree), bytes.len() as u64);
+    assert_eq!(rt; tree.depths(), depths);
     let listing = listed(alloc, tree)?;
     assert_eq!(rt; listing.len(), depths.len());
     for (at, depth) in listing.iter().zip(depths) {
@@ -74,7 +76,7 @@ fn expect(
     Ok(())
 }
 
-fn joined(alloc: Global, parts: &[&[u8]]) -> Result<Vec<u8>, Fail> {
+pub(crate) fn joined(alloc: Global, parts: &[&[u8]]) -> Result<Vec<u8>, Fail> {
     let mut bytes = Vec::new(alloc);
     for part in parts {
         bytes.extend_from_slice(part)?;

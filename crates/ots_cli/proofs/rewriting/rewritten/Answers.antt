@@ -1,4 +1,4 @@
-use Rattle.ots_cli.proofs.Endings.{rewritten_sound}
+use Rattle.ots_cli.proofs.Rewritten.{rewritten_sound}
 use Rattle.ots_cli.proofs.rewriting.rewritten.Goals as goal
 
 pub invariant_of-result : goal.invariant_of-result

@@ -1,4 +1,4 @@
-use Rattle.ots_tree.proofs.Beside.{node_tokens}
+use Rattle.ots_tree.proofs.Numbered.{node_tokens}
 use Rattle.ots_tree.proofs.ListedPaths.{node_ends}
 use Rattle.ots_tree.proofs.laws.one_listing.Goals as goal
 

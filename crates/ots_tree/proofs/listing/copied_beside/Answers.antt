@@ -1,7 +1,7 @@
 use Rattle.std.proofs.Common.{arith, sym, ◌∙◌}
 use Rattle.std.proofs.lemmas.List.{take_all}
 use Rattle.ots_tree.specs.Kept.{beside}
-use Rattle.ots_tree.proofs.Beside.{kept_length, beside_more, length-beside}
+use Rattle.ots_tree.proofs.Numbered.{kept_length, beside_more, length-beside}
 use Rattle.ots_tree.proofs.listing.copied_beside.Goals as goal
 
 pub bounds-depths-at : goal.bounds-depths-at

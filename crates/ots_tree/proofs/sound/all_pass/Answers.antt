@@ -1,5 +1,5 @@
 use Rattle.std.proofs.Common.{arith, refl}
-use Rattle.ots_tree.proofs.Beside.{kept_length}
+use Rattle.ots_tree.proofs.Numbered.{kept_length}
 use Rattle.ots_tree.proofs.PathLengths.{walk_stops, walk_goes, walk_ends}
 use Rattle.ots_tree.proofs.sound.all_pass.Goals as goal
 

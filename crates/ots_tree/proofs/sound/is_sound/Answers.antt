@@ -9,5 +9,5 @@ pub returns : goal.returns
 returns c =
     let n = c.args.shape.length in
     let found = c.all_pass.ensures in
-    let law = passes_where_sound c.args.tree.now _ c.depths.result.now c.args.shape.depth n (replicate 256 n) c.tokens.ensures.tokens c.depths.ensures c.if-shape-gt-MAX_OPERATIONS.false refl refl in
+    let law = passes_where_sound c.args.tree.now _ c.depths.result.now c.args.shape.depth n (replicate 256 n) c.tokens.ensures.tokens c.depths.ensures.kept c.if-shape-gt-MAX_OPERATIONS.false refl refl in
     (λ e. law.0 (found.0 e), λ s. found.1 (law.1 s))

@@ -1,6 +1,6 @@
 use Rattle.std.proofs.Common.{◌≤◌, length, take}
 use Rattle.ots_tree.specs.Wire.{spelled}
-use Rattle.ots_tree.specs.Buffered.{Buffered}
+use Rattle.ots_outside.specs.Buffered.{Buffered}
 use Rattle.ots_tree.proofs.spelling.spell_tokens.Given as goal
 
 -- The tokens up to here are spelled in what the sink has taken and the filled part holds.

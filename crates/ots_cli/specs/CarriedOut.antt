@@ -1,0 +1,100 @@
+-- What carrying out acts, one after the other, does to the names that a shelf tells and to what a sink has taken.
+use Rattle.std.specs.Prelude.{◌≡◌, ◌≢◌, ◌≤◌, ◌⊎◌, ℕ, List, [], ◌∷◌, take, Option, Some, None, is_some, Result, Ok, Err, if◌then◌else◌}
+use Rattle.std.specs.FinMap as map
+use Rattle.ots_base.specs.Cause.{Rose}
+use Rattle.ots_outside.specs.Shelf.{Names, OnlyWriting, ShelfFaults, ShelfTold}
+use Rattle.ots_outside.specs.Streams.{Takes, TakesFront}
+use Rattle.ots_outside.specs.Written.{with_name}
+use Rattle.ots_outside.specs.declared.shelf.CreateError.{CreateError}
+use Rattle.ots_outside.specs.declared.shelf.CreateError.TheVariants as creating
+use Rattle.ots_cli.specs.declared.output.OutputError.{OutputError}
+use Rattle.ots_cli.specs.declared.output.OutputError.TheVariants as output
+use Rattle.ots_cli.specs.declared.status.Status.{Status}
+use Rattle.ots_cli.specs.declared.status.Status.TheVariants.{Exists, OutOfMemory, WriteFault}
+use Rattle.ots_cli.specs.declared.ending.Ending.{Ending as Decided}
+use Rattle.ots_words.specs.Words.{Command}
+use Rattle.ots_cli.specs.Answer.{Answers, UnlessFailed}
+use Rattle.ots_cli.specs.Decided.{IsEndingOf}
+use Rattle.ots_cli.specs.Ending.{Act, Ending, prints, makes}
+use Rattle.ots_cli.specs.Found.{IsThere, IsUnder}
+use Rattle.ots_cli.specs.Refusal.{refusal_text}
+
+-- A text is the last thing that is printed: the sink takes it whole and the run ends with this status; or the sink fails,
+-- has taken a front of it, and that is a write fault.
+abbrev pub PrintsLast : Type 0 → Status → List ℕ → Option (List ℕ) → Option (List ℕ) → Status → Type 0
+PrintsLast printing status text taken now r =
+    (Takes taken now text × (r ≡ status)) ⊎ (printing × TakesFront taken now text × (r ≡ WriteFault))
+
+-- The acts are carried out in order, up to the first that can't be, over the names `old` and a sink that has taken `taken`.
+-- `writing` and `printing` say that the shelf counted a fault of creating or writing, and the sink one.
+abbrev pub CarriesOut : Type 0 → Type 0 → Status → List Act → Option Names → Option Names → Option (List ℕ) → Option (List ℕ) → Status → Type 0
+-- all are carried out
+CarriesOut writing printing status [] old new taken now r = (new ≡ old) × (now ≡ taken) × (r ≡ status)
+-- a text is printed and it goes on; or the sink fails
+CarriesOut writing printing status (prints text ∷ acts) old new taken now r =
+    ((mid : Option (List ℕ)) × Takes taken mid text × CarriesOut writing printing status acts old new mid now r)
+    ⊎ ((new ≡ old) × printing × TakesFront taken now text × (r ≡ WriteFault))
+CarriesOut writing printing status (makes name bytes ∷ acts) old new taken now r =
+    -- a file is made under a name that was not there, and it goes on
+    (IsUnder old name None × CarriesOut writing printing status acts (with_name name bytes old) new taken now r)
+    -- the name is there, which is told
+    ⊎ (IsThere old name × (new ≡ old) × PrintsLast printing Exists (refusal_text name Exists) taken now r)
+    -- the shelf fails, which is told: the file was not created, or holds a front of its bytes
+    ⊎ (writing × IsUnder old name None × ((new ≡ old) ⊎ ((n : ℕ) × (new ≡ with_name name (take n bytes) old)))
+    × PrintsLast printing WriteFault (refusal_text name WriteFault) taken now r)
+    -- memory runs out, and nothing is told
+    ⊎ ((new ≡ old) × (now ≡ taken) × (r ≡ OutOfMemory))
+
+-- How a run ends: one of the endings that it may come to is carried out; or memory runs out before, and nothing is done.
+pub data Ends (comes : Ending → Type 0) (writing printing : Type 0) (old new : Option Names) (taken now : Option (List ℕ)) (r : Status) : Type 0 where
+  carried_out : (e : Ending) → comes e → CarriesOut writing printing e.status e.acts old new taken now r → Ends comes writing printing old new taken now r
+  no_memory : r ≡ OutOfMemory → new ≡ old → now ≡ taken → Ends comes writing printing old new taken now r
+
+-- The status of a run that ends so where nothing fails: a file that is to be made under a name that is there is refused.
+abbrev pub status_over : Names → Status → List Act → Status
+status_over names status [] = status
+status_over names status (prints text ∷ acts) = status_over names status acts
+status_over names status (makes name bytes ∷ acts) =
+    if is_some (map.get names name) then Exists else status_over (map.insert names name bytes) status acts
+
+-- Where nothing fails, the status is the one that the answer to this command has over these names.
+abbrev pub EndsExactly : Names → Option Command → Status → Type 0
+EndsExactly names c r = (e : Ending) → Answers (Some names) c e → UnlessFailed (status_over names e.status e.acts) r
+
+-- ---- making one file
+
+abbrev pub not_created : CreateError → OutputError
+not_created creating.Exists = output.Exists
+not_created creating.Failed = output.WriteFault
+not_created creating.OutOfMemory = output.OutOfMemory
+
+-- Where a fault came, the name was not created, or holds a front of the file.
+abbrev pub Outputs : List ℕ → List ℕ → Option Names → Option Names → Result (Unit {0}) OutputError → Type 0
+Outputs name file old new (Ok done) = IsUnder old name None × (new ≡ with_name name file old)
+Outputs name file old new (Err output.Exists) = IsThere old name × (new ≡ old)
+Outputs name file old new (Err output.WriteFault) =
+    IsUnder old name None × ((new ≡ old) ⊎ ((n : ℕ) × (new ≡ with_name name (take n file) old)))
+Outputs name file old new (Err output.OutOfMemory) = new ≡ old
+
+-- A file was made under a name, which ends a run with the status `done`; or it is told why not. All that is told of the
+-- shelf but its names stays.
+pub record Makes (done : Status) (name bytes : List ℕ) (old new : ShelfTold) (before now : ShelfFaults) (printing : Type 0) (taken taken_now : Option (List ℕ))
+    (r : Status) : Type 0 where
+  pub out : CarriesOut (Rose before.writing now.writing) printing done (makes name bytes ∷ []) old.names new.names taken taken_now r
+  pub opened : new.opened ≡ old.opened
+  pub slots : (k : ℕ) → new.slots k ≡ old.slots k
+  pub short : r ≢ OutOfMemory → new.short ≡ old.short
+  pub counts : OnlyWriting before now
+  pub later : before.writing ≤ now.writing
+
+-- An ending was carried out: it is of these acts, and all that is told of the shelf but its names stays.
+pub record CarriesOutEnding (d : Decided) (old new : ShelfTold) (before now : ShelfFaults) (printing : Type 0) (taken taken_now : Option (List ℕ))
+    (r : Status) : Type 0 where
+  pub ending : Ending
+  pub is : IsEndingOf d ending
+  pub out : CarriesOut (Rose before.writing now.writing) printing ending.status ending.acts old.names new.names taken taken_now r
+  pub opened : new.opened ≡ old.opened
+  pub slots : (k : ℕ) → new.slots k ≡ old.slots k
+  pub short : r ≢ OutOfMemory → new.short ≡ old.short
+  pub counts : OnlyWriting before now
+  pub later : before.writing ≤ now.writing

@@ -1,0 +1,91 @@
+//! The first step of a run: all that a command reads, in order.
+ghost use Rattle.std.specs.Prelude.{Some};
+ghost use Rattle.std.specs.Option.{option_map};
+ghost use Rattle.ots_cli.specs.Answer.{Answers, Decides, HasPerhapsTable, PrintsVerdict, RefusesPerhapsTable, Verifies};
+ghost use Rattle.ots_cli.specs.Ending.{Ending};
+ghost use Rattle.ots_cli.specs.Gathered.{Reads};
+ghost use Rattle.ots_cli.specs.Opened.{names_of, names_read};
+ghost use Rattle.ots_words.specs.Words.{read_as, read_header_file, read_verification, verify};
+
+use crate::input::{Stop, hash_target, read_headers, read_proof};
+use crate::inputs::{Evidence, Inputs};
+use crate::rewriting::Rewriting;
+use ots_bitcoin::Headers;
+use ots_outside::Shelf;
+use ots_words::{Command, HeaderFile, Verification};
+use std::alloc::Global;
+
+/// All that a command reads, in order, or the first name that gave no input.
+pub fn gather<'a, S: Shelf>(
+    alloc: Global,
+    command: Command<'a>,
+    shelf: &mut S,
+) -> Result<Inputs<'a>, Stop<'a>>
+    ensures { Reads (names_read (Some (read_as command.entry))) (λ told inputs. (e : Ending) → Decides inputs e → Answers told (Some (read_as command.entry)) e)
+        (λ told. Answers told (Some (read_as command.entry))) (S.told shelf.old) (S.told shelf.new) (S.faults shelf.old) (S.faults shelf.new) result }
+{
+    match command {
+        Command::Info(name) => {
+            let proof = read_proof(alloc, name, shelf)?;
+            Ok(Inputs::Info(proof))
+        }
+        Command::Canon(from, to) => {
+            let proof = read_proof(alloc, from, shelf)?;
+            Ok(Inputs::Rewrite(Rewriting::Canon, proof, to))
+        }
+        Command::Merge(first, second, to) => {
+            let first = read_proof(alloc, first, shelf)?;
+            let second = read_proof(alloc, second, shelf)?;
+            Ok(Inputs::Merge(first, second, to))
+        }
+        Command::Prune(from, to) => {
+            let proof = read_proof(alloc, from, shelf)?;
+            Ok(Inputs::Rewrite(Rewriting::Prune, proof, to))
+        }
+        Command::Verify(verification) => {
+            let evidence = gather_evidence(alloc, verification, shelf)?;
+            Ok(Inputs::Verify(evidence))
+        }
+    }
+}
+
+/// All that a verdict rests on.
+fn gather_evidence<'a, S: Shelf>(
+    alloc: Global,
+    verification: Verification<'a>,
+    shelf: &mut S,
+) -> Result<Evidence, Stop<'a>>
+    ensures { Reads (names_read (Some (verify (read_verification verification.entry))))
+        (λ told v. (e : Ending) → PrintsVerdict v.proof v.bitcoin v.litecoin v.digest e → Verifies told (read_verification verification.entry) e)
+        (λ told. Verifies told (read_verification verification.entry)) (S.told shelf.old) (S.told shelf.new) (S.faults shelf.old) (S.faults shelf.new) result }
+{
+    let bitcoin = read_headers(alloc, verification.bitcoin, shelf)?;
+    let litecoin = read_perhaps_headers(alloc, verification.litecoin, shelf)?;
+    let proof = read_proof(alloc, verification.proof, shelf)?;
+    let digest = hash_target(verification.target, proof.hash, shelf)?;
+    Ok(Evidence {
+        bitcoin,
+        litecoin,
+        proof,
+        digest,
+    })
+}
+
+/// The headers that may be given.
+fn read_perhaps_headers<'a, S: Shelf>(
+    alloc: Global,
+    file: Option<HeaderFile<'a>>,
+    shelf: &mut S,
+) -> Result<Option<Headers>, Stop<'a>>
+    ensures { Reads (names_of (option_map read_header_file file.entry))
+        (λ told. HasPerhapsTable told (option_map read_header_file file.entry)) (λ told. RefusesPerhapsTable told (option_map read_header_file file.entry))
+        (S.told shelf.old) (S.told shelf.new) (S.faults shelf.old) (S.faults shelf.new) result }
+{
+    match file {
+        Some(file) => {
+            let headers = read_headers(alloc, file, shelf)?;
+            Ok(Some(headers))
+        }
+        None => Ok(None),
+    }
+}

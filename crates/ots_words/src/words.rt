@@ -1,0 +1,172 @@
+//! The words of the command line.
+ghost use Rattle.std.specs.Prelude.{◌≡◌, None, Some, map, string_bytes, MatchResult};
+ghost use Rattle.std.specs.Option.{option_map};
+ghost use Rattle.clap.specs.Words.{found_of, rows_of};
+ghost use Rattle.ots_words.specs.Words.{arguments_of, command_in, command_of, described, form_of, read_as, read_form, read_verification, verification_in, word_of};
+
+use crate::arguments::{
+    Argument, Kind, file_name, header_file, litecoin_file, read_arguments, value,
+};
+use crate::command::{Command, Verification};
+use clap::ArgMatches;
+use std::alloc::{AllocError, Global};
+
+/// The commands by their first words.
+#[derive(Clone, Copy)]
+enum Form {
+    Info,
+    Canon,
+    Merge,
+    Prune,
+    Verify,
+}
+
+/// Why words ask for nothing.
+#[derive(Clone, Copy, Debug, PartialEq, Eq)]
+pub enum WordsError {
+    /// They are of no command's form.
+    Usage,
+    /// Memory ran out.
+    OutOfMemory,
+}
+
+impl From<AllocError> for WordsError {
+    ghost use Rattle.std.specs.Prelude.{◌≡◌};
+    ghost use Rattle.ots_words.specs.declared.words.WordsError.TheVariants.{OutOfMemory};
+
+    ghost from_gives = { λ _ e. e ≡ OutOfMemory };
+
+    fn from(_: AllocError) -> Self {
+        WordsError::OutOfMemory
+    }
+}
+
+/// What `verify` is to check, by the values of its arguments.
+fn verification<'a>(matches: &ArgMatches<'a>) -> Option<Verification<'a>>
+    ensures { option_map read_verification result ≡ verification_in (rows_of (found_of matches.now)) }
+{
+    Some(Verification {
+        target: file_name(matches, "file")?,
+        proof: file_name(matches, "proof")?,
+        bitcoin: header_file(value(matches, "headers")?, value(matches, "from")?)?,
+        litecoin: litecoin_file(value(matches, "litecoin"), value(matches, "litecoin-from"))?,
+    })
+}
+
+/// The arguments of `info`.
+static INFO: [Argument; 1] = [Argument("proof", Kind::Positional)];
+
+/// The arguments of `canon` and `prune`.
+static REWRITING: [Argument; 2] = [
+    Argument("in", Kind::Positional),
+    Argument("out", Kind::Positional),
+];
+
+/// The arguments of `merge`.
+static MERGE: [Argument; 3] = [
+    Argument("a", Kind::Positional),
+    Argument("b", Kind::Positional),
+    Argument("out", Kind::Positional),
+];
+
+/// The arguments of `verify`.
+static VERIFY: [Argument; 6] = [
+    Argument("file", Kind::Positional),
+    Argument("proof", Kind::Positional),
+    Argument("headers", Kind::Positional),
+    Argument("from", Kind::Required),
+    Argument("litecoin", Kind::Optional),
+    Argument("litecoin-from", Kind::Optional),
+];
+
+impl Form {
+    /// The command with this word.
+    fn of(word: &str) -> Option<Form>
+        ensures { result ≡ form_of word.now }
+    {
+        match word {
+            "info" => Some(Form::Info),
+            "canon" => Some(Form::Canon),
+            "merge" => Some(Form::Merge),
+            "prune" => Some(Form::Prune),
+            "verify" => Some(Form::Verify),
+            _ => None,
+        }
+    }
+
+    /// Its word.
+    fn word(self) -> &'static str
+        ensures { result.now ≡ word_of self }
+    {
+        match self {
+            Form::Info => "info",
+            Form::Canon => "canon",
+            Form::Merge => "merge",
+            Form::Prune => "prune",
+            Form::Verify => "verify",
+        }
+    }
+
+    /// Its arguments.
+    fn arguments(self) -> &'static [Argument]
+        ensures { map described result.now ≡ arguments_of self }
+    {
+        match self {
+            Form::Info => INFO.as_slice(),
+            Form::Canon | Form::Prune => REWRITING.as_slice(),
+            Form::Merge => MERGE.as_slice(),
+            Form::Verify => VERIFY.as_slice(),
+        }
+    }
+
+    /// The command with the values that the words give its arguments.
+    fn command_in<'a>(self, matches: &ArgMatches<'a>) -> Option<Command<'a>>
+        ensures { option_map read_as result ≡ command_in self (rows_of (found_of matches.now)) }
+    {
+        match self {
+            Form::Info => Some(Command::Info(file_name(matches, "proof")?)),
+            Form::Canon => Some(Command::Canon(
+                file_name(matches, "in")?,
+                file_name(matches, "out")?,
+            )),
+            Form::Merge => Some(Command::Merge(
+                file_name(matches, "a")?,
+                file_name(matches, "b")?,
+                file_name(matches, "out")?,
+            )),
+            Form::Prune => Some(Command::Prune(
+                file_name(matches, "in")?,
+                file_name(matches, "out")?,
+            )),
+            Form::Verify => Some(Command::Verify(verification(matches)?)),
+        }
+    }
+}
+
+/// What the words ask for, where they are of a command's form.
+pub fn read_words<'a>(alloc: Global, words: &'a [String]) -> Result<Command<'a>, WordsError>
+    ensures { MatchResult result (λ c. command_of (map string_bytes words.entry.now) ≡ Some (read_as c))
+        (λ e. e ≡ WordsError.Usage → command_of (map string_bytes words.entry.now) ≡ None) }
+{
+    let Some(word) = words.first() else {
+        return Err(WordsError::Usage);
+    };
+    let Some(form) = Form::of(word) else {
+        return Err(WordsError::Usage);
+    };
+    read_form(alloc, form, words)
+}
+
+/// What the words ask for, of which the first is the command's.
+fn read_form<'a>(alloc: Global, form: Form, words: &'a [String]) -> Result<Command<'a>, WordsError>
+    ensures { MatchResult result (λ c. read_form form (map string_bytes words.entry.now) ≡ Some (read_as c))
+        (λ e. e ≡ WordsError.Usage → read_form form (map string_bytes words.entry.now) ≡ None) }
+{
+    match read_arguments(alloc, form.word(), form.arguments(), words) {
+        Ok(matches) => match form.command_in(&matches) {
+            Some(command) => Ok(command),
+            None => Err(WordsError::Usage),
+        },
+        Err(error) => Err(error),
+    }
+}
