@@ -1,5 +1,5 @@
 -- An ending is carried out.
-use Rattle.std.proofs.Common.{◌≡◌, ◌⊎◌, inl, inr, ℕ, List, [], ◌∷◌, Option, refl, sym, subst, ◌∙◌, arith}
+use Rattle.std.proofs.Common.{◌≡◌, inl, inr, ℕ, List, [], ◌∷◌, Option, refl, sym, subst, ◌∙◌, arith}
 use Rattle.std.specs.Prelude.{Ok}
 use Rattle.ots_base.specs.Cause.{Rose}
 use Rattle.ots_detached.specs.File.{file_of}

@@ -1,6 +1,6 @@
 -- One read after another.
 use Rattle.std.proofs.Common.{◌≡◌, ℕ, List, [], ◌∷◌, ◌++◌, Option, Some, None, refl, sym, ap, subst, ◌∙◌, arith}
-use Rattle.std.specs.Prelude.{Result, Ok, Err, IfOk, IfErr, IsErrAnd, IsErrOf}
+use Rattle.std.specs.Prelude.{Result, Ok, Err, IfOk, IfErr, IsErrAnd}
 use Rattle.ots_outside.specs.Shelf.{Names, NeverFalls, ShelfFaults, ShelfTold}
 use Rattle.ots_cli.specs.declared.input.InputError.{InputError}
 use Rattle.ots_cli.specs.declared.input.InputError.TheVariants.{NoFile, ReadFault, TooBig, BadProof, BadHeaders, FileTooLong, OutOfMemory}
@@ -16,8 +16,8 @@ use Rattle.ots_cli.specs.declared.ending.Ending.{Ending as Decided}
 use Rattle.ots_cli.specs.Decided.{EndsAs, IsEnding}
 use Rattle.ots_cli.specs.Ending.{Ending, refused}
 use Rattle.ots_cli.specs.Found.{IsRefusal, status_of}
-use Rattle.ots_cli.specs.Gathered.{ComesToEnd, RanOut, Reads, ReadsName, ReadsUnder, StopsFor}
-use Rattle.ots_cli.specs.Opened.{IsOpenedOrNot, Opens, OpensFront, StopsAt, names_read}
+use Rattle.ots_cli.specs.Gathered.{ComesToEnd, Reads, ReadsName, ReadsUnder, StopsFor}
+use Rattle.ots_cli.specs.Opened.{IsOpenedOrNot, Opens, StopsAt, names_read}
 use Rattle.ots_cli.proofs.Opened.{both, front_of_more, none_opened, one_refused, stops_at_one, stops_before, stops_later, then_opened}
 
 never_falls : (a b c : ShelfFaults) → NeverFalls a b → NeverFalls b c → NeverFalls a c

@@ -13,7 +13,7 @@ use Rattle.ots_eval.proofs.OneVerdict.{one}
 use Rattle.ots_detached.proofs.Files.{one_fault}
 use Rattle.ots_detached.proofs.BothWays.{no_fault, file_size, one_file, same_detached}
 use Rattle.ots_cli.specs.declared.status.Status.{Status}
-use Rattle.ots_cli.specs.declared.status.Status.TheVariants.{Done, No, Usage, BadProof, NoFile, Exists, ReadFault, WriteFault, TooBig, BadHeaders, FileTooLong, Differs, OutOfMemory}
+use Rattle.ots_cli.specs.declared.status.Status.TheVariants.{Done, BadProof, ReadFault}
 use Rattle.ots_cli.specs.Ending.{Ending, printing, refused}
 use Rattle.ots_cli.specs.Rewritten.{IsRewritten}
 use Rattle.ots_cli.specs.declared.rewriting.Rewriting.{Rewriting}

@@ -1,5 +1,5 @@
 -- How a run that carries out an ending ends.
-use Rattle.std.proofs.Common.{◌≡◌, ◌⊎◌, inl, inr, ℕ, List, [], ◌∷◌, take, Bool, true, Option, Some, None, is_some, refl, sym, ap, subst, ◌∙◌}
+use Rattle.std.proofs.Common.{◌≡◌, ◌⊎◌, inl, inr, ℕ, List, [], ◌∷◌, take, Bool, Option, Some, None, is_some, refl, sym, ap, subst, ◌∙◌}
 use Rattle.std.specs.Prelude.{IsSome, if◌then◌else◌}
 use Rattle.std.proofs.lemmas.Bool.{false≢true}
 use Rattle.std.specs.FinMap as map
@@ -9,7 +9,7 @@ use Rattle.ots_cli.specs.declared.status.Status.{Status}
 use Rattle.ots_cli.specs.declared.status.Status.TheVariants.{Done, No, Usage, BadProof, NoFile, Exists, ReadFault, WriteFault, TooBig, BadHeaders, FileTooLong, Differs, OutOfMemory}
 use Rattle.ots_cli.specs.Answer.{Comes, as_defined, not_read, UnlessFailed}
 use Rattle.ots_cli.specs.CarriedOut.{CarriesOut, Ends, carried_out, no_memory, PrintsLast, status_over}
-use Rattle.ots_cli.specs.Ending.{Act, Ending, makes, printing, prints, refused}
+use Rattle.ots_cli.specs.Ending.{Act, Ending, makes, printing, prints}
 use Rattle.ots_cli.specs.ReadsBack.{Leaves}
 
 -- ---- the status

@@ -1,5 +1,5 @@
 -- What is written reads back, and no other name changes.
-use Rattle.std.proofs.Common.{◌≡◌, ℕ, List, [], ◌∷◌, Option, Some, None, inl, inr, refl, sym, ap, subst, ◌∙◌}
+use Rattle.std.proofs.Common.{◌≡◌, ℕ, List, Option, Some, None, inl, inr, refl, sym, subst, ◌∙◌}
 use Rattle.std.specs.FinMap as map
 use Rattle.ots_outside.specs.Shelf.{Names}
 use Rattle.ots_ops.specs.declared.hash_op.HashOp.{HashOp}
@@ -8,13 +8,13 @@ use Rattle.ots_bitcoin.specs.HeaderTable.{Table}
 use Rattle.ots_detached.specs.File.{IsFileOf, file_of}
 use Rattle.ots_cli.specs.declared.status.Status.{Status}
 use Rattle.ots_cli.specs.declared.status.Status.TheVariants.{Done, Usage, BadProof, NoFile, ReadFault, WriteFault, TooBig, Differs, OutOfMemory}
-use Rattle.ots_cli.specs.Ending.{Ending, makes, printing, refused}
+use Rattle.ots_cli.specs.Ending.{Ending, printing}
 use Rattle.ots_cli.specs.Answer.{Answers, Comes, as_defined, not_read, PrintsVerdict, RefusesInput, no_file, refuses, is_given, is_refused, WithPerhapsTable, WithProof, WithTable, WithTarget, Writes, too_long, is_made, Merges, differ, joined, VerifiesBy, VerifiesProof, VerifiesTarget}
 use Rattle.ots_cli.specs.CarriedOut.{CarriesOut, Ends, carried_out, no_memory}
 use Rattle.ots_cli.specs.Found.{RefusesProof, too_big, bad_proof}
 use Rattle.ots_cli.specs.ReadsBack.{Leaves, ReadsBack, output_asked, output_of}
 use Rattle.ots_words.specs.Words.{Command, HeaderFile, info, canon, merge, prune, verify}
-use Rattle.ots_cli.proofs.Outcome.{Failed, MakesOnly, MayEnd, carried_leaves, carried_status, done_making, only_prints}
+use Rattle.ots_cli.proofs.Outcome.{MakesOnly, carried_leaves, carried_status, done_making, only_prints}
 
 -- ---- an ending that was carried out with Done
 

@@ -1,7 +1,7 @@
 -- What carrying out acts, one after the other, does to the names that a shelf tells and to what a sink has taken.
-use Rattle.std.specs.Prelude.{◌≡◌, ◌≢◌, ◌≤◌, ◌⊎◌, ℕ, List, [], ◌∷◌, take, Option, Some, None, is_some, Result, Ok, Err, if◌then◌else◌}
+use Rattle.std.specs.Prelude.{◌≡◌, ◌≢◌, ◌≤◌, ◌⊎◌, ℕ, List, [], ◌∷◌, take, Option, Some, None, is_some, IsErrOf, Result, Ok, Err, if◌then◌else◌}
 use Rattle.std.specs.FinMap as map
-use Rattle.ots_base.specs.Cause.{Rose}
+use Rattle.ots_base.specs.Cause.{HasCauseWhere, Rose}
 use Rattle.ots_outside.specs.Shelf.{Names, OnlyWriting, ShelfFaults, ShelfTold}
 use Rattle.ots_outside.specs.Streams.{Takes, TakesFront}
 use Rattle.ots_outside.specs.Written.{with_name}
@@ -61,6 +61,11 @@ status_over names status (makes name bytes ∷ acts) =
 abbrev pub EndsExactly : Names → Option Command → Status → Type 0
 EndsExactly names c r = (e : Ending) → Answers (Some names) c e → UnlessFailed (status_over names e.status e.acts) r
 
+-- What stays of a sink that was printed on: it is the same, and its count of faults has not fallen.
+pub record SinkStays {K : Type 0} (faults : K → ℕ) (keeps : K → K → Type 0) (old new : K) : Type 0 where
+  pub later : faults old ≤ faults new
+  pub same : keeps old new
+
 -- ---- making one file
 
 abbrev pub not_created : CreateError → OutputError
@@ -75,6 +80,15 @@ Outputs name file old new (Err output.Exists) = IsThere old name × (new ≡ old
 Outputs name file old new (Err output.WriteFault) =
     IsUnder old name None × ((new ≡ old) ⊎ ((n : ℕ) × (new ≡ with_name name (take n file) old)))
 Outputs name file old new (Err output.OutOfMemory) = new ≡ old
+
+-- A file was made under a name, or why not. All that is told of the shelf but its names stays.
+pub record MakesFile (name file : List ℕ) (old new : ShelfTold) (before now : ShelfFaults) (r : Result (Unit {0}) OutputError) : Type 0 where
+  pub names : Outputs name file old.names new.names r
+  pub opened : new.opened ≡ old.opened
+  pub slots : (k : ℕ) → new.slots k ≡ old.slots k
+  pub short : ¬ IsErrOf r output.OutOfMemory → new.short ≡ old.short
+  pub cause : HasCauseWhere (IsErrOf r output.WriteFault) before.writing now.writing
+  pub counts : OnlyWriting before now
 
 -- A file was made under a name, which ends a run with the status `done`; or it is told why not. All that is told of the
 -- shelf but its names stays.

@@ -1,8 +1,8 @@
 //! The last step of a run: an ending is carried out. The only code that makes files and prints.
-ghost use Rattle.std.specs.Prelude.{◌≤◌, ℕ, List};
+ghost use Rattle.std.specs.Prelude.{ℕ, List};
 ghost use Rattle.ots_base.specs.Cause.{Rose};
 ghost use Rattle.ots_detached.specs.File.{file_of};
-ghost use Rattle.ots_cli.specs.CarriedOut.{CarriesOutEnding, Makes, PrintsLast};
+ghost use Rattle.ots_cli.specs.CarriedOut.{CarriesOutEnding, Makes, PrintsLast, SinkStays};
 ghost use Rattle.ots_cli.specs.Decided.{IsTextOf};
 ghost use Rattle.ots_cli.specs.Refusal.{refusal_text};
 
@@ -17,8 +17,7 @@ use ots_tree::Detached;
 pub fn carry_out<S: Shelf, K: Sink>(ending: &Ending<'_>, shelf: &mut S, out: &mut K) -> Status
     ensures ending { CarriesOutEnding ending.now (S.told shelf.old) (S.told shelf.new) (S.faults shelf.old) (S.faults shelf.new)
         (Rose (K.faults out.old) (K.faults out.new)) (K.taken out.old) (K.taken out.new) result }
-    ensures out_faults { K.faults out.old ≤ K.faults out.new }
-    ensures same { K.same out.old out.new }
+    ensures sink { SinkStays K.faults K.same out.old out.new }
 {
     match &ending.acts {
         Acts::Print(text) => print(text, &ending.status, out),
@@ -36,8 +35,7 @@ fn make<S: Shelf, K: Sink>(
 ) -> Status
     ensures made { Makes done.now name.now (file_of proof.now) (S.told shelf.old) (S.told shelf.new) (S.faults shelf.old) (S.faults shelf.new)
         (Rose (K.faults out.old) (K.faults out.new)) (K.taken out.old) (K.taken out.new) result }
-    ensures out_faults { K.faults out.old ≤ K.faults out.new }
-    ensures same { K.same out.old out.new }
+    ensures sink { SinkStays K.faults K.same out.old out.new }
 {
     match make_file(name, proof, shelf) {
         Ok(()) => *done,
@@ -50,8 +48,7 @@ fn make<S: Shelf, K: Sink>(
 /// Prints the line of a refusal over a name.
 fn refuse<K: Sink>(name: &str, status: &Status, out: &mut K) -> Status
     ensures printed { PrintsLast (Rose (K.faults out.old) (K.faults out.new)) status.now (refusal_text name.now status.now) (K.taken out.old) (K.taken out.new) result }
-    ensures out_faults { K.faults out.old ≤ K.faults out.new }
-    ensures same { K.same out.old out.new }
+    ensures sink { SinkStays K.faults K.same out.old out.new }
 {
     print(&Text::Refusal(name), status, out)
 }
@@ -60,8 +57,7 @@ fn refuse<K: Sink>(name: &str, status: &Status, out: &mut K) -> Status
 fn print<K: Sink>(text: &Text<'_>, status: &Status, out: &mut K) -> Status
     ensures printed { (bytes : List ℕ) × IsTextOf status.now text.now bytes
         × PrintsLast (Rose (K.faults out.old) (K.faults out.new)) status.now bytes (K.taken out.old) (K.taken out.new) result }
-    ensures out_faults { K.faults out.old ≤ K.faults out.new }
-    ensures same { K.same out.old out.new }
+    ensures sink { SinkStays K.faults K.same out.old out.new }
 {
     match print_text(text, status, out) {
         Ok(()) => *status,

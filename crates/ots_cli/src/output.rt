@@ -1,9 +1,7 @@
 //! Making the file of a proof.
-ghost use Rattle.std.specs.Prelude.{◌≡◌, ℕ, IsErrOf};
-ghost use Rattle.ots_base.specs.Cause.{HasCauseWhere};
-ghost use Rattle.ots_outside.specs.Shelf.{OnlyWriting};
+ghost use Rattle.std.specs.Prelude.{◌≡◌};
 ghost use Rattle.ots_detached.specs.File.{file_of};
-ghost use Rattle.ots_cli.specs.CarriedOut.{Outputs, not_created};
+ghost use Rattle.ots_cli.specs.CarriedOut.{MakesFile, not_created};
 
 use ots_detached::write_file;
 use ots_outside::{CreateError, Shelf, SlotSink};
@@ -36,12 +34,7 @@ impl From<CreateError> for OutputError {
 /// Creates a name that holds the file of a proof. All that the shelf tells of other names and of
 /// slots stays.
 pub fn make_file<S: Shelf>(name: &str, proof: &Detached, shelf: &mut S) -> Result<(), OutputError>
-    ensures names { Outputs name.now (file_of proof.now) (S.told shelf.old).names (S.told shelf.new).names result }
-    ensures opened { (S.told shelf.new).opened ≡ (S.told shelf.old).opened }
-    ensures short { ¬ IsErrOf result OutputError.OutOfMemory → (S.told shelf.new).short ≡ (S.told shelf.old).short }
-    ensures slots { (k : ℕ) → (S.told shelf.new).slots k ≡ (S.told shelf.old).slots k }
-    ensures cause { HasCauseWhere (IsErrOf result OutputError.WriteFault) (S.faults shelf.old).writing (S.faults shelf.new).writing }
-    ensures counts { OnlyWriting (S.faults shelf.old) (S.faults shelf.new) }
+    ensures { MakesFile name.now (file_of proof.now) (S.told shelf.old) (S.told shelf.new) (S.faults shelf.old) (S.faults shelf.new) result }
 {
     let slot = shelf.create(name)?;
     let written = write_file(proof, &mut SlotSink::new(shelf, slot));

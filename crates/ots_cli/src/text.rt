@@ -1,10 +1,11 @@
 //! The texts that are printed, piece after piece.
-ghost use Rattle.std.specs.Prelude.{◌≡◌, ◌≤◌, ◌++◌, ℕ, List, [], false, MatchResult};
+ghost use Rattle.std.specs.Prelude.{◌≡◌, ◌++◌, ℕ, List, [], false, MatchResult};
 ghost use Rattle.ots_base.specs.Cause.{Rose};
 ghost use Rattle.ots_eval.specs.declared.verdicts.Verdict.TheVariants.{Yes};
 ghost use Rattle.ots_info.specs.Listing.{line};
 ghost use Rattle.ots_outside.specs.Streams.{Takes, TakesFront};
 ghost use Rattle.ots_printer.specs.Printing.{Puts};
+ghost use Rattle.ots_cli.specs.CarriedOut.{SinkStays};
 ghost use Rattle.ots_cli.specs.Decided.{IsTextOf};
 ghost use Rattle.ots_cli.specs.Refusal.{refusal_text};
 ghost use Rattle.ots_cli.specs.Text.{verdict_status, verdict_text, yes_words};
@@ -23,8 +24,7 @@ use ots_reader::Fault;
 pub fn print_text<K: Sink>(text: &Text<'_>, status: &Status, sink: &mut K) -> Result<(), Failed>
     ensures printed { (bytes : List ℕ) × IsTextOf status.now text.now bytes × MatchResult result (λ _. Takes (K.taken sink.old) (K.taken sink.new) bytes)
         (λ _. Rose (K.faults sink.old) (K.faults sink.new) × TakesFront (K.taken sink.old) (K.taken sink.new) bytes) }
-    ensures faults { K.faults sink.old ≤ K.faults sink.new }
-    ensures same { K.same sink.old sink.new }
+    ensures sink { SinkStays K.faults K.same sink.old sink.new }
 {
     put_all(text, status, &mut Printer::new(sink))
 }
@@ -40,8 +40,7 @@ fn put_all<K: Sink>(
     ensures loan { out.new.sink.ghost_name ≡ out.old.sink.ghost_name }
     ensures printed { (bytes : List ℕ) × IsTextOf status.now text.now bytes × MatchResult result (λ _. Takes (K.taken out.old.sink.now) (K.taken out.new.sink.now) bytes)
         (λ _. Rose (K.faults out.old.sink.now) (K.faults out.new.sink.now) × TakesFront (K.taken out.old.sink.now) (K.taken out.new.sink.now) bytes) }
-    ensures faults { K.faults out.old.sink.now ≤ K.faults out.new.sink.now }
-    ensures same { K.same out.old.sink.now out.new.sink.now }
+    ensures sink { SinkStays K.faults K.same out.old.sink.now out.new.sink.now }
 {
     put_text(text, status, out);
     match out.finish() {

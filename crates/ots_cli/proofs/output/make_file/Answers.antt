@@ -4,18 +4,32 @@ use Rattle.ots_outside.specs.Shelf.{SameButSlot}
 use Rattle.ots_cli.proofs.Outputs.{not_there, whole, front}
 use Rattle.ots_cli.proofs.output.make_file.Goals as goal
 
-pub returns-in-Ok-clause-names : goal.returns-in-Ok-clause-names
-returns-in-Ok-clause-names g c =
-    let closes : SameButSlot c.in_ok-slot.slot.0 (g.S.Shelf.told c.write_file-written.new.sink.shelf.now) (g.S.Shelf.told c.close.new.self) = search rules in (
-      not_there _ _ c.in_ok-slot.ensures.exists,
-      whole _ _ _ _ _ _ (ap (λ (s : Slot). s.0) c.new.ensures.slot) c.write_file-written.ensures.same.1 (ap g.S.Shelf.told c.new.ensures.shelf) _ _ _ _
-          c.in_ok-slot.ensures.ok c.write_file-written.ensures.same.3 c.in-Ok.ensures.whole closes c.close.ensures.closed,
-    )
+pub returns-in-Ok : goal.returns-in-Ok
+returns-in-Ok g c =
+    let closes : SameButSlot c.in_ok-slot.slot.0 (g.S.Shelf.told c.write_file-written.new.sink.shelf.now) (g.S.Shelf.told c.close.new.self) = search rules in record {
+      names = (
+        not_there _ _ c.in_ok-slot.ensures.exists,
+        whole _ _ _ _ _ _ (ap (λ (s : Slot). s.0) c.new.ensures.slot) c.write_file-written.ensures.same.1 (ap g.S.Shelf.told c.new.ensures.shelf) _ _ _ _
+            c.in_ok-slot.ensures.ok c.write_file-written.ensures.same.3 c.in-Ok.ensures.whole closes c.close.ensures.closed,
+      );
+      opened = search rules;
+      slots = search rules;
+      short = search rules;
+      cause = search rules;
+      counts = search rules;
+    }
 
-pub returns-in-Err-clause-names : goal.returns-in-Err-clause-names
-returns-in-Err-clause-names g c =
-    let closes : SameButSlot c.in_ok-slot.slot.0 (g.S.Shelf.told c.write_file-written.new.sink.shelf.now) (g.S.Shelf.told c.close.new.self) = search rules in (
-      not_there _ _ c.in_ok-slot.ensures.exists,
-      front _ _ _ _ _ _ (ap (λ (s : Slot). s.0) c.new.ensures.slot) c.write_file-written.ensures.same.1 (ap g.S.Shelf.told c.new.ensures.shelf) _ _ _ _
-          c.in_ok-slot.ensures.ok c.write_file-written.ensures.same.3 c.in-Err.ensures.front closes c.close.ensures.closed,
-    )
+pub returns-in-Err : goal.returns-in-Err
+returns-in-Err g c =
+    let closes : SameButSlot c.in_ok-slot.slot.0 (g.S.Shelf.told c.write_file-written.new.sink.shelf.now) (g.S.Shelf.told c.close.new.self) = search rules in record {
+      names = (
+        not_there _ _ c.in_ok-slot.ensures.exists,
+        front _ _ _ _ _ _ (ap (λ (s : Slot). s.0) c.new.ensures.slot) c.write_file-written.ensures.same.1 (ap g.S.Shelf.told c.new.ensures.shelf) _ _ _ _
+            c.in_ok-slot.ensures.ok c.write_file-written.ensures.same.3 c.in-Err.ensures.front closes c.close.ensures.closed,
+      );
+      opened = search rules;
+      slots = search rules;
+      short = search rules;
+      cause = search rules;
+      counts = search rules;
+    }

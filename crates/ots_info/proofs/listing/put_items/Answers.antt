@@ -1,4 +1,4 @@
-use Rattle.std.proofs.Common.{arith, ap, sym}
+use Rattle.std.proofs.Common.{arith, ap}
 use Rattle.std.proofs.lemmas.List.{take_all}
 use Rattle.std.specs.List.{flat_map}
 use Rattle.ots_printer.proofs.Pieces.{puts_as, puts_nothing, puts_then}
