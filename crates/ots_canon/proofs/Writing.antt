@@ -186,7 +186,7 @@ opened {ts} {behind} {before} vs (inl o) owes =
       rest = g.1;
       are = g.3;
       owes = g.4;
-      made = inl (g.0, makes_permuted ts behind o.1.frame g.0 o.1.next_is o.1.permutation g.2, refl);
+      made = inl (g.0, makes_permuted ts behind o.1.frame g.0 o.1.next_is o.1.sort.permutation g.2, refl);
     }
 opened {ts} vs (inr n) owes = record {
   front = [];
@@ -333,13 +333,13 @@ frames_left {ts} h r (inr l) all = subst (All (IsFrame ts)) (sym l.frames_are) a
 
 frames_opened : {ts : List Token} {behind : List ℕ} {before after : List Frame} → OpensSome ts behind before after → All (IsItem ts) behind → All (IsFrame ts) before → All (IsFrame ts) after
 frames_opened {ts} {behind} {before} (inl o) items all =
-    let len = length_permutation behind o.1.frame.places.items o.1.permutation in
+    let len = length_permutation behind o.1.frame.places.items o.1.sort.permutation in
     let some = o.0 in
     let e = o.1.next_is in
     subst (All (IsFrame ts)) (sym o.1.frames_are) (All-push (IsFrame ts) before o.1.frame all (record {
       some = omega arith;
-      items = subst (All (IsItem ts)) (sym (left_all o.1.frame o.1.next_is)) (All-permutation (IsItem ts) behind o.1.frame.places.items o.1.permutation items);
-      sorted = o.1.sorted;
+      items = subst (All (IsItem ts)) (sym (left_all o.1.frame o.1.next_is)) (All-permutation (IsItem ts) behind o.1.frame.places.items o.1.sort.permutation items);
+      sorted = o.1.sort.sorted;
     }))
 frames_opened {ts} (inr n) items all = subst (All (IsFrame ts)) (sym n.1) all
 
@@ -355,7 +355,7 @@ owed_left es (inr l) = let same = ap (owed es) l.frames_are in omega arith
 owed_opened : (es : List ℕ) {ts : List Token} {behind : List ℕ} {before after : List Frame} → OpensSome ts behind before after → owed es after ≤ owed es before + total es behind
 owed_opened es {behind = behind} {before} (inl o) =
     let pushed = ap (owed es) o.1.frames_are ∙ sum_by_push (λ (f : Frame). total es (left f)) before o.1.frame in
-    let same = ap (total es) (left_all o.1.frame o.1.next_is) ∙ sum_by-IsPermutation (size es) behind o.1.frame.places.items o.1.permutation in
+    let same = ap (total es) (left_all o.1.frame o.1.next_is) ∙ sum_by-IsPermutation (size es) behind o.1.frame.places.items o.1.sort.permutation in
     omega arith
 owed_opened es (inr n) = let same = ap (owed es) n.1 in omega arith
 

@@ -7,3 +7,4 @@ pub mod Rises
 pub mod Places
 pub mod Frames
 pub mod Leading
+pub mod Heads

@@ -76,6 +76,14 @@ pub record Gathers (ts : List Token) (es : List ℕ) (k : ℕ) (before after : L
   pub same : (p : Path) → HasAmong ts more p ↔ HasAt ts k p
   pub few : total es more ≤ size es k
 
+-- those behind the item at a place, of which an attestation has none
+pub record GathersBehind (ts : List Token) (es : List ℕ) (k : ℕ) (before after : List ℕ) : Type 0 where
+  pub more : List ℕ
+  pub are : after ≡ before ++ more
+  pub items : All (IsItem ts) more
+  pub same : (p : Path) → HasAmong ts more p ↔ HasBehind ts k p
+  pub few : total es more + 1 ≤ size es k
+
 -- the places of the items of all nodes behind the operations at these places
 pub record AreBehind (ts : List Token) (es ks behind : List ℕ) : Type 0 where
   pub covers : Covers ts (HasBehind ts) ks behind

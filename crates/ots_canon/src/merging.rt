@@ -1,10 +1,12 @@
 //! Merging nodes: the canonical tree with the paths of all of them.
-ghost use Rattle.std.specs.Prelude.{◌≡◌, ◌<◌, ◌++◌, IfOk, OnOk, length, All, slice_range};
+ghost use Rattle.std.specs.Prelude.{◌≡◌, ◌<◌, ◌++◌, IfOk, OnOk, length, drop, true, All};
 ghost use Rattle.std.specs.List.{AllByRecursion};
+ghost use Rattle.std.specs.List.Sorted.{IsSortedBy};
 ghost use Rattle.ots_tree.specs.Wire.{IsToken};
-ghost use Rattle.ots_canon.specs.Places.{HasNode, AreNodes, IsItem, AreEnds, Gathers, AreBehind, IsFormOf};
-ghost use Rattle.ots_canon.specs.Frames.{IsFrame, IsRunEnd, Leaves, Opens, OpensSome, Writes};
+ghost use Rattle.ots_canon.specs.Places.{HasNode, AreNodes, IsItem, AreEnds, Gathers, GathersBehind, AreBehind, IsFormOf};
+ghost use Rattle.ots_canon.specs.Frames.{IsFrame, IsRun, comes_before, Leaves, IsSort, Opens, OpensSome, Writes};
 
+use crate::heads::{compare_heads, items_at, places_of};
 use crate::tokens::{compare_at, ends_of};
 use ots_base::OutOfMemory;
 use ots_tree::Token;
@@ -16,6 +18,15 @@ use std::alloc::Global;
 struct Frame {
     places: Vec<usize>,
     next: usize,
+}
+
+/// The items of a node that begin alike.
+#[derive(Drop)]
+struct Run {
+    /// Where they end among the places of the node.
+    end: usize,
+    /// The places of the items of all nodes behind them.
+    behind: Vec<usize>,
 }
 
 /// The tokens of the canonical tree with the paths of the nodes that begin at these places.
@@ -53,7 +64,7 @@ fn write_node(
 {
     let mut written = Vec::new(alloc);
     let mut frames = Vec::new(alloc);
-    open(tokens, places, &mut frames)?;
+    open(alloc, tokens, places, &mut frames)?;
     while let Some(frame) = frames.pop() {
         write_item(alloc, tokens, ends, frame, &mut frames, &mut written)?;
     }
@@ -77,11 +88,10 @@ fn write_item(
 {
     let Frame { places, next } = frame;
     let first = places[next];
-    let end = run_end(tokens, &places, next);
-    let behind = items_behind(alloc, tokens, ends, &places[next..end])?;
+    let Run { end, behind } = run_at(alloc, tokens, ends, &places, next)?;
     leave(places, end, frames, written)?;
     written.push(tokens[first].copy()?)?;
-    open_some(tokens, behind, frames)
+    open_some(alloc, tokens, behind, frames)
 }
 
 /// Puts what is left of a node on the stack. If it is something, a fork is written.
@@ -102,41 +112,83 @@ fn leave(
 
 /// Puts the node with these items on the stack, if it has any.
 fn open_some(
+    alloc: Global,
     tokens: &[Token],
     places: Vec<usize>,
     frames: &mut Vec<Frame>,
 ) -> Result<(), OutOfMemory>
+    requires { All (IsItem tokens.now) places.items }
     ensures { OnOk result (OpensSome tokens.now places.items frames.old.items frames.new.items) }
 {
     if places.is_empty() {
         return Ok(());
     }
-    open(tokens, places, frames)
+    open(alloc, tokens, places, frames)
 }
 
 /// Puts the node with these items on the stack.
 fn open(
+    alloc: Global,
     tokens: &[Token],
-    mut places: Vec<usize>,
+    places: Vec<usize>,
     frames: &mut Vec<Frame>,
 ) -> Result<(), OutOfMemory>
+    requires { All (IsItem tokens.now) places.items }
     ensures { OnOk result (Opens tokens.now places.items frames.old.items frames.new.items) }
 {
-    places.sort_by(|one, two| compare_at(tokens, *one, *two))?;
+    let places = sorted(alloc, tokens, places)?;
     frames.push(Frame { places, next: 0 })?;
     Ok(())
 }
 
-/// Where the items end that begin as the one at `from` does.
-fn run_end(tokens: &[Token], places: &[usize], from: usize) -> usize
-    requires { from < length places.now }
-    ensures { IsRunEnd tokens.now places.now from result }
+/// The places of these items in their order.
+fn sorted(alloc: Global, tokens: &[Token], places: Vec<usize>) -> Result<Vec<usize>, OutOfMemory>
+    requires { All (IsItem tokens.now) places.items }
+    ensures { IfOk result (λ sorted. IsSort tokens.now places.items sorted.items) }
 {
+    if are_in_order(tokens, &places) {
+        return Ok(places);
+    }
+    let mut items = items_at(alloc, tokens, &places)?;
+    items.sort_by(|one, two| compare_heads(&one.head, &two.head))?;
+    places_of(alloc, &items)
+}
+
+/// Whether the items at these places stand in their order already.
+fn are_in_order(tokens: &[Token], places: &[usize]) -> bool
+    ensures { result ≡ true → IsSortedBy (comes_before tokens.now) places.now }
+{
+    let mut at = 1;
+    while at < places.len() {
+        if compare_at(tokens, places[at], places[at - 1]).is_lt() {
+            return false;
+        }
+        at += 1;
+    }
+    true
+}
+
+/// The items that begin as the one at `from` does, and those behind them.
+fn run_at(
+    alloc: Global,
+    tokens: &[Token],
+    ends: &[usize],
+    places: &[usize],
+    from: usize,
+) -> Result<Run, OutOfMemory>
+    requires ends { AreEnds tokens.now ends.now }
+    requires some { from < length places.now }
+    requires items { All (IsItem tokens.now) (drop from places.now) }
+    ensures { IfOk result (IsRun tokens.now ends.now places.now from) }
+{
+    let mut behind = Vec::new(alloc);
+    gather_behind(tokens, ends, places[from], &mut behind)?;
     let mut end = from + 1;
     while end < places.len() && compare_at(tokens, places[from], places[end]).is_eq() {
+        gather_behind(tokens, ends, places[end], &mut behind)?;
         end += 1;
     }
-    end
+    Ok(Run { end, behind })
 }
 
 /// The places of the items of all nodes that stand behind the operations at these places.
@@ -152,11 +204,27 @@ pub(crate) fn items_behind(
 {
     let mut behind = Vec::new(alloc);
     for place in run {
-        if let Token::Op(_) = &tokens[*place] {
-            gather_items(tokens, ends, *place + 1, &mut behind)?;
-        }
+        gather_behind(tokens, ends, *place, &mut behind)?;
     }
     Ok(behind)
+}
+
+/// Adds the places of the items behind the one at a place: those of the node behind an operation, none
+/// behind an attestation.
+fn gather_behind(
+    tokens: &[Token],
+    ends: &[usize],
+    place: usize,
+    behind: &mut Vec<usize>,
+) -> Result<(), OutOfMemory>
+    requires ends { AreEnds tokens.now ends.now }
+    requires item { IsItem tokens.now place }
+    ensures { OnOk result (GathersBehind tokens.now ends.now place behind.old.items behind.new.items) }
+{
+    if let Token::Op(_) = &tokens[place] {
+        gather_items(tokens, ends, place + 1, behind)?;
+    }
+    Ok(())
 }
 
 /// Adds the places of the items of the node that begins at a place.

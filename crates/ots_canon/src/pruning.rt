@@ -1,17 +1,26 @@
 //! Keeping the one path that says most.
 ghost use Rattle.std.specs.Prelude.{◌≡◌, ◌+◌, ◌<◌, ◌↔◌, ◌∷◌, [], IfOk, Some, true, length, All};
 ghost use Rattle.std.specs.List.{filter};
-ghost use Rattle.ots_canon.specs.Leading.{token_height, lower, IsLeastHeight, Leads, AreLeads, AreLeadsFrom, IsFirstMarked, first_of, is_of_run, IsLineOfFirst};
-ghost use Rattle.ots_canon.specs.Places.{HasNode, AreNodes, AreEnds};
+ghost use Rattle.ots_canon.specs.Leading.{token_height, lower, IsLeastHeight, Leads, AreLeadsFrom, AreMarks, IsFirstMarked, first_of, is_of_run, IsLineOfFirst};
+ghost use Rattle.ots_canon.specs.Places.{HasNode, AreNodes, AreEndsFrom};
 ghost use Rattle.ots_canon.specs.Prune.{IsPruneOf};
 
 use crate::form::canon;
 use crate::merging::{gather_items, items_behind};
-use crate::tokens::{compare_at, ends_of};
+use crate::tokens::{compare_at, end_at};
 use ots_attest::Attestation;
 use ots_base::OutOfMemory;
 use ots_tree::{Token, Tree, from_tokens};
 use std::alloc::Global;
+
+/// What is known of the node that begins at each token.
+#[derive(Drop)]
+struct Marks {
+    /// The place behind it.
+    ends: Vec<usize>,
+    /// Whether it has a path that ends in the height.
+    leads: Vec<bool>,
+}
 
 /// The tree of one path: of those that end in the least Bitcoin height the first in the order of
 /// paths. Where no path ends in a Bitcoin attestation, it is the canonical form of the tree. Heights
@@ -70,8 +79,7 @@ fn first_path(alloc: Global, tokens: &[Token], height: u64) -> Result<Vec<Token>
     requires root { HasNode tokens.now 0 }
     ensures { IfOk result (λ path. IsLineOfFirst tokens.now height (0 ∷ []) path.items) }
 {
-    let ends = ends_of(alloc, tokens)?;
-    let leads = leads_of(alloc, tokens, &ends, height)?;
+    let Marks { ends, leads } = marks_of(alloc, tokens, height)?;
     let mut path = Vec::new(alloc);
     let mut items = Vec::new(alloc);
     gather_items(tokens, &ends, 0, &mut items)?;
@@ -87,31 +95,29 @@ fn first_path(alloc: Global, tokens: &[Token], height: u64) -> Result<Vec<Token>
     Ok(path)
 }
 
-/// For each token whether the node that begins there has a path that ends in this Bitcoin height.
-fn leads_of(
-    alloc: Global,
-    tokens: &[Token],
-    ends: &[usize],
-    height: u64,
-) -> Result<Vec<bool>, OutOfMemory>
-    requires nodes { AreNodes tokens.now }
-    requires ends { AreEnds tokens.now ends.now }
-    ensures { IfOk result (λ leads. AreLeads tokens.now height leads.items) }
+/// For each token where the node ends that begins there, and whether it has a path that ends in this
+/// Bitcoin height.
+fn marks_of(alloc: Global, tokens: &[Token], height: u64) -> Result<Marks, OutOfMemory>
+    requires { AreNodes tokens.now }
+    ensures { IfOk result (AreMarks tokens.now height) }
 {
+    let mut ends = Vec::new(alloc);
+    ends.resize(tokens.len(), 0)?;
     let mut leads = Vec::new(alloc);
     leads.resize(tokens.len(), false)?;
     let mut at = tokens.len();
     while at > 0 {
         at -= 1;
-        leads[at] = leads_at(tokens, ends, height, at, &leads);
+        ends[at] = end_at(tokens, at, &ends);
+        leads[at] = leads_at(tokens, &ends, height, at, &leads);
     }
-    Ok(leads)
+    Ok(Marks { ends, leads })
 }
 
 /// Whether the node that begins here has such a path, where that is known of those behind.
 fn leads_at(tokens: &[Token], ends: &[usize], height: u64, at: usize, leads: &[bool]) -> bool
     requires nodes { AreNodes tokens.now }
-    requires ends { AreEnds tokens.now ends.now }
+    requires ends { AreEndsFrom tokens.now (at + 1) ends.now }
     requires in_range { at < length tokens.now }
     requires leads { AreLeadsFrom tokens.now height (at + 1) leads.now }
     ensures { (result ≡ true) ↔ Leads tokens.now height at }

@@ -59,7 +59,7 @@ pub(crate) fn ends_of(alloc: Global, tokens: &[Token]) -> Result<Vec<usize>, Out
 }
 
 /// The place behind the node that begins here, where those behind it are known.
-fn end_at(tokens: &[Token], at: usize, ends: &[usize]) -> usize
+pub(crate) fn end_at(tokens: &[Token], at: usize, ends: &[usize]) -> usize
     requires nodes { AreNodes tokens.now }
     requires in_range { at < length tokens.now }
     requires ends { AreEndsFrom tokens.now (at + 1) ends.now }

@@ -1,41 +1,41 @@
 use Rattle.std.proofs.Common.{◌+◌, get_or, arith, inl, inr}
-use Rattle.ots_canon.proofs.Ends.{at_fork, at_op, weaker}
+use Rattle.ots_canon.proofs.Ends.{at_fork, at_op}
 use Rattle.ots_canon.proofs.Leading.{leads_fork, leads_op, leads_here}
 use Rattle.ots_canon.proofs.pruning.leads_at.Goals as goal
 
 pub bounds-leads-at : goal.bounds-leads-at
 bounds-leads-at c =
-    let f = at_fork c.args.tokens.now c.args.ends.now c.args.at c.index-tokens-at.result (weaker c.args.tokens.now c.args.ends.now (c.args.at + 1) c.requires.ends) (c.requires.nodes c.args.at c.requires.in_range) c.index-tokens-at.is c.in-Fork.is in
+    let f = at_fork c.args.tokens.now c.args.ends.now c.args.at c.index-tokens-at.result c.requires.ends (c.requires.nodes c.args.at c.requires.in_range) c.index-tokens-at.is c.in-Fork.is in
     let same = c.requires.leads.length_is in
     omega arith
 
 pub bounds-ends-at : goal.bounds-ends-at
 bounds-ends-at c =
-    let f = at_fork c.args.tokens.now c.args.ends.now c.args.at c.index-tokens-at.result (weaker c.args.tokens.now c.args.ends.now (c.args.at + 1) c.requires.ends) (c.requires.nodes c.args.at c.requires.in_range) c.index-tokens-at.is c.in-Fork.is in
+    let f = at_fork c.args.tokens.now c.args.ends.now c.args.at c.index-tokens-at.result c.requires.ends (c.requires.nodes c.args.at c.requires.in_range) c.index-tokens-at.is c.in-Fork.is in
     let same = c.requires.ends.length_is in
     omega arith
 
 pub bounds-leads-ends : goal.bounds-leads-ends
 bounds-leads-ends c =
-    let f = at_fork c.args.tokens.now c.args.ends.now c.args.at c.index-tokens-at.result (weaker c.args.tokens.now c.args.ends.now (c.args.at + 1) c.requires.ends) (c.requires.nodes c.args.at c.requires.in_range) c.index-tokens-at.is c.in-Fork.is in
+    let f = at_fork c.args.tokens.now c.args.ends.now c.args.at c.index-tokens-at.result c.requires.ends (c.requires.nodes c.args.at c.requires.in_range) c.index-tokens-at.is c.in-Fork.is in
     let same = c.requires.leads.length_is in
     omega arith
 
 pub bounds-leads-at-in-Op : goal.bounds-leads-at-in-Op
 bounds-leads-at-in-Op c =
-    let f = at_op c.args.tokens.now c.args.ends.now c.args.at c.index-tokens-at.result c.in-Op.field-0 (weaker c.args.tokens.now c.args.ends.now (c.args.at + 1) c.requires.ends) (c.requires.nodes c.args.at c.requires.in_range) c.index-tokens-at.is c.in-Op.is in
+    let f = at_op c.args.tokens.now c.args.ends.now c.args.at c.index-tokens-at.result c.in-Op.field-0 c.requires.ends (c.requires.nodes c.args.at c.requires.in_range) c.index-tokens-at.is c.in-Op.is in
     let same = c.requires.leads.length_is in
     omega arith
 
 pub returns-then-leads-at : goal.returns-then-leads-at
 returns-then-leads-at c =
-    let f = at_fork c.args.tokens.now c.args.ends.now c.args.at c.index-tokens-at.result (weaker c.args.tokens.now c.args.ends.now (c.args.at + 1) c.requires.ends) (c.requires.nodes c.args.at c.requires.in_range) c.index-tokens-at.is c.in-Fork.is in
+    let f = at_fork c.args.tokens.now c.args.ends.now c.args.at c.index-tokens-at.result c.requires.ends (c.requires.nodes c.args.at c.requires.in_range) c.index-tokens-at.is c.in-Fork.is in
     let inner = f.inner in
     ((λ e. (leads_fork f).1 (inl ((c.requires.leads.leads (c.args.at + 1) (omega arith) inner).0 e))), (λ h. c.if-leads-at.true))
 
 pub returns-else-leads-at : goal.returns-else-leads-at
 returns-else-leads-at c =
-    let f = at_fork c.args.tokens.now c.args.ends.now c.args.at c.index-tokens-at.result (weaker c.args.tokens.now c.args.ends.now (c.args.at + 1) c.requires.ends) (c.requires.nodes c.args.at c.requires.in_range) c.index-tokens-at.is c.in-Fork.is in
+    let f = at_fork c.args.tokens.now c.args.ends.now c.args.at c.index-tokens-at.result c.requires.ends (c.requires.nodes c.args.at c.requires.in_range) c.index-tokens-at.is c.in-Fork.is in
     let next = f.next in
     let rest = c.requires.leads.leads (get_or c.args.ends.now (c.args.at + 1) 0) (omega arith) f.outer in
     let one = c.requires.leads.leads (c.args.at + 1) (omega arith) f.inner in
@@ -43,7 +43,7 @@ returns-else-leads-at c =
 
 pub returns-in-Op : goal.returns-in-Op
 returns-in-Op c =
-    let f = at_op c.args.tokens.now c.args.ends.now c.args.at c.index-tokens-at.result c.in-Op.field-0 (weaker c.args.tokens.now c.args.ends.now (c.args.at + 1) c.requires.ends) (c.requires.nodes c.args.at c.requires.in_range) c.index-tokens-at.is c.in-Op.is in
+    let f = at_op c.args.tokens.now c.args.ends.now c.args.at c.index-tokens-at.result c.in-Op.field-0 c.requires.ends (c.requires.nodes c.args.at c.requires.in_range) c.index-tokens-at.is c.in-Op.is in
     let mark = c.requires.leads.leads (c.args.at + 1) (omega arith) f.inner in
     ((λ e. (leads_op f).1 (mark.0 e)), (λ h. mark.1 ((leads_op f).0 h)))
 

@@ -1,0 +1,19 @@
+//! Laws of calendar addresses and their lists.
+ghost use Rattle.std.specs.Prelude.{◌≡◌, ℕ, List, Bool};
+ghost use Rattle.ots_address.specs.Address.{IsAddress};
+ghost use Rattle.ots_address.specs.AddressList.{AreAddresses, IsBadAddress, pieces_of};
+
+/// A text is the address of one host and one port.
+pub fn one_host_and_port()
+    ensures { (text host other : List ℕ) (port another : ℕ) → IsAddress text host port → IsAddress text other another
+        → (host ≡ other) × (port ≡ another) }
+{}
+
+/// A list has one bad address at most, and none where all of its pieces are addresses. So
+/// `read_addresses` answers its addresses and `BadAddress` each exactly where it should, want of
+/// memory aside.
+pub fn one_list_answer()
+    ensures one { (list : List ℕ) (place other : ℕ) (https another : Bool) → IsBadAddress list place https → IsBadAddress list other another
+        → (place ≡ other) × (https ≡ another) }
+    ensures none { (list : List ℕ) (place : ℕ) (https : Bool) → IsBadAddress list place https → AreAddresses (pieces_of list) → ⊥ }
+{}

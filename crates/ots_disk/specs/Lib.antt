@@ -1,0 +1,10 @@
+pub mod Choice
+pub mod Disk
+pub mod FileDisk
+pub mod History
+pub mod Laws
+pub mod MemoryDisk
+pub mod Moments
+pub mod Notes
+pub mod Reserved
+pub mod TornBytes

@@ -1,0 +1,10 @@
+pub mod AnswerLemmas
+pub mod BufferLemmas
+pub mod FieldLemmas
+pub mod HeadLemmas
+pub mod LinkLemmas
+pub mod OneAnswer
+pub mod ReplyHeadLemmas
+pub mod ReplyLemmas
+pub mod RequestHeadLemmas
+pub mod WriteLemmas

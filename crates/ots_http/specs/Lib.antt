@@ -1,0 +1,16 @@
+pub mod DraftRoom
+pub mod Fields
+pub mod FieldValues
+pub mod Given
+pub mod Head
+pub mod LineEnds
+pub mod Reading
+pub mod ReplyBodyRead
+pub mod ReplyHeadRead
+pub mod ReplyTable
+pub mod ReplyText
+pub mod RequestHeadRead
+pub mod RequestRead
+pub mod RequestTable
+pub mod RequestText
+pub mod Written

@@ -1,0 +1,98 @@
+//! Replies that a calendar writes.
+ghost use Rattle.std.specs.Prelude.{◌≡◌, ◌≤◌, ◌^◌, ◌<◌, length};
+ghost use Rattle.ots_base.specs.Cause.{HasCause};
+ghost use Rattle.ots_tree.specs.Wire.{spelled};
+ghost use Rattle.ots_http.specs.ReplyText.{IsReply, reply_bytes, reply_head, text_reply, tree_reply, status_of};
+ghost use Rattle.ots_http.specs.Written.{WritesAll};
+
+use crate::draft::Draft;
+use crate::word::Word;
+use crate::writing::{LinkFault, write_bytes};
+use ots_base::MAX_PROOF_FILE;
+use ots_outside::{Link, LinkSink};
+use ots_tree::{Tree, spell_to, spelled_length};
+
+/// A reply of a calendar.
+#[derive(Debug, Drop)]
+pub enum Reply {
+    /// Status 200 and this tree, whose spelling has at most `MAX_PROOF_FILE` bytes.
+    Tree(Tree),
+    /// A status and the words that stand with it.
+    Text(u16, Word),
+}
+
+/// Writes a reply: one without a tree in one piece, and a tree after its head as `spell_to` spells
+/// it.
+///
+/// `LinkFault` comes only where the link's count of faults rose, and the link has then taken a front
+/// of the reply. It takes no memory.
+pub fn write_reply<L: Link>(link: &mut L, reply: &Reply) -> Result<(), LinkFault>
+    requires { IsReply reply.now }
+    ensures written { WritesAll (reply_bytes reply.now) (L.told link.old) (L.told link.new) result }
+    ensures cause { HasCause (L.faults link.old) (L.faults link.new) result }
+    ensures same { L.same link.old link.new }
+{
+    match reply {
+        Reply::Tree(tree) => write_tree(link, tree),
+        Reply::Text(status, word) => write_text(link, *status, *word),
+    }
+}
+
+/// Writes the reply with this status and these words.
+fn write_text<L: Link>(link: &mut L, status: u16, word: Word) -> Result<(), LinkFault>
+    ensures written { WritesAll (text_reply status word) (L.told link.old) (L.told link.new) result }
+    ensures cause { HasCause (L.faults link.old) (L.faults link.new) result }
+    ensures same { L.same link.old link.new }
+{
+    let words = word.words();
+    let mut draft = draft_head(status, word.phrase(), "text/plain", words.len() as u64 + 1);
+    draft.add(words.as_bytes());
+    draft.add(b"\n");
+    write_bytes(link, draft.text())
+}
+
+/// Writes the reply with this tree.
+fn write_tree<L: Link>(link: &mut L, tree: &Tree) -> Result<(), LinkFault>
+    requires { length (spelled tree.now) ≤ MAX_PROOF_FILE }
+    ensures written { WritesAll (tree_reply (spelled tree.now)) (L.told link.old) (L.told link.new) result }
+    ensures cause { HasCause (L.faults link.old) (L.faults link.new) result }
+    ensures same { L.same link.old link.new }
+{
+    let head = draft_head(200, "OK", "application/octet-stream", spelled_length(tree));
+    match write_bytes(link, head.text()) {
+        Ok(()) => write_spelling(link, tree),
+        Err(_) => Err(LinkFault),
+    }
+}
+
+/// Writes the bytes of a tree.
+fn write_spelling<L: Link>(link: &mut L, tree: &Tree) -> Result<(), LinkFault>
+    ensures written { WritesAll (spelled tree.now) (L.told link.old) (L.told link.new) result }
+    ensures cause { HasCause (L.faults link.old) (L.faults link.new) result }
+    ensures same { L.same link.old link.new }
+{
+    match spell_to(tree, &mut LinkSink::new(link)) {
+        Ok(()) => Ok(()),
+        Err(_) => Err(LinkFault),
+    }
+}
+
+/// The head of a reply.
+fn draft_head(status: u16, phrase: &str, kind: &str, size: u64) -> Draft
+    requires phrase { length phrase.now ≤ 32 }
+    requires kind { length kind.now ≤ 32 }
+    ensures head { result ≡ reply_head status phrase.now kind.now size }
+    ensures short { length result ≤ 256 }
+{
+    let mut draft = Draft::new();
+    draft.add(b"HTTP/1.1 ");
+    draft.add_number(u64::from(status));
+    draft.add(b" ");
+    draft.add(phrase.as_bytes());
+    draft.add(b"\r\nContent-Type: ");
+    draft.add(kind.as_bytes());
+    draft.add(b"\r\nContent-Length: ");
+    draft.add_number(size);
+    draft.add(b"\r\nConnection: close\r\n\r\n");
+    draft
+}

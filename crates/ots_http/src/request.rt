@@ -1,0 +1,150 @@
+//! Requests to a calendar.
+ghost use Rattle.std.specs.Prelude.{◌≡◌, ◌+◌, ◌≤◌, ℕ, List, length, map, take, All, IfOk, IsErrOf};
+ghost use Rattle.ots_base.specs.Cause.{HasCauseWhere};
+ghost use Rattle.ots_base.specs.Told.{IfTold};
+ghost use Rattle.httparse.specs.Spans.{IsWithin, IsHeaderWithin, span_bytes, header_bytes};
+ghost use Rattle.ots_http.specs.Given.{GivesAtMost};
+ghost use Rattle.ots_http.specs.RequestTable.{get_request};
+ghost use Rattle.ots_http.specs.RequestRead.{IsRequestAnswer, DecidesHead, DecidesPost, digest_of};
+ghost use Rattle.ots_http.specs.declared.request.RequestError.TheVariants.{LinkFault};
+
+use crate::fields::{FieldValues, StatedLength, stated_length, values_of};
+use crate::limits::{MAX_FIELDS, MAX_HEAD};
+use crate::reading::read_on;
+use crate::request_head::{RequestHeadRead, read_request_head};
+use httparse::spans::{EMPTY_HEADER_SPAN, HeaderSpan, RequestSpans};
+use ots_outside::{Failed, Leaf, Link, MAX_DIGEST, Wanted};
+
+/// What a request asks of a calendar.
+#[derive(Clone, Copy, Debug)]
+pub enum Request {
+    /// To timestamp this digest.
+    Digest(Leaf),
+    /// For the timestamp of this commitment.
+    Timestamp(Wanted),
+    /// Nothing that a calendar does: the status of the reply.
+    Refused(u16),
+}
+
+/// Why no request was read.
+#[derive(Clone, Copy, Debug, PartialEq, Eq)]
+pub enum RequestError {
+    /// The link ended before its first byte.
+    Closed,
+    /// A read failed, and the link has counted the fault.
+    LinkFault,
+}
+
+impl From<Failed> for RequestError {
+    ghost from_gives = { λ _ e. e ≡ LinkFault };
+
+    fn from(_: Failed) -> Self {
+        RequestError::LinkFault
+    }
+}
+
+/// The request that a link's input is, by the table of this project's HTTP profile, however the
+/// reads are cut.
+///
+/// It reads at most `MAX_HEAD` bytes for the head and `MAX_DIGEST` for the digest. `Closed` comes
+/// exactly where the link ended before its first byte, and `LinkFault` only where its count of
+/// faults rose. It takes no memory.
+pub fn read_request<L: Link>(link: &mut L) -> Result<Request, RequestError>
+    ensures answer { IfTold (L.told link.old) (λ told. IsRequestAnswer told.left result) }
+    ensures came { GivesAtMost (MAX_HEAD + MAX_DIGEST) (L.told link.old) (L.told link.new) }
+    ensures cause { HasCauseWhere (IsErrOf result RequestError.LinkFault) (L.faults link.old) (L.faults link.new) }
+    ensures same { L.same link.old link.new }
+{
+    let mut buffer = [0; MAX_HEAD + MAX_DIGEST];
+    let mut fields = [EMPTY_HEADER_SPAN; MAX_FIELDS];
+    match read_request_head(link, &mut buffer, &mut fields)? {
+        RequestHeadRead::Ended => Err(RequestError::Closed),
+        RequestHeadRead::NoHead => Ok(Request::Refused(400)),
+        RequestHeadRead::Head(head, filled) => {
+            match decide_head(&buffer[..filled], &fields[..head.headers], head) {
+                Ok(size) => match read_on(link, &mut buffer, filled, head.len + size) {
+                    Ok(count) => Ok(digest_of_size(&buffer[head.len..count], size)),
+                    Err(_) => Err(RequestError::LinkFault),
+                },
+                Err(request) => Ok(request),
+            }
+        }
+    }
+}
+
+/// The request that a head decides by itself, or the length of the digest that has to follow it.
+fn decide_head(buffer: &[u8], fields: &[HeaderSpan], head: RequestSpans) -> Result<usize, Request>
+    requires method { IsWithin (length buffer.now) head.method }
+    requires target { IsWithin (length buffer.now) head.path }
+    requires fields { All (IsHeaderWithin (length buffer.now)) fields.now }
+    ensures { DecidesHead (span_bytes buffer.now head.method) (span_bytes buffer.now head.path) (map (header_bytes buffer.now) fields.now) result }
+{
+    let method = head.method.of(buffer);
+    let target = head.path.of(buffer);
+    if target == b"/digest".as_slice() {
+        if method != b"POST".as_slice() {
+            return Err(Request::Refused(405));
+        }
+        return decide_post(buffer, fields);
+    }
+    match target.strip_prefix(b"/timestamp/".as_slice()) {
+        None => Err(Request::Refused(404)),
+        Some(digits) => {
+            if method != b"GET".as_slice() {
+                return Err(Request::Refused(405));
+            }
+            Err(read_digits(digits))
+        }
+    }
+}
+
+/// What the fields of a POST decide.
+fn decide_post(buffer: &[u8], fields: &[HeaderSpan]) -> Result<usize, Request>
+    requires { All (IsHeaderWithin (length buffer.now)) fields.now }
+    ensures { DecidesPost (map (header_bytes buffer.now) fields.now) result }
+{
+    let codings = values_of(buffer, fields, b"transfer-encoding");
+    if !matches!(codings, FieldValues::Absent) {
+        return Err(Request::Refused(400));
+    }
+    match stated_length(buffer, fields, MAX_DIGEST) {
+        StatedLength::Absent => Err(Request::Refused(411)),
+        StatedLength::Malformed => Err(Request::Refused(400)),
+        StatedLength::TooGreat => Err(Request::Refused(413)),
+        StatedLength::Length(0) => Err(Request::Refused(400)),
+        StatedLength::Length(size) => Ok(size),
+    }
+}
+
+/// The request for the commitment of these hexadecimal digits.
+fn read_digits(digits: &[u8]) -> Request
+    ensures { result ≡ get_request digits.now }
+{
+    if digits.len() > 2 * MAX_DIGEST {
+        return Request::Refused(404);
+    }
+    let mut bytes = [0; MAX_DIGEST];
+    let room = &mut bytes[..digits.len() / 2];
+    if hex::decode_to_slice(digits, room).is_err() {
+        return Request::Refused(400);
+    }
+    match Wanted::new(room) {
+        Some(wanted) => Request::Timestamp(wanted),
+        None => Request::Refused(400),
+    }
+}
+
+/// The digest of this size, of which these are the first bytes, or all where the input ended.
+fn digest_of_size(bytes: &[u8], size: usize) -> Request
+    requires least { 1 ≤ size }
+    requires most { size ≤ MAX_DIGEST }
+    ensures { (body : List ℕ) → bytes.now ≡ take size body → result ≡ digest_of size body }
+{
+    if bytes.len() < size {
+        return Request::Refused(400);
+    }
+    match Leaf::new(bytes) {
+        Ok(leaf) => Request::Digest(leaf),
+        Err(_) => Request::Refused(400),
+    }
+}

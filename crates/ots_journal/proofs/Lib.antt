@@ -1,0 +1,13 @@
+pub mod Appending
+pub mod Found
+pub mod Gates
+pub mod GroupReading
+pub mod Groups
+pub mod OldReading
+pub mod Places
+pub mod Putting
+pub mod Refreshing
+pub mod Sizes
+pub mod Staging
+pub mod Standing
+pub mod Unique

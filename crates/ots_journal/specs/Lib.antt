@@ -1,0 +1,5 @@
+pub mod Image
+pub mod Journal
+pub mod Opening
+pub mod Stored
+pub mod Version1
