@@ -1,0 +1,7 @@
+pub mod Batches
+pub mod Conversing
+pub mod Exchanging
+pub mod Founded
+pub mod Gathered
+pub mod OneOutcome
+pub mod Questions

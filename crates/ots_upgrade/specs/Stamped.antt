@@ -1,0 +1,67 @@
+-- What is made of files that are stamped together. Source: the client of the reference library (opentimestamps-client,
+-- otsclient/cmds.py, stamp_command): each digest is hashed with a nonce of its own, and one tree stands over all of these.
+use Rattle.std.specs.Prelude.{◌≡◌, ◌<◌, ◌≤◌, ◌+◌, ℕ, List, [], ◌∷◌, ◌++◌, length, map, Option, None, Some}
+use Rattle.std.specs.List.{flat_map}
+use Rattle.sha2.specs.Sha256.{sha256}
+use Rattle.ots_ops.specs.declared.op.Op.{Op}
+use Rattle.ots_ops.specs.declared.op.Op.TheVariants.{Append, Sha256}
+use Rattle.ots_ops.specs.declared.hash_op.HashOp.TheVariants as hash
+use Rattle.ots_tree.specs.declared.token.Token.{Token}
+use Rattle.ots_tree.specs.declared.detached.Detached.{Detached}
+use Rattle.ots_tree.specs.Made.{behind}
+use Rattle.ots_tree.specs.Wire.{Node, paths, pre}
+use Rattle.ots_canon.specs.Canonical.{IsCanonTree}
+use Rattle.ots_merkle.specs.CalendarTree.{path}
+use Rattle.ots_upgrade.specs.declared.target.Target.{Target}
+use Rattle.ots_upgrade.specs.declared.outcome.Outcome.{Outcome}
+use Rattle.ots_upgrade.specs.declared.outcome.Outcome.TheVariants as outcome
+
+-- the leaf of a file: SHA-256 (FIPS 180-4) of its digest and then its nonce
+abbrev pub leaf : Target → List ℕ
+leaf t = sha256 (t.digest ++ t.nonce)
+
+abbrev pub leaves : List Target → List (List ℕ)
+leaves targets = map leaf targets
+
+-- The number of operations before a calendar's answer: those of the longest path, and two before it.
+pub record IsDepth (leaves : List (List ℕ)) (depth : ℕ) : Type 0 where
+  pub most : (i : ℕ) → i < length leaves → length (path leaves i) + 2 ≤ depth
+  pub longest : (i : ℕ) × (i < length leaves) × (length (path leaves i) + 2 ≡ depth)
+
+-- the operations from a file's digest to the root: its nonce is put behind it, that is hashed, and its path follows
+abbrev pub to_root : List (List ℕ) → ℕ → Target → List Op
+to_root leaves i t = Append t.nonce ∷ Sha256 ∷ path leaves i
+
+-- the trees that calendars answered, in order
+abbrev pub good_trees : List Outcome → List (List Token)
+good_trees [] = []
+good_trees (outcome.Tree tree ∷ outcomes) = tree ∷ good_trees outcomes
+good_trees (outcome.Unreachable ∷ outcomes) = good_trees outcomes
+good_trees (outcome.Status code ∷ outcomes) = good_trees outcomes
+good_trees (outcome.TooLong ∷ outcomes) = good_trees outcomes
+good_trees (outcome.BadHttp ∷ outcomes) = good_trees outcomes
+good_trees (outcome.BadReply fault ∷ outcomes) = good_trees outcomes
+
+-- The proof of one of these files: in canonical form, its paths are those of every good tree, each behind the operations
+-- from the digest to the root.
+pub record IsStampOf (targets : List Target) (i : ℕ) (t : Target) (trees : List (List Token)) (proof : Detached) : Type 0 where
+  pub hash : proof.hash ≡ hash.Sha256
+  pub digest : proof.digest ≡ t.digest
+  pub nodes : List Node
+  pub are : map pre nodes ≡ trees
+  pub form : IsCanonTree (map (behind (to_root (leaves targets) i t)) (flat_map paths nodes)) proof.tree
+
+-- ---- for the code
+
+-- One tree has the paths of all these, in order.
+pub record Gathers (trees : List (List Token)) (made : List Token) : Type 0 where
+  pub nodes : List Node
+  pub are : map pre nodes ≡ trees
+  pub node : Node
+  pub is : pre node ≡ made
+  pub paths_are : paths node ≡ flat_map paths nodes
+
+-- One tree has the paths of all these, or there is none.
+abbrev pub GathersAny : List (List Token) → Option (List Token) → Type 0
+GathersAny trees None = trees ≡ []
+GathersAny trees (Some made) = Gathers trees made

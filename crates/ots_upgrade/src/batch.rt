@@ -1,0 +1,181 @@
+//! Files that are stamped together.
+ghost use Rattle.std.specs.Prelude.{◌≡◌, ◌≤◌, ◌<◌, ◌+◌, ◌^◌, ◌⊎◌, ℕ, List, Some, length, map, take, slice_get, slice_index_or, [], ◌∷◌, IfOk};
+ghost use Rattle.ots_merkle.specs.CalendarTree.{path, root};
+ghost use Rattle.ots_tree.specs.Sound.{IsSoundPre};
+ghost use Rattle.ots_tree.specs.declared.token.Token.{Token};
+ghost use Rattle.ots_upgrade.specs.declared.target.Target.{Target};
+ghost use Rattle.ots_upgrade.specs.Batch.{IsCanonUnder, IsLongest};
+ghost use Rattle.ots_upgrade.specs.Stamped.{Gathers, IsDepth, IsStampOf, leaf, leaves};
+
+use crate::target::Target;
+use ots_base::OutOfMemory;
+use ots_canon::{canon, sound_results};
+use ots_merkle::{path_is_short, path_leads_to_root, paths, root};
+use ots_ops::{Arg, HashOp, Op, Ops, lengths_of_results};
+use ots_tree::{Detached, Tree, one_tree, paths_of_made_trees, sound_made_trees, under};
+use sha2::{Digest as _, Sha256};
+use std::alloc::Global;
+use std::marker::Model;
+
+/// Files that are stamped together, under one root.
+///
+/// Contracts see the list of the files.
+#[derive(Drop)]
+pub struct Batch {
+    targets: Vec<Target>,
+    leaves: Vec<[u8; 32]>,
+    paths: Vec<Ops>,
+    depth: u32,
+}
+
+impl Model for Batch {
+    ghost use Rattle.std.specs.Prelude.{List};
+    ghost use Rattle.ots_upgrade.specs.declared.target.Target.{Target};
+    ghost use Rattle.ots_upgrade.specs.Batch.{KeepsBatch};
+
+    ghost Value = { List Target };
+
+    ghost view = { λ b. b.targets.items };
+
+    ghost invariant = { λ b. KeepsBatch b.targets.items b.leaves.items b.paths.items b.depth };
+}
+
+impl Batch {
+    /// These files, at least one and at most 1024, each with a nonce of its own. It takes one hash a
+    /// file, and as many again for the tree over them.
+    pub fn new(alloc: Global, targets: Vec<Target>) -> Result<Batch, OutOfMemory>
+        requires least { 1 ≤ length targets.items }
+        requires most { length targets.items ≤ 1024 }
+        ensures { IfOk result (λ batch. batch ≡ targets.items) }
+    {
+        path_is_short();
+        let leaves = leaves_of(alloc, &targets)?;
+        let paths = paths(alloc, &leaves)?;
+        let depth = depth_of(&paths) as u32;
+        Ok(Batch {
+            targets,
+            leaves,
+            paths,
+            depth,
+        })
+    }
+
+    /// The root over the leaves of all files, which calendars are sent.
+    pub fn root(&self) -> [u8; 32]
+        ensures { result ≡ root (leaves self.now) }
+    {
+        root(&self.leaves)
+    }
+
+    /// How many operations stand before a calendar's answer on the longest way from a file to it.
+    pub fn depth(&self) -> u32
+        ensures depth { IsDepth (leaves self.now) result }
+        ensures most { result ≤ 22 }
+    {
+        self.depth
+    }
+
+    /// The files.
+    pub fn targets(&self) -> &[Target]
+        ensures { result.now ≡ self.now }
+    {
+        &self.targets
+    }
+
+    /// The proof of one of the files, where the calendars' good trees are gathered in one.
+    pub fn proof(&self, alloc: Global, i: usize, good: &Tree) -> Result<Detached, OutOfMemory>
+        requires index { i < length self.now }
+        requires sound { (depth : ℕ) → IsDepth (leaves self.now) depth → IsSoundPre (length (root (leaves self.now))) depth good.now }
+        ensures { IfOk result (λ proof. (t : Target) (trees : List (List Token)) → slice_get self.now i ≡ Some t → Gathers trees good.now → IsStampOf self.now i t trees proof) }
+    {
+        lengths_of_results();
+        path_leads_to_root();
+        paths_of_made_trees();
+        sound_made_trees();
+        sound_results();
+        one_tree();
+        let target = &self.targets[i];
+        let ops = ops_to_root(alloc, target, &self.paths[i])?;
+        let tree = canonical_under(alloc, ops.items(), good)?;
+        Ok(Detached {
+            hash: HashOp::Sha256,
+            digest: target.digest,
+            tree,
+        })
+    }
+}
+
+/// The leaves of files.
+fn leaves_of(alloc: Global, targets: &[Target]) -> Result<Vec<[u8; 32]>, OutOfMemory>
+    ensures { IfOk result (λ made. made.items ≡ leaves targets.now) }
+{
+    let mut leaves = Vec::with_capacity(alloc, targets.len())?;
+    for target in targets {
+        leaves.push(leaf_of(target))?;
+    }
+    Ok(leaves)
+}
+
+/// The leaf of a file: SHA-256 of its digest and then its nonce.
+fn leaf_of(target: &Target) -> [u8; 32]
+    ensures { result ≡ leaf target.now }
+{
+    let mut hasher = Sha256::new();
+    hasher.update(target.digest.bytes());
+    hasher.update(&target.nonce);
+    hasher.finalize()
+}
+
+/// Two more than the length of the longest of these paths.
+fn depth_of(paths: &[Ops]) -> usize
+    ensures { IsLongest paths.now (length paths.now) result }
+{
+    let mut longest = 0;
+    for ops in paths {
+        longest = longer(longest, ops);
+    }
+    longest
+}
+
+/// The greater of a number and two more than the length of these operations.
+fn longer(longest: usize, ops: &Ops) -> usize
+    ensures above { longest ≤ result }
+    ensures fits { length ops.now + 2 ≤ result }
+    ensures which { (result ≡ longest) ⊎ (result ≡ length ops.now + 2) }
+{
+    let length = ops.items().len() + 2;
+    if longest < length { length } else { longest }
+}
+
+/// The operations from a file's digest to the root, to which these lead from its leaf.
+fn ops_to_root(alloc: Global, target: &Target, path: &Ops) -> Result<Ops, OutOfMemory>
+    ensures ops { IfOk result (λ ops. ops ≡ Op.Append target.now.nonce ∷ Op.Sha256 ∷ path.now) }
+    ensures nonce { length target.now.nonce ≡ 16 }
+{
+    let nonce = argument_of(alloc, &target.nonce)?;
+    let mut ops = Ops::new(alloc);
+    ops.push(Op::Append(nonce))?;
+    ops.push(Op::Sha256)?;
+    for op in path.items() {
+        ops.push(op.copy()?)?;
+    }
+    Ok(ops)
+}
+
+/// The canonical form of a tree behind operations.
+fn canonical_under(alloc: Global, ops: &[Op], good: &Tree) -> Result<Tree, OutOfMemory>
+    ensures { IfOk result (IsCanonUnder ops.now good.now) }
+{
+    let tree = under(alloc, ops, good.copy()?)?;
+    canon(alloc, &tree)
+}
+
+/// A nonce as an argument.
+fn argument_of(alloc: Global, nonce: &[u8; 16]) -> Result<Arg, OutOfMemory>
+    ensures { IfOk result (λ argument. argument ≡ nonce.now) }
+{
+    match Arg::new(alloc, nonce) {
+        Ok(argument) => Ok(argument),
+        Err(_) => Err(OutOfMemory),
+    }
+}

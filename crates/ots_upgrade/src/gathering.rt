@@ -1,0 +1,37 @@
+//! The trees of all calendars in one.
+ghost use Rattle.std.specs.Prelude.{List, [], ◌∷◌, ◌++◌, IfOk};
+ghost use Rattle.ots_tree.specs.declared.token.Token.{Token};
+ghost use Rattle.ots_upgrade.specs.Stamped.{Gathers, GathersAny, good_trees};
+
+use crate::outcome::Outcome;
+use ots_base::OutOfMemory;
+use ots_tree::{Tree, beside, one_tree, paths_of_made_trees};
+
+/// One node with the items of all good trees, in the order of the calendars, or none where no tree is
+/// good. It copies the trees.
+pub fn gather_good(outcomes: &[Outcome]) -> Result<Option<Tree>, OutOfMemory>
+    ensures { IfOk result (λ gathered. GathersAny (good_trees outcomes.now) gathered) }
+{
+    let mut all: Option<Tree> = None;
+    for outcome in outcomes {
+        if let Outcome::Tree(tree) = outcome {
+            all = Some(beside_any(all, tree.copy()?)?);
+        }
+    }
+    Ok(all)
+}
+
+/// The items of a tree behind those that are gathered.
+fn beside_any(gathered: Option<Tree>, tree: Tree) -> Result<Tree, OutOfMemory>
+    ensures { (trees : List (List Token)) → GathersAny trees gathered → IfOk result (Gathers (trees ++ tree ∷ [])) }
+{
+    paths_of_made_trees();
+    one_tree();
+    match gathered {
+        Some(before) => beside(before, tree),
+        None => {
+            let _ = tree.tokens();
+            Ok(tree)
+        }
+    }
+}
