@@ -1,15 +1,20 @@
 -- Trees gathered in one.
-use Rattle.std.proofs.Common.{◌≡◌, ◌<◌, ◌+◌, ℕ, List, [], ◌∷◌, ◌++◌, length, take, get_or, Option, Some, refl, sym, ap, subst, ◌∙◌, append-nil}
-use Rattle.std.specs.Prelude.{Result, Ok, Err, IfOk}
+use Rattle.std.proofs.Common.{◌≡◌, ◌<◌, ◌+◌, ℕ, List, [], ◌∷◌, ◌++◌, length, take, get_or, Option, None, Some, refl, sym, ap, subst, ◌∙◌, append-nil}
+use Rattle.std.specs.Prelude.{◌↔◌, Result, Ok, Err, IfOk}
 use Rattle.std.specs.List.{flat_map}
 use Rattle.std.proofs.lemmas.Grind.{flat_map-append}
 use Rattle.std.proofs.lemmas.List.{map-append, take_more}
 use Rattle.ots_tree.specs.declared.token.Token.{Token}
 use Rattle.ots_tree.specs.Made.{IsBeside, joined}
 use Rattle.ots_tree.specs.Wire.{IsPre, Node, Path, paths, pre}
+use Rattle.ots_tree.proofs.Closing.{all-left, all-right}
+use Rattle.ots_tree.specs.Sound.{IsSoundPre}
+use Rattle.ots_upgrade.specs.Outcome.{AreSound, IsSoundGathered, IsSoundOutcome}
 use Rattle.ots_upgrade.specs.declared.outcome.Outcome.{Outcome}
 use Rattle.ots_upgrade.specs.declared.outcome.Outcome.TheVariants as outcome
-use Rattle.ots_upgrade.specs.Stamped.{Gathers, GathersAny, good_trees}
+use Rattle.ots_merkle.specs.CalendarTree.{root}
+use Rattle.ots_upgrade.specs.Stamped.{Gathers, GathersAny, IsDepth, IsGatheredBelow, good_trees, leaves}
+use Rattle.ots_upgrade.specs.declared.target.Target.{Target}
 
 -- a first tree is gathered
 pub first_gathered : (trees : List (List Token)) (tree : List Token) → trees ≡ [] → IsPre tree → Gathers (trees ++ tree ∷ []) tree
@@ -71,3 +76,38 @@ gathers_none outcomes i x was all less is none same gathered =
     subst (GathersAny (good_trees (take (i + 1) outcomes))) (sym same)
     (subst (λ (trees : List (List Token)). GathersAny trees was)
     (sym (one_more_good outcomes i x less is ∙ ap (λ (ts : List (List Token)). good_trees (take i outcomes) ++ ts) (no_good x none) ∙ append-nil (good_trees (take i outcomes)))) gathered)
+
+-- ---- soundness
+
+pub sound_beside : {E : Type 0} (n k : ℕ) (first second : List Token) (made : Result (List Token) E)
+    → ((n k : ℕ) (first second made : List Token) → IsBeside first second made → IsSoundPre n k made ↔ (IsSoundPre n k first × IsSoundPre n k second))
+    → IsSoundPre n k first → IsSoundPre n k second → IfOk made (IsBeside first second) → IfOk made (IsSoundPre n k)
+sound_beside n k first second (Err e) law f s beside = tt
+sound_beside n k first second (Ok made) law f s beside = (law n k first second made beside).1 (f, s)
+
+-- that of one outcome more
+taken_sound : (outcomes : List Outcome) (i : ℕ) (x : Outcome) (n k : ℕ) → i < length outcomes → x ≡ get_or outcomes i x → AreSound n k (take (i + 1) outcomes)
+    → AreSound n k (take i outcomes) × IsSoundOutcome n k x
+taken_sound outcomes i x n k less is all =
+    let both : AreSound n k (take i outcomes ++ x ∷ []) =
+          subst (AreSound n k) (take_more outcomes i x less ∙ ap (λ (y : Outcome). take i outcomes ++ y ∷ []) (sym is)) all in
+    (all-left (IsSoundOutcome n k) (take i outcomes) (x ∷ []) both, (all-right (IsSoundOutcome n k) (take i outcomes) (x ∷ []) both).0)
+
+pub sound_tree : (outcomes : List Outcome) (i : ℕ) (x : Outcome) (tree copy : List Token) (was all : Option (List Token)) (made : List Token) (n k : ℕ) → i < length outcomes
+    → x ≡ get_or outcomes i x → x ≡ outcome.Tree tree → copy ≡ tree → all ≡ Some made
+    → (AreSound n k (take i outcomes) → IsSoundGathered n k was) → (IsSoundGathered n k was → IsSoundPre n k copy → IsSoundPre n k made)
+    → AreSound n k (take (i + 1) outcomes) → IsSoundGathered n k all
+sound_tree outcomes i x tree copy was all made n k less is tree-is same made-is before join sound =
+    let parts = taken_sound outcomes i x n k less is sound in
+    subst (IsSoundGathered n k) (sym made-is)
+    (join (before parts.0) (subst (IsSoundPre n k) (sym same) (subst (IsSoundOutcome n k) tree-is parts.1)))
+
+pub sound_none : (outcomes : List Outcome) (i : ℕ) (x : Outcome) (was all : Option (List Token)) (n k : ℕ) → i < length outcomes → x ≡ get_or outcomes i x → all ≡ was
+    → (AreSound n k (take i outcomes) → IsSoundGathered n k was) → AreSound n k (take (i + 1) outcomes) → IsSoundGathered n k all
+sound_none outcomes i x was all n k less is same before sound =
+    subst (IsSoundGathered n k) (sym same) (before (taken_sound outcomes i x n k less is sound).0)
+
+pub sound_below : (targets : List Target) (all : Option (List Token)) (depth : ℕ) → IsDepth (leaves targets) depth
+    → IsSoundGathered (length (root (leaves targets))) depth all → IsGatheredBelow targets all
+sound_below targets None depth deepest sound = tt
+sound_below targets (Some good) depth deepest sound = (depth, deepest, sound)

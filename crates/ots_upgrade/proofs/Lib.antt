@@ -4,4 +4,5 @@ pub mod Exchanging
 pub mod Founded
 pub mod Gathered
 pub mod OneOutcome
+pub mod Provable
 pub mod Questions

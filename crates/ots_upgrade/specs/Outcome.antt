@@ -1,6 +1,7 @@
 -- What came of asking a calendar, by the bytes of its reply. Source: the client's table of this project's HTTP profile; a
 -- body is good where a tree is all of it (python-opentimestamps, opentimestamps/calendar.py: RemoteCalendar.submit).
-use Rattle.std.specs.Prelude.{◌≡◌, ◌<◌, ◌↔◌, ℕ, List, length, Result, Err}
+use Rattle.std.specs.Prelude.{◌≡◌, ◌<◌, ◌↔◌, ℕ, List, length, Option, None, Some, Result, Err}
+use Rattle.std.specs.List.{AllByRecursion}
 use Rattle.ots_http.specs.ReplyTable.{IsOutcome, good, status, too_long, bad_http}
 use Rattle.ots_http.specs.declared.reply.HttpReply.{HttpReply}
 use Rattle.ots_http.specs.declared.reply.ReplyError.{ReplyError}
@@ -9,7 +10,9 @@ use Rattle.ots_reader.specs.declared.fault.Fault.{Fault}
 use Rattle.ots_reader.specs.declared.fault.Reason.TheVariants.{TrailingBytes}
 use Rattle.ots_reader.specs.TreeFault.{HasTreeFault}
 use Rattle.ots_reader.specs.TreeRead.{IsTreeAt}
+use Rattle.ots_tree.specs.declared.token.Token.{Token}
 use Rattle.ots_tree.specs.declared.tree.Tree.{Tree as AnyTree}
+use Rattle.ots_tree.specs.Sound.{IsSoundPre}
 use Rattle.ots_upgrade.specs.declared.outcome.Outcome.{Outcome}
 use Rattle.ots_upgrade.specs.declared.outcome.Outcome.TheVariants.{Tree, Unreachable, Status, TooLong, BadHttp, BadReply}
 
@@ -41,3 +44,20 @@ IsOutcomeOf n k reply Unreachable = Unit {0}
 -- It is unreachable exactly where the link failed.
 abbrev pub IsUnreachableAs : Result HttpReply ReplyError → Outcome → Type 0
 IsUnreachableAs read outcome = (outcome ≡ Unreachable) ↔ (read ≡ Err LinkFault)
+
+-- A tree is sound below a message of n bytes and k operations.
+abbrev pub IsSoundOutcome : ℕ → ℕ → Outcome → Type 0
+IsSoundOutcome n k (Tree t) = IsSoundPre n k t
+IsSoundOutcome n k (BadReply f) = Unit {0}
+IsSoundOutcome n k (Status code) = Unit {0}
+IsSoundOutcome n k TooLong = Unit {0}
+IsSoundOutcome n k BadHttp = Unit {0}
+IsSoundOutcome n k Unreachable = Unit {0}
+
+abbrev pub AreSound : ℕ → ℕ → List Outcome → Type 0
+AreSound n k outcomes = AllByRecursion (IsSoundOutcome n k) outcomes
+
+-- Where trees are gathered in one, that is sound there.
+abbrev pub IsSoundGathered : ℕ → ℕ → Option (List Token) → Type 0
+IsSoundGathered n k None = Unit {0}
+IsSoundGathered n k (Some t) = IsSoundPre n k t

@@ -9,10 +9,12 @@ use Rattle.ots_ops.specs.declared.hash_op.HashOp.TheVariants as hash
 use Rattle.ots_tree.specs.declared.token.Token.{Token}
 use Rattle.ots_tree.specs.declared.detached.Detached.{Detached}
 use Rattle.ots_tree.specs.Made.{behind}
+use Rattle.ots_tree.specs.Sound.{IsSoundPre}
 use Rattle.ots_tree.specs.Wire.{Node, paths, pre}
 use Rattle.ots_canon.specs.Canonical.{IsCanonTree}
-use Rattle.ots_merkle.specs.CalendarTree.{path}
+use Rattle.ots_merkle.specs.CalendarTree.{path, root}
 use Rattle.ots_upgrade.specs.declared.target.Target.{Target}
+use Rattle.ots_upgrade.specs.Outcome.{AreSound}
 use Rattle.ots_upgrade.specs.declared.outcome.Outcome.{Outcome}
 use Rattle.ots_upgrade.specs.declared.outcome.Outcome.TheVariants as outcome
 
@@ -50,6 +52,18 @@ pub record IsStampOf (targets : List Target) (i : ℕ) (t : Target) (trees : Lis
   pub nodes : List Node
   pub are : map pre nodes ≡ trees
   pub form : IsCanonTree (map (behind (to_root (leaves targets) i t)) (flat_map paths nodes)) proof.tree
+
+-- Below the root of these files, and the operations before it, the tree is sound.
+abbrev pub IsSoundBelow : List Target → List Token → Type 0
+IsSoundBelow targets good = (depth : ℕ) × IsDepth (leaves targets) depth × IsSoundPre (length (root (leaves targets))) depth good
+
+-- Below the root of these files each good tree is sound.
+abbrev pub AreSoundBelow : List Target → List Outcome → Type 0
+AreSoundBelow targets outcomes = (depth : ℕ) × IsDepth (leaves targets) depth × AreSound (length (root (leaves targets))) depth outcomes
+
+abbrev pub IsGatheredBelow : List Target → Option (List Token) → Type 0
+IsGatheredBelow targets None = Unit {0}
+IsGatheredBelow targets (Some good) = IsSoundBelow targets good
 
 -- ---- for the code
 

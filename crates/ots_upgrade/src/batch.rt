@@ -1,18 +1,24 @@
 //! Files that are stamped together.
-ghost use Rattle.std.specs.Prelude.{◌≡◌, ◌≤◌, ◌<◌, ◌+◌, ◌^◌, ◌⊎◌, ℕ, List, Some, length, map, take, slice_get, slice_index_or, [], ◌∷◌, IfOk};
+ghost use Rattle.std.specs.Prelude.{◌≡◌, ◌≤◌, ◌<◌, ◌+◌, ◌^◌, ◌⊎◌, ℕ, List, Some, length, map, take, slice_get, slice_index_or, [], ◌∷◌, IfOk, OnErr};
 ghost use Rattle.ots_merkle.specs.CalendarTree.{path, root};
-ghost use Rattle.ots_tree.specs.Sound.{IsSoundPre};
+ghost use Rattle.ots_tree.specs.declared.detached.Detached.{Detached as Proof};
 ghost use Rattle.ots_tree.specs.declared.token.Token.{Token};
 ghost use Rattle.ots_upgrade.specs.declared.target.Target.{Target};
 ghost use Rattle.ots_upgrade.specs.Batch.{IsCanonUnder, IsLongest};
-ghost use Rattle.ots_upgrade.specs.Stamped.{Gathers, IsDepth, IsStampOf, leaf, leaves};
+ghost use Rattle.ots_upgrade.specs.Conversation.{Converse, ConverseUpTo};
+ghost use Rattle.ots_upgrade.specs.Stamping.{to_stamp};
+ghost use Rattle.ots_upgrade.specs.Stamped.{AreSoundBelow, Gathers, IsDepth, IsSoundBelow, IsStampOf, leaf, leaves};
 
+use crate::outcome::Outcome;
+use crate::stamping::stamp_with;
 use crate::target::Target;
 use ots_base::OutOfMemory;
-use ots_canon::{canon, sound_results};
+use ots_address::Address;
+use ots_canon::{canon, one_canon, one_canonical_tree, sound_results};
 use ots_merkle::{path_is_short, path_leads_to_root, paths, root};
-use ots_ops::{Arg, HashOp, Op, Ops, lengths_of_results};
-use ots_tree::{Detached, Tree, one_tree, paths_of_made_trees, sound_made_trees, under};
+use ots_ops::{Arg, Digest, HashOp, Op, Ops, lengths_of_results};
+use ots_outside::Dialer;
+use ots_tree::{Detached, Tree, one_tree, paths_of_made_trees, some_path, sound_made_trees, under};
 use sha2::{Digest as _, Sha256};
 use std::alloc::Global;
 use std::marker::Model;
@@ -61,10 +67,10 @@ impl Batch {
     }
 
     /// The root over the leaves of all files, which calendars are sent.
-    pub fn root(&self) -> [u8; 32]
+    pub fn root(&self) -> Digest
         ensures { result ≡ root (leaves self.now) }
     {
-        root(&self.leaves)
+        Digest::new(&root(&self.leaves)).unwrap()
     }
 
     /// How many operations stand before a calendar's answer on the longest way from a file to it.
@@ -75,6 +81,22 @@ impl Batch {
         self.depth
     }
 
+    /// Sends the root to each calendar in order, as [`stamp_with`] does.
+    pub fn ask<D: Dialer>(
+        &self,
+        alloc: Global,
+        dialer: &mut D,
+        calendars: &[Address],
+    ) -> Result<Vec<Outcome>, OutOfMemory>
+        ensures asked { IfOk result (λ outcomes. (depth : ℕ) × IsDepth (leaves self.now) depth
+            × Converse D.told D.faults (map (to_stamp (root (leaves self.now)) depth) calendars.now) dialer.old dialer.new outcomes.items) }
+        ensures broken_off { OnErr result ((depth : ℕ) × IsDepth (leaves self.now) depth
+            × ConverseUpTo D.told D.faults (map (to_stamp (root (leaves self.now)) depth) calendars.now) dialer.old dialer.new) }
+        ensures sound { IfOk result (λ outcomes. AreSoundBelow self.now outcomes.items) }
+    {
+        stamp_with(alloc, dialer, calendars, &self.root(), self.depth)
+    }
+
     /// The files.
     pub fn targets(&self) -> &[Target]
         ensures { result.now ≡ self.now }
@@ -82,10 +104,28 @@ impl Batch {
         &self.targets
     }
 
+    /// Each of the files has a proof, whether or not there is memory to make it.
+    pub fn have_proofs(&self, good: &Tree)
+        requires sound { IsSoundBelow self.now good.now }
+        ensures { (i : ℕ) (t : Target) (trees : List (List Token)) → slice_get self.now i ≡ Some t → Gathers trees good.now
+            → (proof : Proof) × IsStampOf self.now i t trees proof }
+    {
+        lengths_of_results();
+        path_leads_to_root();
+        paths_of_made_trees();
+        sound_made_trees();
+        sound_results();
+        one_tree();
+        some_path();
+        one_canon();
+        one_canonical_tree();
+        let _ = good.tokens();
+    }
+
     /// The proof of one of the files, where the calendars' good trees are gathered in one.
     pub fn proof(&self, alloc: Global, i: usize, good: &Tree) -> Result<Detached, OutOfMemory>
         requires index { i < length self.now }
-        requires sound { (depth : ℕ) → IsDepth (leaves self.now) depth → IsSoundPre (length (root (leaves self.now))) depth good.now }
+        requires sound { IsSoundBelow self.now good.now }
         ensures { IfOk result (λ proof. (t : Target) (trees : List (List Token)) → slice_get self.now i ≡ Some t → Gathers trees good.now → IsStampOf self.now i t trees proof) }
     {
         lengths_of_results();
@@ -149,8 +189,7 @@ fn longer(longest: usize, ops: &Ops) -> usize
 
 /// The operations from a file's digest to the root, to which these lead from its leaf.
 fn ops_to_root(alloc: Global, target: &Target, path: &Ops) -> Result<Ops, OutOfMemory>
-    ensures ops { IfOk result (λ ops. ops ≡ Op.Append target.now.nonce ∷ Op.Sha256 ∷ path.now) }
-    ensures nonce { length target.now.nonce ≡ 16 }
+    ensures { IfOk result (λ ops. ops ≡ Op.Append target.now.nonce ∷ Op.Sha256 ∷ path.now) }
 {
     let nonce = argument_of(alloc, &target.nonce)?;
     let mut ops = Ops::new(alloc);

@@ -5,6 +5,7 @@ ghost use Rattle.ots_base.specs.declared.limits.TheConstants.{MAX_MESSAGE, MAX_O
 ghost use Rattle.ots_http.specs.RequestText.{request_bytes};
 ghost use Rattle.ots_upgrade.specs.Conversation.{Converses, ConverseUpTo};
 ghost use Rattle.ots_upgrade.specs.Exchanged.{Exchanges};
+ghost use Rattle.ots_upgrade.specs.Outcome.{IsSoundOutcome};
 ghost use Rattle.std.specs.Prelude.{[], ◌∷◌};
 
 use crate::outcome::{Outcome, outcome_of};
@@ -28,6 +29,7 @@ pub fn converse<D: Dialer>(
     requires depth { shape.depth ≤ MAX_OPERATIONS }
     ensures asked { IfOk result (Converses D.told D.faults (record { address = address.now; asked = asked.now; length = shape.length; depth = shape.depth }) dialer.old dialer.new) }
     ensures broken_off { OnErr result (ConverseUpTo D.told D.faults (record { address = address.now; asked = asked.now; length = shape.length; depth = shape.depth } ∷ []) dialer.old dialer.new) }
+    ensures sound { IfOk result (IsSoundOutcome shape.length shape.depth) }
 {
     let slot = match dialer.connect(address.host(), address.port()) {
         Ok(slot) => slot,

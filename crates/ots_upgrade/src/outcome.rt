@@ -2,7 +2,7 @@
 ghost use Rattle.std.specs.Prelude.{◌≡◌, ◌≤◌, ℕ, List, IfOk};
 ghost use Rattle.ots_base.specs.declared.limits.TheConstants.{MAX_MESSAGE, MAX_OPERATIONS};
 ghost use Rattle.ots_http.specs.ReplyTable.{IsReplyAnswer};
-ghost use Rattle.ots_upgrade.specs.Outcome.{IsOutcomeOf, IsOutcomeOfBody, IsUnreachableAs};
+ghost use Rattle.ots_upgrade.specs.Outcome.{IsOutcomeOf, IsOutcomeOfBody, IsSoundOutcome, IsUnreachableAs};
 
 use ots_base::OutOfMemory;
 use ots_http::{HttpReply, ReplyError};
@@ -38,6 +38,7 @@ pub fn outcome_of(
     requires depth { shape.depth ≤ MAX_OPERATIONS }
     ensures outcome { (reply : List ℕ) → IsReplyAnswer reply read → IfOk result (IsOutcomeOf shape.length shape.depth reply) }
     ensures unreachable { IfOk result (IsUnreachableAs read) }
+    ensures sound { IfOk result (IsSoundOutcome shape.length shape.depth) }
 {
     match read {
         Ok(HttpReply::Good(body)) => outcome_of_body(alloc, body.items(), shape),
@@ -54,7 +55,8 @@ fn outcome_of_body(alloc: Global, body: &[u8], shape: Shape) -> Result<Outcome, 
     requires least { 1 ≤ shape.length }
     requires greatest { shape.length ≤ MAX_MESSAGE }
     requires depth { shape.depth ≤ MAX_OPERATIONS }
-    ensures { IfOk result (IsOutcomeOfBody shape.length shape.depth body.now) }
+    ensures outcome { IfOk result (IsOutcomeOfBody shape.length shape.depth body.now) }
+    ensures sound { IfOk result (IsSoundOutcome shape.length shape.depth) }
 {
     match read_tree(alloc, body, shape) {
         Ok((tree, used)) => {

@@ -2,6 +2,7 @@
 ghost use Rattle.std.specs.Prelude.{◌≡◌, ◌≤◌, ◌∷◌, [], map, length, IfOk, OnErr};
 ghost use Rattle.ots_base.specs.declared.limits.TheConstants.{MAX_OPERATIONS};
 ghost use Rattle.ots_upgrade.specs.Conversation.{Converse, Converses, ConverseUpTo};
+ghost use Rattle.ots_upgrade.specs.Outcome.{AreSound, IsSoundOutcome};
 ghost use Rattle.ots_upgrade.specs.Stamping.{to_stamp};
 
 use crate::conversation::converse;
@@ -26,6 +27,7 @@ pub fn stamp_with<D: Dialer>(
     requires { depth ≤ MAX_OPERATIONS }
     ensures asked { IfOk result (λ outcomes. Converse D.told D.faults (map (to_stamp root.now depth) calendars.now) dialer.old dialer.new outcomes.items) }
     ensures broken_off { OnErr result (ConverseUpTo D.told D.faults (map (to_stamp root.now depth) calendars.now) dialer.old dialer.new) }
+    ensures sound { IfOk result (λ outcomes. AreSound (length root.now) depth outcomes.items) }
 {
     let mut outcomes = Vec::with_capacity(alloc, calendars.len())?;
     for address in calendars {
@@ -46,6 +48,7 @@ fn ask_to_stamp<D: Dialer>(
     requires { depth ≤ MAX_OPERATIONS }
     ensures asked { IfOk result (Converses D.told D.faults (to_stamp root.now depth address.now) dialer.old dialer.new) }
     ensures broken_off { OnErr result (ConverseUpTo D.told D.faults (to_stamp root.now depth address.now ∷ []) dialer.old dialer.new) }
+    ensures sound { IfOk result (IsSoundOutcome (length root.now) depth) }
 {
     let shape = Shape {
         length: root.bytes().len() as u32,

@@ -11,4 +11,5 @@ pub struct Target {
     /// Sixteen bytes that nobody can guess, so that the leaf tells nobody the digest.
     pub nonce: [u8; 16],
     pub ghost is_sha256: { length digest ≡ 32 },
+    pub ghost is_nonce: { length nonce ≡ 16 },
 }

@@ -1,14 +1,23 @@
 use Rattle.std.proofs.Common.{List, Option, subst}
 use Rattle.ots_tree.specs.declared.token.Token.{Token}
+use Rattle.ots_upgrade.specs.Outcome.{IsSoundGathered}
 use Rattle.ots_upgrade.specs.Stamped.{GathersAny}
-use Rattle.ots_upgrade.proofs.Gathered.{first_gathered, more_gathered}
+use Rattle.ots_upgrade.proofs.Gathered.{first_gathered, more_gathered, sound_beside}
 use Rattle.ots_upgrade.proofs.gathering.beside_any.Goals as goal
 
-pub returns-in-Some : goal.returns-in-Some
-returns-in-Some c = λ trees all.
+pub returns-in-Some-clause-gathered : goal.returns-in-Some-clause-gathered
+returns-in-Some-clause-gathered c = λ trees all.
     more_gathered trees c.in-Some.before c.args.tree c.beside.result c.one_tree.ensures c.paths_of_made_trees.ensures.joined
     (subst (λ (o : Option (List Token)). GathersAny trees o) c.in-Some.is all) c.beside.ensures
 
-pub returns-in-None : goal.returns-in-None
-returns-in-None c = λ trees all.
+pub returns-in-Some-clause-sound : goal.returns-in-Some-clause-sound
+returns-in-Some-clause-sound c = λ n k before tree.
+    sound_beside n k c.in-Some.before c.args.tree c.beside.result c.sound_made_trees.ensures.beside
+    (subst (λ (o : Option (List Token)). IsSoundGathered n k o) c.in-Some.is before) tree c.beside.ensures
+
+pub returns-in-None-clause-gathered : goal.returns-in-None-clause-gathered
+returns-in-None-clause-gathered c = λ trees all.
     first_gathered trees c.args.tree (subst (λ (o : Option (List Token)). GathersAny trees o) c.in-None.is all) c.tokens.ensures.pre
+
+pub returns-in-None-clause-sound : goal.returns-in-None-clause-sound
+returns-in-None-clause-sound c = λ n k before tree. tree

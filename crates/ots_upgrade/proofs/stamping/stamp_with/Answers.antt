@@ -1,4 +1,5 @@
-use Rattle.std.proofs.Common.{◌+◌, ◌∷◌, List, map, take, drop, sym, subst, inr}
+use Rattle.std.proofs.Common.{◌+◌, ◌∷◌, [], List, map, take, drop, sym, subst, inr}
+use Rattle.ots_tree.proofs.Closing.{all-append}
 use Rattle.ots_upgrade.specs.Conversation.{ConverseUpTo, Question}
 use Rattle.ots_upgrade.specs.Stamping.{to_stamp}
 use Rattle.ots_upgrade.proofs.Questions.{any_rest, breaks_off_later, nothing_asked, on_err, one_more, split_at, up_to}
@@ -48,4 +49,5 @@ loop-address-preserved g c = record {
       rw (up_to ask c.args.calendars.now i c.address-item.result c.loop-address-test.true c.address-item.is, c.in_ok-push.ensures.items)
       (one_more told faults (take i (map ask c.args.calendars.now)) (ask c.address-item.result) _ _ _ c.loop-address.outcomes.items _
       c.loop-address.invariant.so_far c.in_ok-outcome.ensures.asked);
+  sound = rw c.in_ok-push.ensures.items (all-append _ c.loop-address.outcomes.items (c.in_ok-outcome.outcome ∷ []) c.loop-address.invariant.sound (c.in_ok-outcome.ensures.sound, tt));
 }

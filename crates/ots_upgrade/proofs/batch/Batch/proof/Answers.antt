@@ -8,7 +8,7 @@ use Rattle.ots_tree.specs.Made.{IsSoundBehind, behind}
 use Rattle.ots_tree.specs.Sound.{IsSoundPre}
 use Rattle.ots_tree.specs.Wire.{paths}
 use Rattle.ots_tree.specs.declared.token.Token.{Token}
-use Rattle.ots_upgrade.specs.Stamped.{IsDepth, leaves, to_root}
+use Rattle.ots_upgrade.specs.Stamped.{IsSoundBelow, leaves, to_root}
 use Rattle.ots_upgrade.specs.declared.target.Target.{Target}
 use Rattle.ots_upgrade.proofs.Founded.{are_to_root, proof_paths, sound_behind, sound_proof}
 use Rattle.ots_upgrade.proofs.batch.Batch.proof.Goals as goal
@@ -20,15 +20,13 @@ invariant_of-result c =
     let kept = c.self.invariant in
     let good : List Token = c.args.good.now in
     let less : c.args.i < length targets = rw c.self.view_is c.requires.index in
-    let shallow : IsSoundPre (length (root (leaves targets))) c.self.inside.depth good =
-    subst (λ (ts : List Target). (depth : ℕ) → IsDepth (leaves ts) depth → IsSoundPre (length (root (leaves ts))) depth good)
-    (sym c.self.view_is) c.requires.sound c.self.inside.depth kept.depth_is in
+    let sound : IsSoundBelow targets good = subst (λ (ts : List Target). IsSoundBelow ts good) (sym c.self.view_is) c.requires.sound in
     let behind : IsSoundBehind c.items.result.now 32 0 good =
     subst (λ (ops : List Op). IsSoundBehind ops 32 0 good)
     (sym (are_to_root targets c.self.inside.paths.items c.args.i t c.index.result.now c.items.result.now kept.count kept.paths_are less c.index.ensures
-    (c.items.ensures ∙ c.in_ok-ops.ensures.ops)))
-    (sound_behind c.lengths_of_results.ensures.results targets c.args.i t good c.path_leads_to_root.ensures less c.index-target.ensures t.is_sha256 c.ops_to_root.ensures.nonce
-    c.self.inside.depth kept.depth_is shallow) in
+    (c.items.ensures ∙ c.in_ok-ops.ensures)))
+    (sound_behind c.lengths_of_results.ensures.results targets c.args.i t good c.path_leads_to_root.ensures less c.index-target.ensures t.is_sha256 t.is_nonce
+    sound.0 sound.1 sound.2) in
     record {
       digest_of_hash = t.is_sha256;
       tree_sound = ∣ subst (λ (n : ℕ). IsSoundPre n 0 c.in_ok-tree.tree) (sym t.is_sha256)
@@ -43,7 +41,7 @@ returns c = λ t trees is all.
     let same : c.index-target.result.now ≡ t =
     c.index-target.ensures ∙ get_or_from_slice_get targets c.args.i t c.index-target.result.now (subst (λ (ts : List Target). slice_get ts c.args.i ≡ Some t) (sym c.self.view_is) is) in
     let ops-are = are_to_root targets c.self.inside.paths.items c.args.i c.index-target.result.now c.index.result.now c.items.result.now kept.count kept.paths_are less c.index.ensures
-    (c.items.ensures ∙ c.in_ok-ops.ensures.ops) in
+    (c.items.ensures ∙ c.in_ok-ops.ensures) in
     record {
       hash = refl;
       digest = ap (λ (u : Target). u.digest) same;
