@@ -1,0 +1,4 @@
+pub mod Find
+pub mod Mark
+pub mod Look
+pub mod Path

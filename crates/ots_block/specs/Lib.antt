@@ -1,0 +1,9 @@
+pub mod Compact
+pub mod Transaction
+pub mod Block
+pub mod Reading
+pub mod BlockRead
+pub mod Ends
+pub mod Given
+pub mod Kept
+pub mod OneAnswer
