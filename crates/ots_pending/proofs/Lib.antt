@@ -1,0 +1,13 @@
+mod Ends
+mod Maps
+mod Lists
+mod Raising
+mod Walking
+mod Once
+mod FoundPairs
+mod Putting
+mod GrownTrees
+mod Completion
+mod Askable
+mod SoundTrees
+mod Fits

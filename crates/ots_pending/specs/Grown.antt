@@ -1,0 +1,118 @@
+-- How a walk puts the answers into a tree, token by token: for the code. What comes of it is said by
+-- IsCompleted.
+use Rattle.std.specs.Prelude.{◌≡◌, ℕ, ◌<◌, List, [], ◌∷◌, ◌++◌, map, length, Bool, true, false, Option, None, Some, option_and_then, option_map, if◌then◌else◌}
+use Rattle.std.specs.List.{slice_get}
+use Rattle.ots_attest.specs.declared.attestation.Attestation.TheVariants as attestation
+use Rattle.ots_tree.specs.declared.token.Token.{Token}
+use Rattle.ots_tree.specs.declared.token.Token.TheVariants as token
+use Rattle.ots_tree.specs.declared.token.TokenAt.{TokenAt}
+use Rattle.ots_tree.specs.PendingWalk.{followed}
+use Rattle.ots_tree.specs.Wire.{Node, last, more, pre, pre_item}
+use Rattle.ots_pending.specs.Pairs.{PairAt}
+use Rattle.ots_pending.specs.Completed.{answer_to}
+use Rattle.ots_pending.specs.declared.path.Path.{Path}
+use Rattle.ots_pending.specs.OnPath.{HasNumber, AreNumbers}
+
+-- the items of a node, each with a fork before it
+abbrev pub forked : Node → List Token
+forked (last i) = token.Fork ∷ pre_item i
+forked (more i t) = token.Fork ∷ (pre_item i ++ forked t)
+
+-- the tree that was given for a token at a depth
+abbrev pub answer_at : List PairAt → List (Option Node) → Token → ℕ → List (List ℕ) → Option Node
+answer_at pairs given token.Fork depth messages = None
+answer_at pairs given (token.Op o) depth messages = None
+answer_at pairs given (token.Attestation a) depth messages = answer_to pairs given a (slice_get messages depth)
+
+-- A token, and the items of the tree that was given for it: behind it where a fork stands before it,
+-- since another item follows then, and before it where it is the last item.
+abbrev pub put : Bool → Token → Option Node → List Token
+put b x None = x ∷ []
+put false x (Some t) = forked t ++ x ∷ []
+put true x (Some t) = x ∷ forked t
+
+abbrev pub is_fork : Token → Bool
+is_fork token.Fork = true
+is_fork (token.Op o) = false
+is_fork (token.Attestation a) = false
+
+-- what these tokens become, behind a fork or not, with these messages on the path
+abbrev pub grown : List PairAt → List (Option Node) → Bool → List (List ℕ) → List TokenAt → List Token
+grown pairs given b messages [] = []
+grown pairs given b messages (l ∷ ls) =
+    put b l.token (answer_at pairs given l.token l.depth messages) ++ grown pairs given (is_fork l.token) (followed l.token l.depth messages) ls
+
+-- Where a tree was given, one is ready whose tokens are its items and behind them the pending attestation.
+abbrev pub IsReady : List ℕ → Option Node → Option (List Token) → Type 0
+IsReady uri None None = Unit {0}
+IsReady uri None (Some ts) = ⊥
+IsReady uri (Some t) None = ⊥
+IsReady uri (Some t) (Some ts) = ts ≡ forked t ++ token.Attestation (attestation.Pending uri) ∷ []
+
+abbrev pub IsReadyAt : List ℕ → Option Node → Option (Option (List Token)) → Type 0
+IsReadyAt uri t None = ⊥
+IsReadyAt uri t (Some r) = IsReady uri t r
+
+-- so it is for the first n of these pairs
+abbrev pub AreReadyTo : ℕ → List PairAt → List (Option Node) → List (Option (List Token)) → Type 0
+AreReadyTo n pairs given ready = (i : ℕ) (p : PairAt) (t : Option Node) → i < n → slice_get pairs i ≡ Some p → slice_get given i ≡ Some t
+    → IsReadyAt p.pair.uri t (slice_get ready i)
+
+-- what was given is no tree, or the tokens of one
+pub record IsTree (tree : Option (List Token)) : Type 0 where
+  pub given : Option Node
+  pub is : option_map pre given ≡ tree
+
+pub record AreTrees (trees : List (Option (List Token))) : Type 0 where
+  pub given : List (Option Node)
+  pub are : map (option_map pre) given ≡ trees
+
+-- for all of them
+pub record AreReady (pairs : List PairAt) (trees ready : List (Option (List Token))) : Type 0 where
+  pub long : length trees ≡ length pairs
+  pub each : (given : List (Option Node)) → map (option_map pre) given ≡ trees → AreReadyTo (length pairs) pairs given ready
+
+-- A token asks for the pair at a place, and what is given there is the answer.
+pub record StandsAt (pairs : List PairAt) (x : Token) (depth : ℕ) (messages : List (List ℕ)) (i : ℕ) : Type 0 where
+  pub pair : PairAt
+  pub place : slice_get pairs i ≡ Some pair
+  pub pending : x ≡ token.Attestation (attestation.Pending pair.pair.uri)
+  pub answer : (given : List (Option Node)) → length given ≡ length pairs → slice_get given i ≡ Some (answer_at pairs given x depth messages)
+
+-- Or it asks for none of these pairs, and has no answer.
+abbrev pub IsPairOf : List PairAt → Token → ℕ → List (List ℕ) → Option ℕ → Type 0
+IsPairOf pairs x depth messages None = (given : List (Option Node)) → answer_at pairs given x depth messages ≡ None
+IsPairOf pairs x depth messages (Some i) = StandsAt pairs x depth messages i
+
+-- the number of the message at a depth, where it has one
+abbrev pub IsKnownAt : List (List ℕ) → List (List ℕ) → ℕ → Option ℕ → Type 0
+IsKnownAt messages path depth None = (m : List ℕ) → slice_get path depth ≡ Some m → (i : ℕ) → slice_get messages i ≡ Some m → ⊥
+IsKnownAt messages path depth (Some number) = HasNumber messages path depth number
+
+-- The path has the same messages, and its numbers are right.
+pub record KeepsPath (messages : List (List ℕ)) (old new : Path) : Type 0 where
+  pub same : new.messages.items ≡ old.messages.items
+  pub numbers : AreNumbers messages new
+
+-- A token was put behind these, with the items of the tree that was given for it.
+pub record Grows (pairs : List PairAt) (trees : List (Option (List Token))) (x : Token) (depth : ℕ) (behind_fork : Bool) (messages : List (List ℕ)) (old new : List Token) : Type 0 where
+  pub is : (given : List (Option Node)) → map (option_map pre) given ≡ trees → new ≡ old ++ put behind_fork x (answer_at pairs given x depth messages)
+
+-- the last token first, where a fork stands before
+abbrev pub last_first : List Token → List Token → List Token
+last_first front [] = front
+last_first front (x ∷ []) = x ∷ front
+last_first front (x ∷ y ∷ xs) = last_first (front ++ x ∷ []) (y ∷ xs)
+
+abbrev pub turned : Bool → List Token → List Token
+turned b xs = if b then last_first [] xs else xs
+
+-- a token, or in its place the tree that is ready
+abbrev pub put_ready : Bool → Token → Option (List Token) → List Token
+put_ready b x None = x ∷ []
+put_ready b x (Some ts) = turned b ts
+
+-- what is ready at a place
+abbrev pub tree_at : List (Option (List Token)) → Option ℕ → Option (List Token)
+tree_at ready None = None
+tree_at ready (Some i) = option_and_then (λ r. r) (slice_get ready i)

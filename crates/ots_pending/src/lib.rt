@@ -1,0 +1,28 @@
+//! The pure part of upgrading a timestamp proof: what its pending paths ask calendars for, and the
+//! proof that their answers complete.
+//!
+//! | call | what it is |
+//! |---|---|
+//! | [`pending_pairs`] | each pair of a URI and a message that the proof asks for, once |
+//! | [`completed`] | the proof with the trees that were given for its pairs |
+//! | [`are_sound_for`] | whether trees may be given for its pairs |
+//! | [`has_bitcoin`] | whether some path ends in a Bitcoin attestation |
+#![tactic(auto)]
+
+mod adding;
+mod asked;
+mod bitcoin;
+mod completing;
+mod distinct;
+mod finding;
+mod fitting;
+mod growing;
+mod listing;
+mod pairs;
+mod path;
+mod walk;
+
+pub use bitcoin::has_bitcoin;
+pub use completing::completed;
+pub use fitting::are_sound_for;
+pub use pairs::{Pairs, pending_pairs};
