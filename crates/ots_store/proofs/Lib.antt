@@ -1,0 +1,13 @@
+pub mod Adding
+pub mod Bad
+pub mod Formed
+pub mod Holding
+pub mod Least
+pub mod Numbers
+pub mod Opened
+pub mod Ordered
+pub mod Ranged
+pub mod Recorded
+pub mod Spellings
+pub mod Storing
+pub mod Tipped

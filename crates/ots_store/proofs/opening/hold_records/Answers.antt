@@ -1,0 +1,23 @@
+use Rattle.std.proofs.Common.{◌≡◌, ◌∙◌, ◌++◌, ◌∷◌, List, [], subst, sym, ap, take, get_or, arith, ◌<◌, length}
+use Rattle.ots_journal.specs.declared.entry.Entry.{Entry}
+use Rattle.ots_store.specs.Opening.{HeldTo, HeldNext}
+use Rattle.ots_store.specs.Order.{records_of}
+use Rattle.ots_store.specs.Records.{Record, IsRecord, record_of}
+use Rattle.ots_store.proofs.Opened.{each_more, get_is, records_more}
+use Rattle.ots_store.proofs.Recorded.{entry}
+use Rattle.ots_store.proofs.opening.hold_records.Goals as goal
+
+pub loop-i-preserved : goal.loop-i-preserved
+loop-i-preserved g c =
+    let entries = c.args.journal.now.entries in
+    let i = c.loop-i.i in
+    let e = entry c.entry-kind.result.0 c.entry-kind.result.1.now in
+    let lt = (let there : c.loop-i.i < length entries = omega (arith, c.count-i-end.ensures.count, c.loop-i-test.true) in there) in
+    let same : e ≡ get_or entries i e = get_is entries i e e lt c.entry-kind.ensures in
+    let next : HeldNext (records_of (take i entries)) e c.hold_next.new.held c.hold_next.new.progress = c.in_ok-hold_next.ensures.yes c.if-not-branch.false (records_of (take i entries)) c.loop-i.invariant.held in
+    record {
+      each = each_more entries i e lt c.loop-i.invariant.each (subst IsRecord same next.is);
+      held = subst (λ (l : List Record). HeldTo l c.hold_next.new.held c.hold_next.new.progress)
+          (ap (λ (x : Entry). records_of (take i entries) ++ record_of x ∷ []) same ∙ sym (records_more entries i e lt)) next.now;
+      few = omega (arith, c.in_ok-hold_next.ensures.few, c.loop-i.invariant.few);
+    }

@@ -1,0 +1,10 @@
+pub mod Forms
+pub mod Held
+pub mod Index
+pub mod Marked
+pub mod Opening
+pub mod Order
+pub mod Progress
+pub mod Ranges
+pub mod Records
+pub mod Store

@@ -1,0 +1,34 @@
+-- What the order of records gives of tips and anchors, and a search by ranges rests on.
+use Rattle.std.specs.Prelude.{◌<◌, ◌≤◌, ℕ, List, [], ◌∷◌, length}
+use Rattle.std.specs.List.{AllByRecursion}
+use Rattle.ots_store.specs.declared.anchor.Anchor.{Anchor}
+use Rattle.ots_store.specs.declared.tip.Tip.{Tip}
+use Rattle.ots_store.specs.Records.{Record}
+use Rattle.ots_store.specs.Order.{commits_of, tips_of, anchors_of, tip_end, anchor_end, covered_of}
+
+-- Each anchor begins at or before the end of the one before it, and ends behind that.
+abbrev pub RisesFrom : ℕ → List Anchor → Type 0
+RisesFrom base [] = Unit {0}
+RisesFrom base (anchor ∷ anchors) = (anchor.first ≤ base) × (base < anchor_end anchor) × RisesFrom (anchor_end anchor) anchors
+
+-- The end of the last anchor.
+abbrev pub reach : ℕ → List Anchor → ℕ
+reach base [] = base
+reach base (anchor ∷ anchors) = reach (anchor_end anchor) anchors
+
+abbrev pub EndsBy : ℕ → Anchor → Type 0
+EndsBy i anchor = anchor_end anchor ≤ i
+
+-- The first of these, where there is one, ends behind an index.
+abbrev pub BeginsBehind : ℕ → List Anchor → Type 0
+BeginsBehind i [] = Unit {0}
+BeginsBehind i (anchor ∷ anchors) = i < anchor_end anchor
+
+-- A tip begins by what is covered, and ends by the last commitment.
+abbrev pub IsWithin : ℕ → ℕ → Tip → Type 0
+IsWithin covered commits tip = (tip.first ≤ covered) × (tip_end tip ≤ commits)
+
+pub record Orderly (records : List Record) : Type 0 where
+  pub tips : AllByRecursion (IsWithin (covered_of records) (length (commits_of records))) (tips_of records)
+  pub rises : RisesFrom 0 (anchors_of records)
+  pub within : covered_of records ≤ length (commits_of records)

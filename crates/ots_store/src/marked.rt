@@ -1,0 +1,90 @@
+//! A list whose last items are not acknowledged yet.
+ghost use Rattle.std.specs.Prelude.{◌≡◌, ◌≤◌, ◌<◌, ◌++◌, ◌∷◌, [], ◌^◌, length, IfOk, OnOk, OnErr, MatchOption};
+
+use ots_base::OutOfMemory;
+use std::alloc::Global;
+use std::marker::Model;
+
+/// Items that are acknowledged, and behind them some that are in flight.
+#[derive(Drop)]
+pub struct Marked<T: Drop> {
+    items: Vec<T>,
+    kept: usize,
+}
+
+impl<T: Drop> Model for Marked<T> {
+    ghost use Rattle.std.specs.Prelude.{◌≤◌, take, drop, length};
+    ghost use Rattle.ots_store.specs.Marked.{MarkedTold};
+
+    ghost Value = { MarkedTold T };
+
+    ghost view = { λ m. record { kept = take m.kept m.items.items; flight = drop m.kept m.items.items } };
+
+    ghost invariant = { λ m. m.kept ≤ length m.items.items };
+}
+
+impl<T: Drop> Marked<T> {
+    /// No item.
+    pub fn new(alloc: Global) -> Marked<T>
+        ensures kept { result.kept ≡ [] }
+        ensures flight { result.flight ≡ [] }
+    {
+        Marked {
+            items: Vec::new(alloc),
+            kept: 0,
+        }
+    }
+
+    /// The acknowledged items.
+    pub fn kept(&self) -> &[T]
+        ensures { result.now ≡ self.now.kept }
+    {
+        &self.items.as_slice()[..self.kept]
+    }
+
+    /// How many items there are, those in flight among them.
+    pub fn len(&self) -> usize
+        ensures count { result ≡ length (self.now.kept ++ self.now.flight) }
+        ensures bound { result < 2 ^ 63 }
+    {
+        self.items.len()
+    }
+
+    /// Adds an item in flight.
+    pub fn push(&mut self, item: T) -> Result<(), OutOfMemory>
+        ensures kept { self.new.kept ≡ self.old.kept }
+        ensures ok { OnOk result (self.new.flight ≡ self.old.flight ++ item ∷ []) }
+        ensures err { OnErr result (self.new.flight ≡ self.old.flight) }
+    {
+        self.items.push(item)?;
+        Ok(())
+    }
+
+    /// Takes the last item in flight away.
+    pub fn pop(&mut self) -> Option<T>
+        ensures kept { self.new.kept ≡ self.old.kept }
+        ensures flight { MatchOption result ((self.old.flight ≡ []) × (self.new.flight ≡ [])) (λ item. self.old.flight ≡ self.new.flight ++ item ∷ []) }
+    {
+        if self.items.len() > self.kept {
+            self.items.pop()
+        } else {
+            None
+        }
+    }
+
+    /// Acknowledges all.
+    pub fn keep(&mut self)
+        ensures kept { self.new.kept ≡ self.old.kept ++ self.old.flight }
+        ensures flight { self.new.flight ≡ [] }
+    {
+        self.kept = self.items.len();
+    }
+
+    /// Takes all items in flight away.
+    pub fn forget(&mut self)
+        ensures kept { self.new.kept ≡ self.old.kept }
+        ensures flight { self.new.flight ≡ [] }
+    {
+        self.items.truncate(self.kept);
+    }
+}

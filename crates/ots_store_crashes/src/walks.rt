@@ -1,0 +1,112 @@
+// The index and the ranges beside a walk over the list, on random runs.
+use crate::steps::{Memory, add_anchor, add_tip, new_store};
+use std::alloc::Global;
+use std::test::Fail;
+
+// The least index by a walk.
+fn walk(store: &Memory, commitment: &[u8; 44]) -> Option<u64> {
+    for (i, stored) in store.commitments().iter().enumerate() {
+        if stored == commitment {
+            return Some(i as u64);
+        }
+    }
+    None
+}
+
+// The first of these ranges that has an index, each with its height.
+fn range(ranges: &[(u64, u64, u64)], i: u64) -> u64 {
+    for (first, count, height) in ranges {
+        if *first <= i && i - *first < *count {
+            return *height;
+        }
+    }
+    0
+}
+
+fn same_indexes(store: &Memory) -> bool {
+    for value in 0..12u8 {
+        let commitment = [value; 44];
+        if store.index_of(&commitment) != walk(store, &commitment) {
+            return false;
+        }
+    }
+    true
+}
+
+fn same_ranges(store: &Memory, ranges: &[(u64, u64, u64)]) -> bool {
+    for i in 0..40 {
+        let height = match store.anchor_of(i) {
+            Some(anchor) => anchor.height,
+            None => 0,
+        };
+        if height != range(ranges, i) {
+            return false;
+        }
+    }
+    true
+}
+
+// One commitment, tip or anchor more, where it may follow, by a number's bits.
+fn step(
+    alloc: Global,
+    store: &mut Memory,
+    ranges: &mut Vec<(u64, u64, u64)>,
+    choice: u64,
+    height: u64,
+) -> Result<(), Fail> {
+    if choice % 4 < 2 {
+        let _ = store.add_commit(&[(choice % 11) as u8; 44]);
+        return Ok(());
+    }
+    if choice % 4 == 2 {
+        let covered = store.covered();
+        let count = store.commits().saturating_sub(covered);
+        let _ = add_tip(store, covered, count);
+        return Ok(());
+    }
+    anchor(alloc, store, ranges, choice, height)
+}
+
+// An anchor of one of the tips, where it may follow.
+fn anchor(
+    alloc: Global,
+    store: &mut Memory,
+    ranges: &mut Vec<(u64, u64, u64)>,
+    choice: u64,
+    height: u64,
+) -> Result<(), Fail> {
+    let tips = store.tips();
+    if tips.is_empty() {
+        return Ok(());
+    }
+    let tip = tips[choice as usize % tips.len()];
+    if add_anchor(alloc, store, [tip.first, tip.count], height) {
+        ranges.push((tip.first, tip.count, height))?;
+    }
+    Ok(())
+}
+
+// A run of 40 steps, compared after each.
+fn run(alloc: Global, seed: u64) -> Result<bool, Fail> {
+    let mut store = new_store(alloc, &[])?;
+    let mut ranges: Vec<(u64, u64, u64)> = Vec::new(alloc);
+    let mut state = seed;
+    for height in 1..41 {
+        state = state
+            .wrapping_mul(6364136223846793005)
+            .wrapping_add(1442695040888963407);
+        step(alloc, &mut store, &mut ranges, state >> 33, height)?;
+        if !same_indexes(&store) || !same_ranges(&store, &ranges) {
+            return Ok(false);
+        }
+    }
+    Ok(ranges.len() > 1)
+}
+
+#[test]
+fn the_index_and_the_ranges_answer_as_a_walk(rt: HostRuntime) -> Result<(), Fail> {
+    for seed in 1..6 {
+        assert!(rt; run(rt.alloc(), seed)?);
+    }
+    Ok(())
+}
