@@ -119,3 +119,26 @@ fn a_long_transaction_holds_a_root_only_where_no_short_one_does(
         Err(FindError::NoTip),
     )
 }
+
+/// A block of one transaction of 94 bytes, which holds a root, as python-bitcoinlib reads it.
+const ONE_TRANSACTION: &str =
+    "00000000000000000000000000000000000000000000000000000000000000000000000080fdc8afc4473be7\
+    99671683d93835c9e752bce68be46235850d5d2744c33c7a0000000000000000000000000100000000010000\
+    0000000000000000000000000000000000000000000000000000000000000000000000000000000100000000\
+    00000000226a20b8efcc73ccec0f47b1aa331941f6b31bc5f801b286bde2bbf34e21050558efe700000000";
+
+#[test]
+fn the_block_of_one_transaction(rt: HostRuntime) -> Result<(), Fail> {
+    let alloc = rt.alloc();
+    let bytes = decoded(alloc, ONE_TRANSACTION)?;
+    assert_eq!(rt; bytes.len(), 175);
+    let block = Block::read(alloc, &bytes)?;
+    let id = hash_of("80fdc8afc4473be799671683d93835c9e752bce68be46235850d5d2744c33c7a")?;
+    assert_eq!(rt; block.header().root, id);
+    assert_eq!(rt; block.txid(0)?, id);
+    assert_eq!(rt; block.count(), 1);
+    let root = hash_of("b8efcc73ccec0f47b1aa331941f6b31bc5f801b286bde2bbf34e21050558efe7")?;
+    finds(&rt, alloc, &block, &[root], at(0, 0, 58));
+    finds(&rt, alloc, &block, &[root, OTHER, root], at(2, 0, 58));
+    Ok(())
+}

@@ -90,7 +90,7 @@ taken_sound : (outcomes : List Outcome) (i : ℕ) (x : Outcome) (n k : ℕ) → 
     → AreSound n k (take i outcomes) × IsSoundOutcome n k x
 taken_sound outcomes i x n k less is all =
     let both : AreSound n k (take i outcomes ++ x ∷ []) =
-          subst (AreSound n k) (take_more outcomes i x less ∙ ap (λ (y : Outcome). take i outcomes ++ y ∷ []) (sym is)) all in
+    subst (AreSound n k) (take_more outcomes i x less ∙ ap (λ (y : Outcome). take i outcomes ++ y ∷ []) (sym is)) all in
     (all-left (IsSoundOutcome n k) (take i outcomes) (x ∷ []) both, (all-right (IsSoundOutcome n k) (take i outcomes) (x ∷ []) both).0)
 
 pub sound_tree : (outcomes : List Outcome) (i : ℕ) (x : Outcome) (tree copy : List Token) (was all : Option (List Token)) (made : List Token) (n k : ℕ) → i < length outcomes

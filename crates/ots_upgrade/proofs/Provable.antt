@@ -58,7 +58,7 @@ module _ (some_path : (t : Node) → paths t ≢ [])
   pub canon_under : (ops : List Op) (t : Node) (good : List Token) → pre t ≡ good → AllByRecursion IsToken good → (form : List Token) × IsCanonUnder ops good form
   canon_under ops t good is limits =
       let all : AllByRecursion IsWithin (paths (chain ops t)) =
-            subst (AllByRecursion IsWithin) (sym (chained ops t)) (within_map (behind ops) (λ p h. h) (paths t) (within t (subst (AllByRecursion IsToken) (sym is) limits))) in
+      subst (AllByRecursion IsWithin) (sym (chained ops t)) (within_map (behind ops) (λ p h. h) (paths t) (within t (subst (AllByRecursion IsToken) (sym is) limits))) in
       let form = canon_of (chain ops t) all in
       (form.0, record { made = pre (chain ops t); under = record { node = t; node_is = is; made_is = refl }; canon = form.1 })
 

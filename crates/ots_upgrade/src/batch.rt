@@ -12,8 +12,8 @@ ghost use Rattle.ots_upgrade.specs.Stamped.{AreSoundBelow, Gathers, IsDepth, IsS
 use crate::outcome::Outcome;
 use crate::stamping::stamp_with;
 use crate::target::Target;
-use ots_base::OutOfMemory;
 use ots_address::Address;
+use ots_base::OutOfMemory;
 use ots_canon::{canon, one_canon, one_canonical_tree, sound_results};
 use ots_merkle::{path_is_short, path_leads_to_root, paths, root};
 use ots_ops::{Arg, Digest, HashOp, Op, Ops, lengths_of_results};

@@ -12,7 +12,7 @@ loop-outcome-preserved c =
     let outcomes = c.args.outcomes.now in
     let i = c.loop-outcome.outcome-index in
     elim c.match-outcome.branch [
-      in-Tree+in_ok-copy+in_ok-beside_any w ↦ record {
+      | in-Tree+in_ok-copy+in_ok-beside_any w ↦ record {
         gathered =
             gathers_tree outcomes i c.outcome-item.result w.in-Tree.tree w.in_ok-copy.field-0 c.match-outcome.all w.in_ok-beside_any.field-0 c.loop-outcome-test.true c.outcome-item.is
             w.in-Tree.is w.in_ok-copy.ensures w.all-is (w.in_ok-beside_any.ensures.gathered (good_trees (take i outcomes)) c.loop-outcome.invariant.gathered);
@@ -20,7 +20,7 @@ loop-outcome-preserved c =
             sound_tree outcomes i c.outcome-item.result w.in-Tree.tree w.in_ok-copy.field-0 c.loop-outcome.all c.match-outcome.all w.in_ok-beside_any.field-0 n k
             c.loop-outcome-test.true c.outcome-item.is w.in-Tree.is w.in_ok-copy.ensures w.all-is (c.loop-outcome.invariant.sound n k) (w.in_ok-beside_any.ensures.sound n k);
       }
-    | in_default w ↦ record {
+      | in_default w ↦ record {
         gathered =
             gathers_none outcomes i c.outcome-item.result c.loop-outcome.all c.match-outcome.all c.loop-outcome-test.true c.outcome-item.is
             w.in_default.not-Tree w.all-is c.loop-outcome.invariant.gathered;
