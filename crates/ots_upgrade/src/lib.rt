@@ -3,6 +3,10 @@
 //! | call | what it is |
 //! |---|---|
 //! | [`stamp_with`] | each calendar is sent a digest, and answers a tree below it |
+//! | [`Outcome`] | what came of asking one |
+//! | [`Batch`] | files that are stamped together: their root, and the proof of each |
+//! | [`gather_good`] | the trees of all calendars in one |
+//! | [`one_outcome`] | the law that a reply has one outcome |
 #![tactic(auto)]
 
 mod batch;
