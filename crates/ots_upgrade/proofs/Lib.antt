@@ -3,6 +3,8 @@ pub mod Conversing
 pub mod Exchanging
 pub mod Founded
 pub mod Gathered
+pub mod OneList
 pub mod OneOutcome
+pub mod Pairwise
 pub mod Provable
 pub mod Questions

@@ -1,9 +1,9 @@
 -- Each file that is stamped has a proof.
-use Rattle.std.proofs.Common.{◌≡◌, ◌<◌, ℕ, List, [], ◌∷◌, ◌++◌, length, map, get_or, Option, Some, refl, sym, ap, subst, ◌∙◌, inl, inr}
+use Rattle.std.proofs.Common.{◌≡◌, ℕ, List, [], ◌∷◌, ◌++◌, map, refl, sym, subst, inl}
 use Rattle.std.specs.Prelude.{◌≢◌, ◌↔◌}
 use Rattle.std.specs.List.{AllByRecursion}
 use Rattle.ots_ops.specs.declared.op.Op.{Op}
-use Rattle.ots_canon.specs.Canonical.{IsCanonOf, IsCanonTree, IsTreeOf}
+use Rattle.ots_canon.specs.Canonical.{IsCanonOf, IsTreeOf}
 use Rattle.ots_canon.specs.Order.{Has, IsCanon, IsRising, IsWithin}
 use Rattle.ots_tree.proofs.Closing.{all-append, all-left, all-right}
 use Rattle.ots_tree.specs.declared.token.Token.{Token}

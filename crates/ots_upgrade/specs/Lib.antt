@@ -4,3 +4,4 @@ pub mod Exchanged
 pub mod Outcome
 pub mod Stamped
 pub mod Stamping
+pub mod Upgrading

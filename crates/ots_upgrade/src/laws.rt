@@ -1,5 +1,6 @@
-//! A reply has one outcome.
+//! A reply has one outcome, and a proof one list of pairs.
 ghost use Rattle.std.specs.Prelude.{◌≡◌, ◌≢◌, ℕ, List};
+ghost use Rattle.ots_pending.specs.Pairs.{ArePairs, PairAt};
 ghost use Rattle.ots_reader.specs.OneAnswer.{IsShape};
 ghost use Rattle.ots_upgrade.specs.declared.outcome.Outcome.{Outcome};
 ghost use Rattle.ots_upgrade.specs.declared.outcome.Outcome.TheVariants.{Unreachable};
@@ -7,6 +8,7 @@ ghost use Rattle.ots_upgrade.specs.Outcome.{IsOutcomeOf};
 
 use ots_http::one_reply_outcome;
 use ots_reader::{fault_or_tree, one_fault, one_tree_at_the_front};
+use ots_tree::{Detached, limits_of_detached};
 
 /// A reply has one outcome below a message of n bytes and k operations, a failed conversation aside.
 pub fn one_outcome()
@@ -17,4 +19,14 @@ pub fn one_outcome()
     fault_or_tree();
     one_fault();
     one_tree_at_the_front();
+}
+
+/// The pending paths of a proof ask calendars for one list of pairs, whether or not there is memory to
+/// make it.
+pub fn one_list_of_pairs(proof: &Detached)
+    ensures some { (pairs : List PairAt) × ArePairs proof.now pairs }
+    ensures one { (a b : List PairAt) → ArePairs proof.now a → ArePairs proof.now b → a ≡ b }
+{
+    limits_of_detached(proof);
+    let _ = proof.tree.depths();
 }

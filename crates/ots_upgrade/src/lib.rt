@@ -6,9 +6,12 @@
 //! | [`Outcome`] | what came of asking one |
 //! | [`Batch`] | files that are stamped together: their root, and the proof of each |
 //! | [`gather_good`] | the trees of all calendars in one |
+//! | [`upgrade_with`] | each calendar is asked for what the pending paths of a proof ask it for, and completes it |
 //! | [`one_outcome`] | the law that a reply has one outcome |
+//! | [`one_list_of_pairs`] | the law that the pending paths of a proof ask for one list of pairs |
 #![tactic(auto)]
 
+mod asking;
 mod batch;
 mod conversation;
 mod gathering;
@@ -16,10 +19,13 @@ mod laws;
 mod outcome;
 mod stamping;
 mod target;
+mod upgrading;
 
+pub use asking::{AskedAt, AskedList};
 pub use batch::Batch;
 pub use gathering::gather_good;
-pub use laws::one_outcome;
+pub use laws::{one_list_of_pairs, one_outcome};
 pub use outcome::Outcome;
 pub use stamping::stamp_with;
 pub use target::Target;
+pub use upgrading::{Upgraded, upgrade_with};

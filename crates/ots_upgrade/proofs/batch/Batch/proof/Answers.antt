@@ -2,7 +2,6 @@ use Rattle.std.proofs.Common.{◌≡◌, ◌<◌, ℕ, List, Some, refl, sym, su
 use Rattle.std.specs.List.{flat_map, slice_get}
 use Rattle.std.proofs.lemmas.Option.{get_or_from_slice_get}
 use Rattle.ots_canon.specs.Canonical.{IsCanonTree}
-use Rattle.ots_merkle.specs.CalendarTree.{root}
 use Rattle.ots_ops.specs.declared.op.Op.{Op}
 use Rattle.ots_tree.specs.Made.{IsSoundBehind, behind}
 use Rattle.ots_tree.specs.Sound.{IsSoundPre}

@@ -1,0 +1,185 @@
+//! Asking calendars to complete a proof.
+ghost use Rattle.std.specs.Prelude.{◌≡◌, ◌≤◌, ◌<◌, ℕ, List, [], ◌∷◌, length, Some, IfOk, OnErr};
+ghost use Rattle.std.specs.List.{filter_map, slice_get};
+ghost use Rattle.std.specs.Option.{option_copied, option_map};
+ghost use Rattle.ots_base.specs.declared.limits.TheConstants.{MAX_OPERATIONS};
+ghost use Rattle.ots_pending.specs.Completed.{AreSoundFor, IsCompleted};
+ghost use Rattle.ots_pending.specs.Pairs.{AreAskable, ArePairs, PairAt};
+ghost use Rattle.ots_tree.specs.Sound.{IsSoundPre};
+ghost use Rattle.ots_upgrade.specs.Conversation.{ConverseUpTo};
+ghost use Rattle.ots_upgrade.specs.Upgrading.{address_of, questions, to_get, tree_of, trees_of, AsksFor, AsksIf, AsksUpTo, Upgrades, UpgradesUpTo};
+
+use crate::asking::{AskedAt, AskedList};
+use crate::conversation::converse;
+use crate::laws::one_list_of_pairs;
+use crate::outcome::Outcome;
+use ots_address::Address;
+use ots_base::OutOfMemory;
+use ots_http::Asked;
+use ots_ops::Message;
+use ots_outside::Dialer;
+use ots_pending::{Pairs, completed, pending_pairs};
+use ots_tree::{Detached, Shape, Tree, limits_of_detached};
+use std::alloc::Global;
+
+/// A proof, and what calendars were asked to complete it.
+#[derive(Debug, Drop)]
+pub struct Upgraded {
+    /// The proof with all that they answered.
+    pub proof: Detached,
+    /// What came of asking for each pair of a URI and a message.
+    pub asked: AskedList,
+}
+
+/// Asks calendars to complete a proof: for each pair of a URI and a message that its pending paths ask
+/// for, once, in the order in which the pairs first come in preorder, in a conversation of its own.
+///
+/// A pair is asked for where an address has exactly the URI's text; where none has, it has no outcome.
+/// An answer is good where the whole body is a tree that may stand below the message and as many
+/// operations as are before the pair where it stands deepest. The new proof has the old paths and, for
+/// each pending path with a good answer, its operations followed by each path of that tree. Pending
+/// attestations stay.
+///
+/// For each pair it looks at all addresses, and it keeps its URI and its message once more beside what
+/// `pending_pairs` keeps of them. Good trees are copied once.
+pub fn upgrade_with<D: Dialer>(
+    alloc: Global,
+    dialer: &mut D,
+    calendars: &[Address],
+    proof: &Detached,
+) -> Result<Upgraded, OutOfMemory>
+    ensures upgraded { IfOk result (Upgrades D.told D.faults calendars.now proof.now dialer.old dialer.new) }
+    ensures broken_off { OnErr result (UpgradesUpTo D.told D.faults calendars.now proof.now dialer.old dialer.new) }
+{
+    limits_of_detached(proof);
+    one_list_of_pairs(proof);
+    let pairs = pending_pairs(alloc, proof)?;
+    let asked = ask_for_all(alloc, dialer, calendars, &pairs)?;
+    let tree = completed_by(alloc, proof, &pairs, asked.items())?;
+    let proof = Detached {
+        hash: proof.hash,
+        digest: proof.digest,
+        tree,
+    };
+    Ok(Upgraded { proof, asked })
+}
+
+/// Asks for each pair in order.
+fn ask_for_all<D: Dialer>(
+    alloc: Global,
+    dialer: &mut D,
+    calendars: &[Address],
+    pairs: &Pairs,
+) -> Result<AskedList, OutOfMemory>
+    requires { AreAskable pairs.now }
+    ensures asked { IfOk result (AsksFor D.told D.faults calendars.now pairs.now dialer.old dialer.new) }
+    ensures broken_off { OnErr result (ConverseUpTo D.told D.faults (questions calendars.now pairs.now) dialer.old dialer.new) }
+{
+    let mut asked = AskedList::new(alloc);
+    for i in 0..pairs.len() {
+        asked.push(ask_for(alloc, dialer, calendars, pairs, i)?)?;
+    }
+    Ok(asked)
+}
+
+/// Asks for the pair at this place.
+fn ask_for<D: Dialer>(
+    alloc: Global,
+    dialer: &mut D,
+    calendars: &[Address],
+    pairs: &Pairs,
+    i: usize,
+) -> Result<AskedAt, OutOfMemory>
+    requires askable { AreAskable pairs.now }
+    requires place { i < length pairs.now }
+    ensures asked { IfOk result (λ asked. (p : PairAt) → slice_get pairs.now i ≡ Some p
+        → AsksFor D.told D.faults calendars.now (p ∷ []) dialer.old dialer.new (asked ∷ [])) }
+    ensures broken_off { OnErr result ((p : PairAt) → slice_get pairs.now i ≡ Some p
+        → ConverseUpTo D.told D.faults (questions calendars.now (p ∷ [])) dialer.old dialer.new) }
+{
+    let uri = pairs.uri(i).copy()?;
+    let message = pairs.message(i).copy()?;
+    let address = address_of(calendars, uri.text());
+    let outcome = ask_at(alloc, dialer, address, &message, pairs.depth(i))?;
+    Ok(AskedAt {
+        uri,
+        message,
+        outcome,
+    })
+}
+
+/// The first address whose text is exactly this.
+fn address_of<'a>(calendars: &'a [Address], uri: &str) -> Option<&'a Address>
+    ensures { option_copied result ≡ address_of calendars.now uri.now }
+{
+    for address in calendars {
+        if address.text() == uri {
+            return Some(address);
+        }
+    }
+    None
+}
+
+/// Asks for a message at an address, if there is one. The answer is to stand below the message and so
+/// many operations.
+fn ask_at<D: Dialer>(
+    alloc: Global,
+    dialer: &mut D,
+    address: Option<&Address>,
+    message: &Message,
+    depth: u32,
+) -> Result<Option<Outcome>, OutOfMemory>
+    requires least { 1 ≤ length message.now }
+    requires depth { depth ≤ MAX_OPERATIONS }
+    ensures asked { IfOk result (AsksIf D.told D.faults (option_map (to_get message.now depth) (option_copied address.entry)) dialer.old dialer.new) }
+    ensures broken_off { OnErr result (AsksUpTo D.told D.faults (option_map (to_get message.now depth) (option_copied address.entry)) dialer.old dialer.new) }
+{
+    let Some(address) = address else {
+        return Ok(None);
+    };
+    let shape = Shape {
+        length: message.bytes().len() as u32,
+        depth,
+    };
+    let asked = Asked::Get(message.copy()?);
+    let outcome = converse(alloc, dialer, address, &asked, shape)?;
+    Ok(Some(outcome))
+}
+
+/// The proof that these answers for its pairs complete.
+fn completed_by(
+    alloc: Global,
+    proof: &Detached,
+    pairs: &Pairs,
+    asked: &[AskedAt],
+) -> Result<Tree, OutOfMemory>
+    requires pairs { ArePairs proof.now pairs.now }
+    requires one_each { length (trees_of asked.now) ≡ length pairs.now }
+    requires sound { AreSoundFor pairs.now (trees_of asked.now) }
+    ensures completed { IfOk result (IsCompleted proof.now pairs.now (trees_of asked.now)) }
+    ensures sound { IfOk result (IsSoundPre (length proof.now.digest) 0) }
+{
+    let trees = good_trees(alloc, asked)?;
+    completed(alloc, proof, pairs, &trees)
+}
+
+/// The trees that were answered.
+fn good_trees(alloc: Global, asked: &[AskedAt]) -> Result<Vec<Option<Tree>>, OutOfMemory>
+    ensures { IfOk result (λ trees. trees.items ≡ trees_of asked.now) }
+{
+    let mut trees = Vec::with_capacity(alloc, asked.len())?;
+    for pair in asked {
+        trees.push(good_tree(&pair.outcome)?)?;
+    }
+    Ok(trees)
+}
+
+/// The tree that was answered, if one was.
+fn good_tree(outcome: &Option<Outcome>) -> Result<Option<Tree>, OutOfMemory>
+    ensures { IfOk result (λ tree. tree ≡ tree_of outcome.now) }
+{
+    match outcome {
+        Some(Outcome::Tree(tree)) => Ok(Some(tree.copy()?)),
+        _ => Ok(None),
+    }
+}
