@@ -34,7 +34,7 @@ fn target(alloc: Global, n: usize) -> Result<Target, Fail>
 }
 
 /// The first so many files.
-fn batch(alloc: Global, count: usize) -> Result<Batch, Fail>
+pub(crate) fn batch(alloc: Global, count: usize) -> Result<Batch, Fail>
     requires least { 1 ≤ count }
     requires most { count ≤ 1024 }
     ensures { IfOk result (λ batch. length batch ≡ count) }

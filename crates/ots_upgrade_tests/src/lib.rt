@@ -7,3 +7,5 @@
 mod batches;
 #[cfg(test)]
 mod outcomes;
+#[cfg(test)]
+mod upgrading;

@@ -15,16 +15,16 @@ const ROOM: DialerRoom = DialerRoom {
 };
 
 /// A tree of 68 bytes, as a calendar answers it: four operations and a pending attestation.
-const TREE: &str =
+pub(crate) const TREE: &str =
     "f010202122232425262728292a2b2c2d2e2f08f1046553f100f00801020304050607080083dfe30d2ef90c8e1716687474703a2f2f3132372e302e302e313a3134373838";
 
 /// The bytes of these digits.
-fn bytes(alloc: Global, digits: &str) -> Result<Vec<u8>, Fail> {
+pub(crate) fn bytes(alloc: Global, digits: &str) -> Result<Vec<u8>, Fail> {
     hex::decode(alloc, digits).map_err(|_| Fail::from("digits"))
 }
 
 /// A reply with this status line and body, whose length it tells.
-fn reply(alloc: Global, status: &str, body: &[u8]) -> Result<Vec<u8>, Fail> {
+pub(crate) fn reply(alloc: Global, status: &str, body: &[u8]) -> Result<Vec<u8>, Fail> {
     let length = body.len();
     let head = format!(in alloc; "HTTP/1.1 {status}\r\nContent-Length: {length}\r\n\r\n")?;
     let mut reply = Vec::from_slice(alloc, head.as_bytes())?;
@@ -33,7 +33,7 @@ fn reply(alloc: Global, status: &str, body: &[u8]) -> Result<Vec<u8>, Fail> {
 }
 
 /// An outcome in words.
-fn words(alloc: Global, outcome: &Outcome) -> Result<String, Fail> {
+pub(crate) fn words(alloc: Global, outcome: &Outcome) -> Result<String, Fail> {
     Ok(match outcome {
         Outcome::Tree(tree) => {
             let count = tree.tokens().len();
