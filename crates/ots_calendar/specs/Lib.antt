@@ -1,0 +1,5 @@
+pub mod Answer
+pub mod Book
+pub mod Tips
+pub mod Tree
+pub mod Values
