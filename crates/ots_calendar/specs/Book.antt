@@ -21,20 +21,20 @@ pub record StandsForBook (bytes : List ℕ) : Type 0 where
   pub are_true : AreTrue (records_of entries)
 
 -- The values of its records are right, and so are they with the group in flight.
-pub record Keeps {D : Type 0} (store : StoreTold D) (tree : TreeTold) : Type 0 where
-  pub are_true : AreTrue (records_of store.journal.entries)
-  pub flying : store.journal.is_sure ≡ false → AreTrue (records_of (store.journal.entries ++ store.journal.flight))
-  pub over : IsOver (commits_of (records_of store.journal.entries)) tree
+pub record Keeps {D : Type 0} (journal : JournalTold D) (tree : TreeTold) : Type 0 where
+  pub are_true : AreTrue (records_of journal.entries)
+  pub flying : journal.is_sure ≡ false → AreTrue (records_of (journal.entries ++ journal.flight))
+  pub over : IsOver (commits_of (records_of journal.entries)) tree
 
 -- ---- calls that may write
 
 -- The call refreshes the journal, and then goes on from what it finds.
-pub record GoesOn {D : Type 0} (bytes : D → Option (List ℕ)) (clock : D → ℕ) (images_since : D → ℕ → List ℕ → Type 0) (old : JournalTold D) (after : JournalTold D → Type 0) : Type 0 where
+pub record GoesOn {D : Type 0} (bytes : D → Option (List ℕ)) (clock : D → ℕ) (images_since : D → ℕ → List ℕ → Type 0) (old : JournalTold D) (then : JournalTold D → Type 0) : Type 0 where
   -- the journal after the refresh
   pub mid : JournalTold D
   pub refreshed : Refreshed bytes old mid
   pub refreshing : LeavesOnly clock images_since old.disk mid.disk (StandsForEither old.entries old.flight)
-  pub after : after mid
+  pub goes_on : then mid
 
 -- The refresh failed, and nothing more was done.
 pub record Stops {D : Type 0} (bytes : D → Option (List ℕ)) (clock : D → ℕ) (images_since : D → ℕ → List ℕ → Type 0) (old new : JournalTold D) : Type 0 where

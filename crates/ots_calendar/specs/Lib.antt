@@ -1,5 +1,6 @@
 pub mod Answer
 pub mod Book
+pub mod Seen
 pub mod Tips
 pub mod Tree
 pub mod Values

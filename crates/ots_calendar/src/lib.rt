@@ -1,13 +1,13 @@
-// A library with one function.
+//! The book: a calendar's records, what it answers of them, and the rounds that are put into it.
 #![tactic(auto)]
 
-ghost use Rattle.std.specs.Prelude.{◌≡◌};
-ghost use Rattle.ots_calendar.specs.Echo.{echo_of};
+mod answer;
+mod answering;
+mod book;
+mod errors;
+mod tree;
+mod values;
 
-// The `ensures` clause is the contract: what `echo` returns is `echo_of` of its argument, a definition
-// in `specs/Echo.antt`, which a caller's clause can cite too.
-pub fn echo(x: usize) -> usize
-    ensures { result ≡ echo_of x }
-{
-    x
-}
+pub use answer::Answer;
+pub use book::Book;
+pub use errors::{RefusedBook, TipError};

@@ -1,0 +1,7 @@
+mod Asked
+mod Climbing
+mod Keeping
+mod Looking
+mod Spans
+mod Tipping
+mod Truths

@@ -1,0 +1,197 @@
+ghost use Rattle.std.specs.Prelude.{◌≡◌, ◌⊎◌, ◌<◌, ◌^◌, List, ℕ, true, false, length, Some, Err, IfOk, IfErr, IfSome, OnOk, OnErr, MatchOption};
+ghost use Rattle.ots_base.specs.Cause.{HasCause, HasCauseWhere};
+ghost use Rattle.ots_disk.specs.Disk.{LeavesOnly};
+ghost use Rattle.ots_journal.specs.Image.{Stands};
+ghost use Rattle.ots_journal.specs.Journal.{StandsForEither, Refreshed, Unrefreshed};
+ghost use Rattle.ots_store.specs.Order.{commits_of, tips_of, covered_of, records_of, HasSpan, FollowsTip};
+ghost use Rattle.ots_store.specs.Opening.{IfBad};
+ghost use Rattle.ots_store.specs.Records.{FitsTip};
+ghost use Rattle.ots_calendar.specs.Answer.{answer};
+ghost use Rattle.ots_calendar.specs.Book.{StandsForBook, Stops};
+ghost use Rattle.ots_calendar.specs.Tips.{AllCovered, IsNextTip, StoresTip, TipAfter, AsksTip};
+ghost use Rattle.ots_calendar.specs.Values.{AreTrue, FirstUntrue};
+
+use crate::answering::answer_by;
+use crate::tree::OpenTree;
+use crate::values::first_untrue;
+use crate::{Answer, RefusedBook, TipError};
+use ots_base::OutOfMemory;
+use ots_disk::Disk;
+use ots_journal::{AppendError, DiskFault};
+use ots_store::{Store, StoreError, Tip};
+use std::alloc::Global;
+use std::marker::Model;
+
+/// A calendar: its records on a disk.
+///
+/// Contracts see the store.
+#[derive(Drop)]
+pub struct Book<D: Disk> {
+    alloc: Global,
+    store: Store<D>,
+    tree: OpenTree,
+}
+
+impl<D: Disk> Model for Book<D> {
+    ghost use Rattle.ots_calendar.specs.Book.{BookTold, Keeps};
+
+    ghost Value = { BookTold D };
+
+    ghost view = { λ b. record { store = b.store } };
+
+    ghost invariant = { λ b. Keeps b.store.journal b.tree };
+}
+
+impl<D: Disk> Book<D> {
+    /// Takes the records of a sure store as those of a book. `BadRecord` names the first of which a
+    /// value is not right: the root of a tip, or that of an anchor.
+    pub fn open(alloc: Global, store: Store<D>) -> Result<Book<D>, RefusedBook<D>>
+        requires { store.journal.is_sure ≡ true }
+        ensures store { IfOk result (λ b. b.store ≡ store) }
+        ensures are_true { OnOk result (AreTrue store.records) }
+        ensures bad { IfErr result (λ r. IfBad r.why (FirstUntrue store.records)) }
+        ensures accepts { AreTrue store.records → IfErr result (λ r. r.why ≡ StoreError.OutOfMemory) }
+        ensures disk { IfErr result (λ r. r.disk ≡ store.journal.disk) }
+    {
+        store.stands();
+        match first_untrue(alloc, &store) {
+            Ok(None) => {
+                let tree = OpenTree::new(alloc, 0);
+                let mut book = Book { alloc, store, tree };
+                // Where memory runs out, the next tip catches up.
+                let _ = book.next_tip();
+                Ok(book)
+            }
+            Ok(Some(i)) => Err(RefusedBook {
+                disk: store.into_disk(),
+                why: StoreError::BadRecord(i),
+            }),
+            Err(OutOfMemory) => Err(RefusedBook {
+                disk: store.into_disk(),
+                why: StoreError::OutOfMemory,
+            }),
+        }
+    }
+
+    /// The records.
+    pub fn store(&self) -> &Store<D>
+        ensures { result.now ≡ self.now.store }
+    {
+        &self.store
+    }
+
+    /// The place of the closed gate behind the acknowledged entries.
+    pub fn gate(&self) -> u64
+        ensures { result ≡ self.now.store.journal.gate }
+    {
+        self.store.gate()
+    }
+
+    /// How often the disk has failed.
+    pub fn faults(&self) -> u64
+        ensures { result ≡ D.faults self.now.store.journal.disk }
+    {
+        self.store.faults()
+    }
+
+    /// The disk, as it is.
+    pub fn into_disk(self) -> D
+        ensures { result ≡ self.store.journal.disk }
+    {
+        self.store.into_disk()
+    }
+
+    /// What the calendar answers of a commitment.
+    pub fn ask(&self, commitment: &[u8]) -> Result<Answer, OutOfMemory>
+        ensures { IfOk result (λ a. a ≡ answer self.now.store.records commitment.now) }
+    {
+        answer_by(self.alloc, &self.store, commitment)
+    }
+
+    /// The tip from the first commitment that no anchor covers to the last one. It is stored where
+    /// none over these commitments is. `NothingNew` comes exactly where every commitment is covered.
+    pub fn tip(&mut self) -> Result<Tip, TipError>
+        ensures asks { AsksTip D.bytes D.clock D.images_since self.old.store.journal self.new.store.journal result }
+        ensures records { self.new.store.records ≡ records_of self.new.store.journal.entries }
+        ensures acknowledged { OnOk result ((c : List ℕ) → D.images self.new.store.journal.disk c → Stands c self.new.store.journal.entries) }
+        ensures readable { LeavesOnly D.clock D.images_since self.old.store.journal.disk self.new.store.journal.disk StandsForBook }
+        ensures cause { HasCauseWhere (result ≡ Err TipError.DiskFault) (D.faults self.old.store.journal.disk) (D.faults self.new.store.journal.disk) }
+    {
+        self.refresh()?;
+        match self.next_tip()? {
+            None => Err(TipError::NothingNew),
+            Some(tip) => {
+                self.store_tip(&tip)?;
+                Ok(tip)
+            }
+        }
+    }
+
+    // Finds out whether the record in flight is kept.
+    fn refresh(&mut self) -> Result<(), DiskFault>
+        ensures ok { OnOk result (Refreshed D.bytes self.old.store.journal self.new.store.journal) }
+        ensures err { OnErr result (Unrefreshed D.bytes self.old.store.journal self.new.store.journal) }
+        ensures any_moment { LeavesOnly D.clock D.images_since self.old.store.journal.disk self.new.store.journal.disk (StandsForEither self.old.store.journal.entries self.old.store.journal.flight) }
+        ensures readable { LeavesOnly D.clock D.images_since self.old.store.journal.disk self.new.store.journal.disk StandsForBook }
+        ensures records { self.new.store.records ≡ records_of self.new.store.journal.entries }
+        ensures cause { HasCause (D.faults self.old.store.journal.disk) (D.faults self.new.store.journal.disk) result }
+    {
+        self.store.stands();
+        self.store.refresh()
+    }
+
+    // The next tip, where there is one.
+    fn next_tip(&mut self) -> Result<Option<Tip>, OutOfMemory>
+        ensures same { self.new ≡ self.old }
+        ensures next { IfOk result (λ next. MatchOption next (AllCovered self.old.store.records) (IsNextTip self.old.store.records)) }
+        ensures fits { IfOk result (λ next. IfSome next FitsTip) }
+    {
+        self.store.stands();
+        let first = self.store.covered();
+        let count = self.store.commits() - first;
+        self.tree.catch_up(self.store.commitments(), first as usize)?;
+        match self.tree.root() {
+            None => Ok(None),
+            Some(root) => Ok(Some(Tip { first, count, root })),
+        }
+    }
+
+    // Stores the next tip where none over the same commitments is.
+    fn store_tip(&mut self, tip: &Tip) -> Result<(), AppendError>
+        requires sure { self.old.store.journal.is_sure ≡ true }
+        requires next { IsNextTip self.old.store.records tip.now }
+        requires fits { FitsTip tip.now }
+        ensures stores { StoresTip D.clock D.images_since tip.now self.old.store.journal self.new.store.journal result }
+        ensures records { self.new.store.records ≡ records_of self.new.store.journal.entries }
+        ensures acknowledged { OnOk result ((c : List ℕ) → D.images self.new.store.journal.disk c → Stands c self.new.store.journal.entries) }
+        ensures readable { LeavesOnly D.clock D.images_since self.old.store.journal.disk self.new.store.journal.disk StandsForBook }
+        ensures cause { HasCauseWhere (result ≡ Err AppendError.DiskFault) (D.faults self.old.store.journal.disk) (D.faults self.new.store.journal.disk) }
+    {
+        self.store.stands();
+        if has_tip(self.store.tips(), tip) {
+            return Ok(());
+        }
+        self.store.add_tip(tip)
+    }
+}
+
+// Whether one of the tips is over the same commitments.
+fn has_tip(tips: &[Tip], tip: &Tip) -> bool
+    ensures yes { result ≡ true → HasSpan tip.now.first tip.now.count tips.now }
+    ensures no { result ≡ false → HasSpan tip.now.first tip.now.count tips.now → ⊥ }
+{
+    for stored in tips {
+        if is_same_span(stored, tip) {
+            return true;
+        }
+    }
+    false
+}
+
+// Whether two tips are over the same commitments.
+fn is_same_span(first: &Tip, second: &Tip) -> bool
+    ensures yes { result ≡ true → (first.now.first ≡ second.now.first) × (first.now.count ≡ second.now.count) }
+    ensures no { result ≡ false → first.now.first ≡ second.now.first → first.now.count ≡ second.now.count → ⊥ }
+{
+    first.first == second.first && first.count == second.count
+}
