@@ -9,16 +9,17 @@ use Rattle.ots_journal.specs.declared.errors.AppendError.{AppendError}
 use Rattle.ots_journal.specs.declared.errors.AppendError.TheVariants.{DiskFault, Full, OutOfMemory}
 use Rattle.ots_journal.specs.declared.errors.DiskFault.{DiskFault as Fault}
 use Rattle.ots_journal.specs.Journal.{JournalTold, StandsForEither, Refreshed, Unrefreshed}
+use Rattle.ots_store.specs.declared.anchor.Anchor.{Anchor}
 use Rattle.ots_store.specs.declared.tip.Tip.{Tip}
-use Rattle.ots_store.specs.Order.{commits_of, records_of, AreRecords, Follows, FollowsTip}
-use Rattle.ots_store.specs.Records.{Record, TipRecord, entry_of, record_of, FitsTip}
+use Rattle.ots_store.specs.Order.{commits_of, records_of, AreRecords, Follows, FollowsTip, FollowsAnchor}
+use Rattle.ots_store.specs.Records.{Record, TipRecord, AnchorRecord, entry_of, record_of, FitsTip, FitsAnchor}
 use Rattle.ots_store.specs.Store.{InRecords, StoreTold, StoreStands, Added}
 use Rattle.ots_store.proofs.Adding.{nothing_flies}
 use Rattle.ots_store.proofs.Ordered.{commits_append, orderly, records_push}
 use Rattle.ots_store.proofs.Spellings.{record_read, is_record}
 use Rattle.ots_calendar.specs.Book.{StandsForBook, Keeps}
 use Rattle.ots_calendar.specs.Tree.{TreeTold, IsOver}
-use Rattle.ots_calendar.specs.Values.{IsTrue, IsTrueTip, AreTrue}
+use Rattle.ots_calendar.specs.Values.{IsTrue, IsTrueTip, IsTrueAnchor, AreTrue}
 use Rattle.ots_calendar.proofs.Spans.{over_more}
 use Rattle.ots_calendar.proofs.Truths.{true_push}
 
@@ -116,3 +117,14 @@ pub tip_records : (records : List Record) (entries : List Entry) (tip : Tip) →
 tip_records records entries tip same are fits follows =
     records_push [] entries (entry_of (TipRecord tip)) are (is_record (TipRecord tip) fits)
     (subst (Follows (records_of entries)) (sym (record_read (TipRecord tip) fits)) (subst (λ (l : List Record). FollowsTip l tip) same follows))
+
+-- an anchor more
+pub anchor_more : (records : List Record) (entries : List Entry) (a : Anchor) → records ≡ records_of entries → FitsAnchor a → IsTrueAnchor (commits_of records) a
+    → IsTrue (commits_of (records_of entries)) (record_of (entry_of (AnchorRecord a)))
+anchor_more records entries a same fits is =
+    subst (IsTrue (commits_of (records_of entries))) (sym (record_read (AnchorRecord a) fits)) (subst (λ (l : List Record). IsTrueAnchor (commits_of l) a) same is)
+
+pub anchor_records : (records : List Record) (entries : List Entry) (a : Anchor) → records ≡ records_of entries → InRecords entries → FitsAnchor a → FollowsAnchor records a → InRecords (entries ++ entry_of (AnchorRecord a) ∷ [])
+anchor_records records entries a same are fits follows =
+    records_push [] entries (entry_of (AnchorRecord a)) are (is_record (AnchorRecord a) fits)
+    (subst (Follows (records_of entries)) (sym (record_read (AnchorRecord a) fits)) (subst (λ (l : List Record). FollowsAnchor l a) same follows))

@@ -1,4 +1,7 @@
+mod AnchoringIn
+mod Anchored
 mod Asked
+mod Branches
 mod Climbing
 mod Keeping
 mod Looking

@@ -1,3 +1,4 @@
+pub mod Anchors
 pub mod Answer
 pub mod Book
 pub mod Seen

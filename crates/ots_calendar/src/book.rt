@@ -1,24 +1,31 @@
-ghost use Rattle.std.specs.Prelude.{◌≡◌, ◌⊎◌, ◌<◌, ◌^◌, List, ℕ, true, false, length, Some, Err, IfOk, IfErr, IfSome, OnOk, OnErr, MatchOption};
+ghost use Rattle.std.specs.Prelude.{◌≡◌, ◌⊎◌, ◌<◌, ◌≤◌, ◌^◌, ◌∷◌, [], List, ℕ, true, false, length, Some, Err, IfOk, IfErr, IfSome, OnOk, OnErr, MatchOption};
 ghost use Rattle.ots_base.specs.Cause.{HasCause, HasCauseWhere};
 ghost use Rattle.ots_disk.specs.Disk.{LeavesOnly};
 ghost use Rattle.ots_journal.specs.Image.{Stands};
 ghost use Rattle.ots_journal.specs.Journal.{StandsForEither, Refreshed, Unrefreshed};
 ghost use Rattle.ots_store.specs.Order.{commits_of, tips_of, covered_of, records_of, HasSpan, FollowsTip};
 ghost use Rattle.ots_store.specs.Opening.{IfBad};
-ghost use Rattle.ots_store.specs.Records.{FitsTip};
+ghost use Rattle.ots_store.specs.Records.{AnchorRecord, entry_of, FitsTip};
+ghost use Rattle.ots_store.specs.Store.{Added};
+ghost use Rattle.ots_block.specs.Block.{txids};
+ghost use Rattle.ots_block.specs.declared.limits.TheConstants.{MAX_COMPACT};
+ghost use Rattle.ots_merkle.specs.BlockTree.{block_root};
+ghost use Rattle.ots_calendar.specs.Anchors.{AnchorsIn, AsksAnchor, FindsAnchor, FindsNone, MayStand};
 ghost use Rattle.ots_calendar.specs.Answer.{answer};
 ghost use Rattle.ots_calendar.specs.Book.{StandsForBook, Stops};
 ghost use Rattle.ots_calendar.specs.Tips.{AllCovered, IsNextTip, StoresTip, TipAfter, AsksTip};
 ghost use Rattle.ots_calendar.specs.Values.{AreTrue, FirstUntrue};
 
+use crate::anchoring::{check_root, find_anchor, ids_of};
 use crate::answering::answer_by;
 use crate::tree::OpenTree;
 use crate::values::first_untrue;
-use crate::{Answer, RefusedBook, TipError};
+use crate::{AnchorError, Answer, RefusedBook, TipError};
 use ots_base::OutOfMemory;
+use ots_block::Block;
 use ots_disk::Disk;
 use ots_journal::{AppendError, DiskFault};
-use ots_store::{Store, StoreError, Tip};
+use ots_store::{Anchor, Store, StoreError, Tip};
 use std::alloc::Global;
 use std::marker::Model;
 
@@ -127,6 +134,64 @@ impl<D: Disk> Book<D> {
         }
     }
 
+    /// Anchors a tip in a block at this height. Of the transactions that have at most 4096 bytes
+    /// without their witness and in them the root of a stored tip that reaches past what is
+    /// covered, the first is taken, and in it the first such root; of tips with one root the last.
+    ///
+    /// `BadRoot` comes exactly where the block's header has another root than its transactions, and
+    /// before all others. `NoTip` comes exactly where no transaction has such a root in it, and
+    /// `TransactionTooLong` exactly where only longer ones do.
+    pub fn anchor(&mut self, block: &Block, height: u64) -> Result<Anchor, AnchorError>
+        requires height { height < 2 ^ 63 }
+        requires some { 1 ≤ length block.now.transactions }
+        requires most { length block.now.transactions ≤ MAX_COMPACT }
+        ensures asks { AsksAnchor D.bytes D.clock D.images_since block.now height self.old.store.journal self.new.store.journal result }
+        ensures records { self.new.store.records ≡ records_of self.new.store.journal.entries }
+        ensures acknowledged { OnOk result ((c : List ℕ) → D.images self.new.store.journal.disk c → Stands c self.new.store.journal.entries) }
+        ensures readable { LeavesOnly D.clock D.images_since self.old.store.journal.disk self.new.store.journal.disk StandsForBook }
+        ensures cause { HasCauseWhere (result ≡ Err AnchorError.DiskFault) (D.faults self.old.store.journal.disk) (D.faults self.new.store.journal.disk) }
+    {
+        self.start();
+        let ids = ids_of(self.alloc, block)?;
+        check_root(self.alloc, block, &ids)?;
+        let anchored = self.anchor_in(block, &ids, height);
+        // Where memory runs out, the next tip catches up.
+        let _ = self.next_tip();
+        anchored
+    }
+
+    // Anchors a tip in a block whose root is good.
+    fn anchor_in(
+        &mut self,
+        block: &Block,
+        ids: &[[u8; 32]],
+        height: u64,
+    ) -> Result<Anchor, AnchorError>
+        requires ids { ids.now ≡ txids block.now }
+        requires most { length ids.now < 2 ^ 32 }
+        requires root { block.now.header.root ≡ block_root (txids block.now) }
+        requires height { height < 2 ^ 63 }
+        ensures asks { AnchorsIn D.bytes D.clock D.images_since block.now height self.old.store.journal self.new.store.journal result }
+        ensures records { self.new.store.records ≡ records_of self.new.store.journal.entries }
+        ensures acknowledged { OnOk result ((c : List ℕ) → D.images self.new.store.journal.disk c → Stands c self.new.store.journal.entries) }
+        ensures readable { LeavesOnly D.clock D.images_since self.old.store.journal.disk self.new.store.journal.disk StandsForBook }
+        ensures cause { HasCauseWhere (result ≡ Err AnchorError.DiskFault) (D.faults self.old.store.journal.disk) (D.faults self.new.store.journal.disk) }
+    {
+        self.refresh()?;
+        let anchor = self.find_anchor(block, ids, height)?;
+        self.store_anchor(&anchor)?;
+        Ok(anchor)
+    }
+
+    // What stands before a call does anything.
+    fn start(&mut self)
+        ensures same { self.new ≡ self.old }
+        ensures records { self.new.store.records ≡ records_of self.new.store.journal.entries }
+        ensures readable { LeavesOnly D.clock D.images_since self.old.store.journal.disk self.new.store.journal.disk StandsForBook }
+    {
+        self.store.stands();
+    }
+
     // Finds out whether the record in flight is kept.
     fn refresh(&mut self) -> Result<(), DiskFault>
         ensures ok { OnOk result (Refreshed D.bytes self.old.store.journal self.new.store.journal) }
@@ -172,6 +237,40 @@ impl<D: Disk> Book<D> {
             return Ok(());
         }
         self.store.add_tip(tip)
+    }
+
+    // The anchor of the open tip whose root a block holds first.
+    fn find_anchor(
+        &self,
+        block: &Block,
+        ids: &[[u8; 32]],
+        height: u64,
+    ) -> Result<Anchor, AnchorError>
+        requires ids { ids.now ≡ txids block.now }
+        requires most { length ids.now < 2 ^ 32 }
+        requires root { block.now.header.root ≡ block_root (txids block.now) }
+        requires height { height < 2 ^ 63 }
+        ensures found { IfOk result (FindsAnchor self.now.store.records block.now height) }
+        ensures none { IfErr result (FindsNone self.now.store.records block.now) }
+        ensures may_stand { IfOk result (MayStand self.now.store.records) }
+    {
+        self.store.stands();
+        let _ = &self.tree;
+        find_anchor(self.alloc, &self.store, block, ids, height)
+    }
+
+    // Stores an anchor.
+    fn store_anchor(&mut self, anchor: &Anchor) -> Result<(), AppendError>
+        requires sure { self.old.store.journal.is_sure ≡ true }
+        requires may_stand { MayStand self.old.store.records anchor.now }
+        ensures added { Added D.clock D.images_since self.old.store.journal self.new.store.journal (entry_of (AnchorRecord anchor.now) ∷ []) result }
+        ensures records { self.new.store.records ≡ records_of self.new.store.journal.entries }
+        ensures acknowledged { OnOk result ((c : List ℕ) → D.images self.new.store.journal.disk c → Stands c self.new.store.journal.entries) }
+        ensures readable { LeavesOnly D.clock D.images_since self.old.store.journal.disk self.new.store.journal.disk StandsForBook }
+        ensures cause { HasCauseWhere (result ≡ Err AppendError.DiskFault) (D.faults self.old.store.journal.disk) (D.faults self.new.store.journal.disk) }
+    {
+        self.store.stands();
+        self.store.add_anchor(anchor)
     }
 }
 

@@ -1,6 +1,7 @@
 //! The book: a calendar's records, what it answers of them, and the rounds that are put into it.
 #![tactic(auto)]
 
+mod anchoring;
 mod answer;
 mod answering;
 mod book;
@@ -10,4 +11,4 @@ mod values;
 
 pub use answer::Answer;
 pub use book::Book;
-pub use errors::{RefusedBook, TipError};
+pub use errors::{AnchorError, RefusedBook, TipError};

@@ -1,2 +1,2 @@
 mod Blocks
-mod Leading
+pub mod Leading
