@@ -1,18 +1,17 @@
 -- An anchor that is found may follow, has its form, and its root is right.
-use Rattle.std.proofs.Common.{◌≡◌, inl, inr, ℕ, zero, suc, ◌+◌, ◌-◌, ◌^◌, ◌<◌, ◌≤◌, Bool, true, false, cond, List, [], ◌∷◌, ◌++◌, length, take, drop, get_or, map, refl, sym, ap, subst, ◌∙◌, arith, append_assoc, take-append-drop, length-drop}
+use Rattle.std.proofs.Common.{◌≡◌, inl, inr, ℕ, zero, suc, ◌+◌, ◌^◌, ◌<◌, ◌≤◌, Bool, true, false, cond, List, [], ◌∷◌, ◌++◌, length, take, drop, get_or, map, refl, sym, ap, subst, ◌∙◌, arith, append_assoc, take-append-drop, length-drop}
 use Rattle.std.proofs.lemmas.Bool.{ltb-true}
 use Rattle.std.proofs.lemmas.List.{length-map, length-take-le, drop-drop, get_or-drop, get_or-map, get_or-take}
 use Rattle.std.proofs.lemmas.Option.{get_or_from_slice_get, slice_get_within, slice_get-get_or, slice_get_read}
-use Rattle.std.specs.Prelude.{Option, Some, slice_get, slice_index_or, Result, Ok, Err, IfOk, OnOk}
+use Rattle.std.specs.Prelude.{Some, slice_get, Result, Ok, Err, IfOk, OnOk}
 use Rattle.std.specs.List.{AllByRecursion, filter}
 use Rattle.memchr.specs.Find.{OccursAt}
-use Rattle.ots_base.specs.declared.limits.TheConstants.{MAX_MESSAGE}
 use Rattle.ots_bitcoin.specs.DoubleSha256.{double_sha256}
 use Rattle.ots_anchor.specs.declared.search.Found.{Found}
 use Rattle.ots_anchor.specs.Find.{form_of, root_of, IsFound}
-use Rattle.ots_anchor.specs.Path.{hashed, led_to}
+use Rattle.ots_anchor.specs.Path.{hashed}
 use Rattle.ots_block.specs.Transaction.{Transaction, stripped, txid}
-use Rattle.ots_block.specs.Block.{Contents, stripped_forms, txids}
+use Rattle.ots_block.specs.Block.{Contents, txids}
 use Rattle.ots_merkle.specs.BlockTree.{block_root, block_branch, climbed}
 use Rattle.ots_merkle.specs.CalendarTree.{root}
 use Rattle.ots_merkle.proofs.Blocks.{branch_leads}
@@ -170,7 +169,7 @@ module _ (records : List Record) (entries : List Entry) (block : Contents) (heig
         height = high;
         root = long;
         message = let m : length (take finds.found.place form) + length (drop (finds.found.place + 32) form) + 32 ≤ 4096 =
-        omega (arith, within, short, length-take-le finds.found.place form (omega (arith, within)), length-drop (finds.found.place + 32) form) in m;
+            omega (arith, within, short, length-take-le finds.found.place form (omega (arith, within)), length-drop (finds.found.place + 32) form) in m;
         steps = branch_is_short (txids block) finds.found.transaction (omega arith);
         hashes = branch_hashes (txids block) finds.found.transaction (ids_hashes block) inside;
       }

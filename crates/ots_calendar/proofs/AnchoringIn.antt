@@ -1,6 +1,6 @@
 -- What anchoring does, by how it ends.
-use Rattle.std.proofs.Common.{◌≡◌, inl, inr, ℕ, List, [], ◌∷◌, refl, sym, ap, subst, ◌∙◌}
-use Rattle.std.specs.Prelude.{Option, Result, Ok, Err}
+use Rattle.std.proofs.Common.{◌≡◌, inl, inr, ℕ, List, [], ◌∷◌, refl, subst}
+use Rattle.std.specs.Prelude.{Option, Result, Err}
 use Rattle.ots_disk.specs.Disk.{LeavesOnly}
 use Rattle.ots_block.specs.Block.{Contents}
 use Rattle.ots_journal.specs.declared.errors.AppendError.{AppendError}

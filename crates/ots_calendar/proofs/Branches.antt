@@ -1,11 +1,10 @@
 -- A block's branch is short, and has hashes in it.
-use Rattle.std.proofs.Common.{◌≡◌, ℕ, zero, suc, ◌+◌, ◌-◌, ◌*◌, ◌/◌, ◌%◌, ◌^◌, ◌<◌, ◌≤◌, List, [], ◌∷◌, length, get_or, map, nat_lt, nat_eq, Bool, true, false, cond, refl, sym, ap, subst, ◌∙◌, arith}
+use Rattle.std.proofs.Common.{◌≡◌, ℕ, zero, suc, ◌+◌, ◌-◌, ◌/◌, ◌%◌, ◌^◌, ◌<◌, ◌≤◌, List, [], ◌∷◌, length, get_or, map, nat_lt, nat_eq, Bool, true, false, cond, refl, arith}
 use Rattle.std.proofs.lemmas.Bool.{ltb-true}
 use Rattle.std.proofs.Math.Nat.{pow-suc}
 use Rattle.std.specs.List.{AllByRecursion}
-use Rattle.sha2.specs.Sha256.{sha256}
 use Rattle.sha2.proofs.Facts256.{length-sha256}
-use Rattle.ots_merkle.specs.Hashes.{block_node, AreHashes}
+use Rattle.ots_merkle.specs.Hashes.{AreHashes}
 use Rattle.ots_merkle.specs.declared.branch.Side.{Side}
 use Rattle.ots_merkle.specs.declared.branch.Side.TheVariants.{Left, Right}
 use Rattle.ots_merkle.specs.BlockTree.{paired, neighbour, branch_within, block_branch}

@@ -1,5 +1,5 @@
 -- What a book keeps, where its store is refreshed and where a record is added.
-use Rattle.std.proofs.Common.{◌≡◌, inl, inr, ℕ, Bool, true, false, List, [], ◌∷◌, ◌++◌, length, refl, sym, ap, subst, ◌∙◌, arith}
+use Rattle.std.proofs.Common.{◌≡◌, inl, inr, ℕ, Bool, true, false, List, [], ◌∷◌, ◌++◌, refl, sym, ap, subst, ◌∙◌}
 use Rattle.std.proofs.lemmas.List.{map-append, append-nil}
 use Rattle.std.specs.Prelude.{Option, Result, Ok, Err, OnOk, OnErr}
 use Rattle.ots_disk.specs.Disk.{LeavesOnly}
@@ -7,11 +7,10 @@ use Rattle.ots_disk.specs.Moments.{weaker}
 use Rattle.ots_journal.specs.declared.entry.Entry.{Entry}
 use Rattle.ots_journal.specs.declared.errors.AppendError.{AppendError}
 use Rattle.ots_journal.specs.declared.errors.AppendError.TheVariants.{DiskFault, Full, OutOfMemory}
-use Rattle.ots_journal.specs.declared.errors.DiskFault.{DiskFault as Fault}
 use Rattle.ots_journal.specs.Journal.{JournalTold, StandsForEither, Refreshed, Unrefreshed}
 use Rattle.ots_store.specs.declared.anchor.Anchor.{Anchor}
 use Rattle.ots_store.specs.declared.tip.Tip.{Tip}
-use Rattle.ots_store.specs.Order.{commits_of, records_of, AreRecords, Follows, FollowsTip, FollowsAnchor}
+use Rattle.ots_store.specs.Order.{commits_of, records_of, Follows, FollowsTip, FollowsAnchor}
 use Rattle.ots_store.specs.Records.{Record, TipRecord, AnchorRecord, entry_of, record_of, FitsTip, FitsAnchor}
 use Rattle.ots_store.specs.Store.{InRecords, StoreTold, StoreStands, Added}
 use Rattle.ots_store.proofs.Adding.{nothing_flies}

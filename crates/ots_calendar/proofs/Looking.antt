@@ -1,16 +1,16 @@
 -- Records that are looked at one after another.
-use Rattle.std.proofs.Common.{◌≡◌, inl, inr, ℕ, zero, suc, ◌+◌, ◌<◌, ◌≤◌, max, Bool, true, false, cond, List, [], ◌∷◌, ◌++◌, length, take, drop, get_or, refl, sym, ap, subst, ◌∙◌, arith, length-append, append_assoc}
-use Rattle.std.proofs.lemmas.Bool.{le-leb, lt-ltb, le-ltb, lt-leb}
+use Rattle.std.proofs.Common.{◌≡◌, ℕ, zero, suc, ◌+◌, ◌<◌, ◌≤◌, max, Bool, true, false, List, [], ◌∷◌, ◌++◌, length, take, drop, get_or, refl, sym, ap, subst, ◌∙◌, arith, length-append, append_assoc}
+use Rattle.std.proofs.lemmas.Bool.{le-leb, lt-ltb, le-ltb}
 use Rattle.std.proofs.lemmas.List.{append-nil, take_more, length-take-le}
 use Rattle.std.proofs.lemmas.Option.{get_or_from_slice_get, slice_get_within, slice_get-map, slice_get-get_or, slice_get_past}
 use Rattle.std.specs.Option.{option_map, option_copied}
-use Rattle.std.specs.Prelude.{◌⊎◌, Option, Some, None, find, slice_get, nat_le, nat_lt, ◌&&◌, ◌^◌, MatchOption, Result, Ok, Err, OnOk}
+use Rattle.std.specs.Prelude.{Option, Some, None, find, slice_get, nat_le, ◌&&◌, ◌^◌, MatchOption, Result, Ok, Err, OnOk}
 use Rattle.std.proofs.Common.{Bor}
 use Rattle.std.specs.List.{AllByRecursion}
 use Rattle.ots_journal.specs.declared.entry.Entry.{Entry}
 use Rattle.ots_store.specs.declared.anchor.Anchor.{Anchor}
 use Rattle.ots_store.specs.declared.tip.Tip.{Tip}
-use Rattle.ots_store.specs.Order.{tip_in, anchor_in, commits_of, tips_of, anchors_of, anchor_end, covered_by, covered_of, covers, HasSpan, Follows, FollowsTip, FollowsAnchor, InOrder, records_of}
+use Rattle.ots_store.specs.Order.{tip_in, anchor_in, commits_of, tips_of, anchors_of, anchor_end, covered_by, covered_of, covers, Follows, FollowsTip, FollowsAnchor, InOrder, records_of}
 use Rattle.ots_store.specs.Ranges.{Orderly}
 use Rattle.ots_store.specs.Records.{Record, CommitRecord, TipRecord, AnchorRecord, tip_at, anchor_at, entry_of, record_of, IsRecord}
 use Rattle.ots_store.proofs.Ordered.{commits_append, tips_append, anchors_append, covered_append, orderly, span_within}
@@ -87,9 +87,10 @@ pub tip_there : (records : List Record) (i : ℕ) (t d : Tip) → slice_get reco
     → (length (tips_of (take i records)) < length (tips_of records)) × (get_or (tips_of records) (length (tips_of (take i records))) d ≡ t)
 tip_there records i t d is =
     let rest : List Record = drop (suc i) records in
-    let all : tips_of records ≡ tips_of (take i records) ++ t ∷ tips_of rest = ap tips_of (split records i (TipRecord t) is) ∙ tips_append (take i records) (TipRecord t ∷ rest) in
-    (omega (arith, ap length all, length-append (tips_of (take i records)) (t ∷ tips_of rest)),
-    ap (λ (l : List Tip). get_or l (length (tips_of (take i records))) d) all ∙ at_seam (tips_of (take i records)) t (tips_of rest) d)
+    let all : tips_of records ≡ tips_of (take i records) ++ t ∷ tips_of rest = ap tips_of (split records i (TipRecord t) is) ∙ tips_append (take i records) (TipRecord t ∷ rest) in (
+      omega (arith, ap length all, length-append (tips_of (take i records)) (t ∷ tips_of rest)),
+      ap (λ (l : List Tip). get_or l (length (tips_of (take i records))) d) all ∙ at_seam (tips_of (take i records)) t (tips_of rest) d,
+    )
 
 -- an anchor
 pub anchor_some : (records : List Record) (i : ℕ) (a : Anchor) → InOrder [] records → slice_get records i ≡ Some (AnchorRecord a) → (1 ≤ a.count) × (a.first + a.count ≤ length (commits_of records))

@@ -1,6 +1,6 @@
 -- Spans of commitments, and the tree over one that grows.
-use Rattle.std.proofs.Common.{◌≡◌, ℕ, suc, ◌+◌, ◌<◌, ◌≤◌, List, [], ◌∷◌, ◌++◌, length, take, drop, map, get_or, refl, sym, ap, subst, ◌∙◌, arith, length-append}
-use Rattle.std.proofs.lemmas.List.{take-append-le, drop-append-le, take_more, get_or-drop, length-drop, length-map, map-append, take_all}
+use Rattle.std.proofs.Common.{◌≡◌, ℕ, ◌+◌, ◌<◌, ◌≤◌, List, [], ◌∷◌, ◌++◌, length, take, drop, get_or, sym, ap, ◌∙◌, arith, length-append}
+use Rattle.std.proofs.lemmas.List.{take-append-le, drop-append-le, take_more, get_or-drop, length-drop, map-append, take_all}
 use Rattle.sha2.specs.Sha256.{sha256}
 use Rattle.ots_anchor.specs.Path.{hashed}
 use Rattle.ots_calendar.specs.Tree.{TreeTold, IsOver}

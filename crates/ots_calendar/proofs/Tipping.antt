@@ -1,6 +1,6 @@
 -- What asking a book for a tip does, by how it ends.
-use Rattle.std.proofs.Common.{◌≡◌, inl, inr, ℕ, List, [], ◌∷◌, refl, sym, ap, subst, ◌∙◌}
-use Rattle.std.specs.Prelude.{Option, Some, None, MatchOption, Result, Ok, Err}
+use Rattle.std.proofs.Common.{◌≡◌, inl, inr, ℕ, List, refl, subst}
+use Rattle.std.specs.Prelude.{Option, Some, None, MatchOption, Result, Err}
 use Rattle.ots_disk.specs.Disk.{LeavesOnly}
 use Rattle.ots_journal.specs.declared.errors.AppendError.{AppendError}
 use Rattle.ots_journal.specs.Journal.{JournalTold, StandsForEither, Refreshed}
@@ -9,7 +9,6 @@ use Rattle.ots_store.specs.Order.{records_of}
 use Rattle.ots_store.specs.Records.{Record}
 use Rattle.ots_calendar.specs.declared.errors.TipError.{TipError}
 use Rattle.ots_calendar.specs.declared.errors.TipError.TheVariants.{NothingNew, OutOfMemory}
-use Rattle.ots_calendar.specs.Book.{GoesOn}
 use Rattle.ots_calendar.specs.Tips.{AllCovered, IsNextTip, tip_answer, StoresTip, AsksTip}
 
 module _ {D : Type 0} (bytes : D → Option (List ℕ)) (clock : D → ℕ) (since : D → ℕ → List ℕ → Type 0) (old mid next : JournalTold D) where

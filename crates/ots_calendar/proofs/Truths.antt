@@ -1,16 +1,14 @@
 -- Records whose values are right, and those of one record more.
-use Rattle.std.proofs.Common.{◌≡◌, ℕ, ◌+◌, ◌≤◌, max, List, [], ◌∷◌, ◌++◌, length, refl, sym, ap, subst, ◌∙◌, arith}
+use Rattle.std.proofs.Common.{◌≡◌, ℕ, ◌≤◌, List, [], ◌∷◌, ◌++◌, length, sym, ap, subst, ◌∙◌, arith}
 use Rattle.std.proofs.lemmas.List.{append-nil}
 use Rattle.std.specs.List.{AllByRecursion}
 use Rattle.ots_anchor.specs.Path.{hashed, led_to}
 use Rattle.ots_merkle.specs.CalendarTree.{root}
-use Rattle.ots_store.specs.declared.anchor.Anchor.{Anchor}
-use Rattle.ots_store.specs.declared.tip.Tip.{Tip}
 use Rattle.ots_store.specs.Order.{commit_in, commits_of, tips_of, anchors_of, tip_end, anchor_end, covered_by, covered_of}
 use Rattle.ots_store.specs.Ranges.{IsWithin, Orderly}
 use Rattle.ots_store.specs.Records.{Record, CommitRecord, TipRecord, AnchorRecord}
 use Rattle.ots_store.proofs.Ordered.{commits_append}
-use Rattle.ots_calendar.specs.Values.{span, IsTrue, AreTrue}
+use Rattle.ots_calendar.specs.Values.{IsTrue, AreTrue}
 use Rattle.ots_calendar.proofs.Spans.{span_more}
 
 -- so many commitments are enough for a record

@@ -32,11 +32,7 @@ pub(crate) fn ids_of(alloc: Global, block: &Block) -> Result<Vec<[u8; 32]>, OutO
 }
 
 /// Tests the root in a block's header against that over the ids of its transactions.
-pub(crate) fn check_root(
-    alloc: Global,
-    block: &Block,
-    ids: &[[u8; 32]],
-) -> Result<(), AnchorError>
+pub(crate) fn check_root(alloc: Global, block: &Block, ids: &[[u8; 32]]) -> Result<(), AnchorError>
     requires ids { ids.now ≡ txids block.now }
     requires some { 1 ≤ length ids.now }
     requires most { length ids.now < 2 ^ 32 }

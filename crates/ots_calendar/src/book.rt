@@ -214,7 +214,8 @@ impl<D: Disk> Book<D> {
         self.store.stands();
         let first = self.store.covered();
         let count = self.store.commits() - first;
-        self.tree.catch_up(self.store.commitments(), first as usize)?;
+        self.tree
+            .catch_up(self.store.commitments(), first as usize)?;
         match self.tree.root() {
             None => Ok(None),
             Some(root) => Ok(Some(Tip { first, count, root })),

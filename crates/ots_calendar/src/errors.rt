@@ -75,7 +75,10 @@ pub enum AnchorError {
     /// A call of the disk failed, and the disk has counted the fault.
     DiskFault,
     /// With the anchor the file would have `need` bytes, more than the limit.
-    Full { need: u64, limit: u64 },
+    Full {
+        need: u64,
+        limit: u64,
+    },
     /// Memory ran out.
     OutOfMemory,
 }

@@ -47,11 +47,7 @@ impl OpenTree {
 
     /// Takes in the commitments from `covered` on that it has not. Where it began elsewhere it is
     /// made anew. Where memory ran out it lacks some of them.
-    pub fn catch_up(
-        &mut self,
-        commitments: &[[u8; 44]],
-        covered: usize,
-    ) -> Result<(), OutOfMemory>
+    pub fn catch_up(&mut self, commitments: &[[u8; 44]], covered: usize) -> Result<(), OutOfMemory>
         requires few { length commitments.now < 2 ^ 32 }
         requires within { covered ≤ length commitments.now }
         requires over { IsOver commitments.now self.old }

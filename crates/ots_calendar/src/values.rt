@@ -115,11 +115,7 @@ fn anchor_at<'a, D: Disk>(store: &'a Store<D>, i: u64, seen: &Seen) -> Option<&'
 }
 
 /// Whether a tip's root is that of the tree over its commitments.
-fn is_true_tip(
-    alloc: Global,
-    commitments: &[[u8; 44]],
-    tip: &Tip,
-) -> Result<bool, OutOfMemory>
+fn is_true_tip(alloc: Global, commitments: &[[u8; 44]], tip: &Tip) -> Result<bool, OutOfMemory>
     requires some { 1 ≤ tip.now.count }
     requires within { tip.now.first + tip.now.count ≤ length commitments.now }
     requires few { length commitments.now < 2 ^ 32 }

@@ -1,5 +1,5 @@
 -- Blocks of bytes: a key that fills one, masks, and what is put one behind the other.
-use Rattle.std.proofs.Common.{◌≡◌, ◌+◌, ◌-◌, ◌<◌, ◌≤◌, ℕ, zero, suc, refl, List, [], ◌∷◌, ◌++◌, length, take, drop, replicate, get_or, set, ap, sym, ◌∙◌, arith}
+use Rattle.std.proofs.Common.{◌≡◌, ◌+◌, ◌-◌, ◌<◌, ℕ, zero, suc, refl, List, [], ◌∷◌, ◌++◌, length, take, drop, replicate, get_or, set, ap, sym, ◌∙◌, arith}
 use Rattle.std.specs.Prelude.{bit_xor}
 use Rattle.std.proofs.lemmas.List.{drop-replicate, take_more_set, take_more, map-append, drop-set-lt, drop-drop, take_all, append-nil, length-drop}
 use Rattle.ots_round.specs.Hmac.{filled, masked}

@@ -45,7 +45,8 @@ fn gives_the_hash_of_case_3(rt: HostRuntime) -> Result<(), Fail> {
 #[test]
 fn gives_the_hash_of_case_4(rt: HostRuntime) -> Result<(), Fail> {
     let digits = "82558a389a443c0ea4cc819899f2083a85f0faa3e578f8077a2e3ff46729665b";
-    let key = b"\x01\x02\x03\x04\x05\x06\x07\x08\x09\x0a\x0b\x0c\x0d\x0e\x0f\x10\x11\x12\x13\x14\x15\x16\x17\x18\x19";
+    let key =
+        b"\x01\x02\x03\x04\x05\x06\x07\x08\x09\x0a\x0b\x0c\x0d\x0e\x0f\x10\x11\x12\x13\x14\x15\x16\x17\x18\x19";
     assert!(rt; gives(rt.alloc(), key, &[0xcd; 50], digits)?);
     Ok(())
 }

@@ -26,11 +26,17 @@ fn a_round_of_one_leaf_has_its_commitment(rt: HostRuntime) -> Result<(), Fail> {
     let leaves = leaf_hashes(alloc, &[ticket()?])?;
     assert_eq!(rt; leaves.len(), 1);
     let text = encode(alloc, &leaves[0])?;
-    assert_eq!(rt; text.as_str(), "91cb55b452227580bbef33465863c708d76290b2328d8b8a39cd131ca931cc86");
+    assert_eq!(rt;
+        text.as_str(),
+        "91cb55b452227580bbef33465863c708d76290b2328d8b8a39cd131ca931cc86"
+    );
     let key = Key::new(b"Jefe")?;
     let made = commitment(&key, 1_700_000_000, &leaves[0]);
     let text = encode(alloc, &made)?;
-    assert_eq!(rt; text.as_str(), "6553f10091cb55b452227580bbef33465863c708d76290b2328d8b8a39cd131ca931cc8674d37c871932e248");
+    assert_eq!(rt;
+        text.as_str(),
+        "6553f10091cb55b452227580bbef33465863c708d76290b2328d8b8a39cd131ca931cc8674d37c871932e248"
+    );
     Ok(())
 }
 

@@ -1,11 +1,10 @@
-use Rattle.std.proofs.Common.{◌≡◌, ◌∙◌, sym, ap, subst, List, ℕ}
+use Rattle.std.proofs.Common.{◌∙◌, sym, ap, subst}
 use Rattle.std.proofs.lemmas.Result.{err_from_is_err_and}
-use Rattle.std.specs.Prelude.{IfErr, Result, Err}
+use Rattle.std.specs.Prelude.{IfErr, Result}
 use Rattle.ots_anchor.specs.declared.search.FindError.TheVariants.{OutOfMemory}
 use Rattle.ots_store.specs.declared.anchor.Anchor.{Anchor}
-use Rattle.ots_store.specs.declared.tip.Tip.{Tip}
 use Rattle.ots_calendar.specs.declared.errors.AnchorError.{AnchorError}
-use Rattle.ots_calendar.specs.Anchors.{open_tips, roots, FindsNone}
+use Rattle.ots_calendar.specs.Anchors.{roots, FindsNone}
 use Rattle.ots_calendar.proofs.Anchored.{stands_within, finds}
 use Rattle.ots_calendar.proofs.anchoring.find_anchor.Goals as goal
 

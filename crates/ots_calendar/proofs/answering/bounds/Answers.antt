@@ -1,4 +1,4 @@
-use Rattle.std.proofs.Common.{arith, ◌+◌, ◌<◌, ◌≤◌, length}
+use Rattle.std.proofs.Common.{arith}
 use Rattle.ots_calendar.proofs.Asked.{covering_records}
 use Rattle.ots_calendar.proofs.answering.bounds.Goals as goal
 

@@ -1,5 +1,4 @@
-use Rattle.std.proofs.Common.{◌∙◌, sym, ap, arith, ◌≤◌, ◌<◌, length}
-use Rattle.std.specs.Prelude.{Option, Some, None, MatchOption}
+use Rattle.std.proofs.Common.{arith}
 use Rattle.std.specs.Option.{option_copied}
 use Rattle.ots_calendar.specs.Seen.{IsAnchorAt}
 use Rattle.ots_calendar.proofs.Looking.{no_anchor, anchor_found, copied_match}

@@ -1,4 +1,4 @@
-use Rattle.std.proofs.Common.{◌≡◌, ◌<◌, ◌∙◌, sym, ap, subst, length, List, ℕ, get_or}
+use Rattle.std.proofs.Common.{◌≡◌, ◌<◌, ◌∙◌, subst, length, List, ℕ, get_or}
 use Rattle.ots_merkle.specs.BlockTree.{above_side}
 use Rattle.ots_merkle.specs.declared.branch.Side.{Side}
 use Rattle.ots_calendar.proofs.Climbing.{climb_more}

@@ -1,4 +1,4 @@
-use Rattle.std.proofs.Common.{◌∙◌, sym, ap, arith, ◌≤◌, ◌<◌, length, List, []}
+use Rattle.std.proofs.Common.{ap, arith, List, []}
 use Rattle.std.specs.Prelude.{slice_get}
 use Rattle.ots_store.specs.declared.tip.Tip.{Tip}
 use Rattle.ots_calendar.specs.Seen.{IsTipAt}

@@ -1,4 +1,3 @@
-use Rattle.std.proofs.Common.{ap, ◌∙◌, ℕ}
 use Rattle.ots_round.proofs.Blocks.{filled_block}
 use Rattle.ots_round.proofs.hmac.filled.Goals as goal
 

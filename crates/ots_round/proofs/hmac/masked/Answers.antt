@@ -1,4 +1,4 @@
-use Rattle.std.proofs.Common.{◌∙◌, sym, ap, arith, set, get_or, length-set}
+use Rattle.std.proofs.Common.{◌∙◌, sym, ap, arith, get_or, length-set}
 use Rattle.std.specs.Prelude.{bit_xor}
 use Rattle.std.proofs.lemmas.List.{take_all}
 use Rattle.ots_round.specs.Hmac.{masked}

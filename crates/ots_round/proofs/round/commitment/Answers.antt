@@ -1,7 +1,6 @@
 use Rattle.std.proofs.Common.{◌∙◌, sym, ap, arith, ◌++◌, List, ℕ, take, length, length-take-le}
-use Rattle.sha2.proofs.Facts256.{length-sha256}
-use Rattle.ots_round.specs.Hmac.{keyed, hmac_sha256}
-use Rattle.ots_round.specs.Round.{signed, mac}
+use Rattle.ots_round.specs.Hmac.{keyed}
+use Rattle.ots_round.specs.Round.{mac}
 use Rattle.ots_round.proofs.Blocks.{joined, whole_block}
 use Rattle.ots_round.proofs.round.commitment.Goals as goal
 

@@ -1,4 +1,4 @@
-use Rattle.std.proofs.Common.{◌≡◌, ◌<◌, ◌^◌, sym, ap, subst, ◌∙◌, length, List, ℕ}
+use Rattle.std.proofs.Common.{◌<◌, ◌^◌, subst, length, List, ℕ}
 use Rattle.ots_calendar.proofs.Anchored.{all_may_stand}
 use Rattle.ots_calendar.proofs.book.Book.find_anchor.Goals as goal
 

@@ -1,5 +1,4 @@
-use Rattle.std.proofs.Common.{arith, ap, ◌∙◌, sym, length, ◌≤◌}
-use Rattle.ots_store.specs.Order.{commits_of, covered_of}
+use Rattle.std.proofs.Common.{arith, ap, length}
 use Rattle.ots_calendar.proofs.Asked.{covered_within}
 use Rattle.ots_calendar.proofs.book.Book.next_tip.Goals as goal
 

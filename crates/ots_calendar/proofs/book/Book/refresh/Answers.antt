@@ -1,4 +1,3 @@
-use Rattle.std.proofs.Common.{sym}
 use Rattle.ots_calendar.proofs.Keeping.{refresh_keeps, refresh_readable}
 use Rattle.ots_calendar.proofs.book.Book.refresh.Goals as goal
 

@@ -1,8 +1,8 @@
-use Rattle.std.proofs.Common.{◌≡◌, ◌∷◌, [], List, ℕ, true, sym, ap, subst, ◌∙◌}
-use Rattle.ots_store.specs.Order.{commits_of, records_of, FollowsAnchor}
-use Rattle.ots_store.specs.Records.{Record, AnchorRecord, entry_of, record_of}
+use Rattle.std.proofs.Common.{◌≡◌, true, sym, ap, subst, ◌∙◌}
+use Rattle.ots_store.specs.Order.{commits_of, FollowsAnchor}
+use Rattle.ots_store.specs.Records.{AnchorRecord, entry_of}
 use Rattle.ots_calendar.specs.Book.{BookTold}
-use Rattle.ots_calendar.specs.Values.{IsTrue, IsTrueAnchor}
+use Rattle.ots_calendar.specs.Values.{IsTrueAnchor}
 use Rattle.ots_calendar.proofs.Keeping.{add_keeps, add_readable, anchor_more, anchor_records}
 use Rattle.ots_calendar.proofs.book.Book.store_anchor.Goals as goal
 

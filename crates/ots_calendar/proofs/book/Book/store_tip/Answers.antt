@@ -1,10 +1,8 @@
-use Rattle.std.proofs.Common.{◌≡◌, ◌∷◌, [], List, ℕ, true, sym, ap, subst, ◌∙◌}
-use Rattle.ots_store.specs.Order.{commits_of, records_of, FollowsTip}
-use Rattle.ots_store.specs.Records.{Record, TipRecord, entry_of, record_of}
-use Rattle.ots_store.specs.Store.{StoreTold}
-use Rattle.ots_store.proofs.Spellings.{record_read}
+use Rattle.std.proofs.Common.{◌≡◌, true, sym, ap, subst, ◌∙◌}
+use Rattle.ots_store.specs.Order.{commits_of, FollowsTip}
+use Rattle.ots_store.specs.Records.{TipRecord, entry_of}
 use Rattle.ots_calendar.specs.Book.{BookTold}
-use Rattle.ots_calendar.specs.Values.{IsTrue, IsTrueTip}
+use Rattle.ots_calendar.specs.Values.{IsTrueTip}
 use Rattle.ots_calendar.proofs.Keeping.{add_keeps, add_readable, tip_more, tip_records}
 use Rattle.ots_calendar.proofs.book.Book.store_tip.Goals as goal
 
