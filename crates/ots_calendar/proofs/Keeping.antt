@@ -1,9 +1,9 @@
 -- What a book keeps, where its store is refreshed and where a record is added.
-use Rattle.std.proofs.Common.{◌≡◌, inl, inr, ℕ, Bool, true, false, List, [], ◌∷◌, ◌++◌, refl, sym, ap, subst, ◌∙◌}
+use Rattle.std.proofs.Common.{◌≡◌, inl, inr, ℕ, Bool, true, false, List, [], ◌∷◌, ◌++◌, refl, sym, ap, subst, ◌∙◌, length}
 use Rattle.std.proofs.lemmas.List.{map-append, append-nil}
 use Rattle.std.specs.Prelude.{Option, Result, Ok, Err, OnOk, OnErr}
 use Rattle.ots_disk.specs.Disk.{LeavesOnly}
-use Rattle.ots_disk.specs.Moments.{weaker}
+use Rattle.ots_disk.specs.Moments.{weaker, joined}
 use Rattle.ots_journal.specs.declared.entry.Entry.{Entry}
 use Rattle.ots_journal.specs.declared.errors.AppendError.{AppendError}
 use Rattle.ots_journal.specs.declared.errors.AppendError.TheVariants.{DiskFault, Full, OutOfMemory}
@@ -11,8 +11,8 @@ use Rattle.ots_journal.specs.Journal.{JournalTold, StandsForEither, Refreshed, U
 use Rattle.ots_store.specs.declared.anchor.Anchor.{Anchor}
 use Rattle.ots_store.specs.declared.tip.Tip.{Tip}
 use Rattle.ots_store.specs.Order.{commits_of, records_of, Follows, FollowsTip, FollowsAnchor}
-use Rattle.ots_store.specs.Records.{Record, TipRecord, AnchorRecord, entry_of, record_of, FitsTip, FitsAnchor}
-use Rattle.ots_store.specs.Store.{InRecords, StoreTold, StoreStands, Added}
+use Rattle.ots_store.specs.Records.{Record, CommitRecord, TipRecord, AnchorRecord, entry_of, record_of, FitsTip, FitsAnchor}
+use Rattle.ots_store.specs.Store.{InRecords, StoreTold, StoreStands, Added, Adds}
 use Rattle.ots_store.proofs.Adding.{nothing_flies}
 use Rattle.ots_store.proofs.Ordered.{commits_append, orderly, records_push}
 use Rattle.ots_store.proofs.Spellings.{record_read, is_record}
@@ -127,3 +127,32 @@ pub anchor_records : (records : List Record) (entries : List Entry) (a : Anchor)
 anchor_records records entries a same are fits follows =
     records_push [] entries (entry_of (AnchorRecord a)) are (is_record (AnchorRecord a) fits)
     (subst (Follows (records_of entries)) (sym (record_read (AnchorRecord a) fits)) (subst (λ (l : List Record). FollowsAnchor l a) same follows))
+
+-- ---- a commitment more, behind a refresh
+
+found_at : {D : Type 0} (bytes : D → Option (List ℕ)) (images : D → List ℕ → Type 0) (s : StoreTold D) (mid : JournalTold D) (b : Bool) → StoreStands bytes images s → s.journal.is_sure ≡ b → Refreshed bytes s.journal mid → InRecords mid.entries
+found_at bytes images s mid true stands sure r = subst (λ (j : JournalTold _). InRecords j.entries) (sym (r.already sure)) stands.are
+found_at bytes images s mid false stands unsure r = elim (r.decided unsure) [
+  | inl same ↦ subst InRecords (sym same.0) stands.are
+  | inr more ↦ subst InRecords (sym more.0) (stands.flying unsure)
+]
+
+commit_follows : (c : List ℕ) (entries : List Entry) → length c ≡ 44 → InRecords entries → InRecords (entries ++ entry_of (CommitRecord c) ∷ [])
+commit_follows c entries long are = records_push [] entries (entry_of (CommitRecord c)) are (is_record (CommitRecord c) long) tt
+
+module _ {D A : Type 0} (bytes : D → Option (List ℕ)) (images : D → List ℕ → Type 0) (clock : D → ℕ) (since : D → ℕ → List ℕ → Type 0) (s : StoreTold D) (new : JournalTold D) (tree : TreeTold) (c : List ℕ)
+    (k : Keeps s.journal tree) (stands : StoreStands bytes images s) where
+  pub adds_keeps : (result : Result A AppendError) → Adds bytes clock since s.journal new (entry_of (CommitRecord c) ∷ []) result → Keeps new tree
+  adds_keeps result (inl after) =
+      let mid : Keeps after.mid tree = refresh_keeps bytes s.journal after.mid tree k {A = Unit {0}} {E = Unit {0}} (Ok tt) after.refreshed tt in
+      add_keeps clock since after.mid new tree (entry_of (CommitRecord c)) after.refreshed.sure (found_at bytes images s after.mid s.journal.is_sure stands refl after.refreshed) mid tt result after.added
+  adds_keeps result (inr nothing) = refresh_keeps bytes s.journal new tree k {A = Unit {0}} {E = Unit {0}} (Err tt) tt nothing.unrefreshed
+
+  pub adds_readable : (result : Result A AppendError) → length c ≡ 44 → Adds bytes clock since s.journal new (entry_of (CommitRecord c) ∷ []) result → LeavesOnly clock since s.journal.disk new.disk StandsForBook
+  adds_readable result long (inl after) =
+      let mid : Keeps after.mid tree = refresh_keeps bytes s.journal after.mid tree k {A = Unit {0}} {E = Unit {0}} (Ok tt) after.refreshed tt in
+      let are : InRecords after.mid.entries = found_at bytes images s after.mid s.journal.is_sure stands refl after.refreshed in
+      joined clock since s.journal.disk after.mid.disk new.disk StandsForBook StandsForBook StandsForBook
+      (refresh_readable bytes images clock since s after.mid tree k stands after.refreshing {A = Unit {0}} {E = Unit {0}} (Ok tt) after.refreshed tt)
+      (add_readable clock since after.mid new tree (entry_of (CommitRecord c)) after.refreshed.sure are mid tt result (commit_follows c after.mid.entries long are) after.added) (λ b h. h) (λ b h. h)
+  adds_readable result long (inr nothing) = refresh_readable bytes images clock since s new tree k stands nothing.refreshing {A = Unit {0}} {E = Unit {0}} (Err tt) tt nothing.unrefreshed

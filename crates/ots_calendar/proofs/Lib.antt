@@ -1,3 +1,4 @@
+mod Closing
 mod AnchoringIn
 mod Anchored
 mod Asked

@@ -6,12 +6,15 @@ use Rattle.ots_journal.specs.Image.{Stands}
 use Rattle.ots_journal.specs.Journal.{JournalTold, StandsForEither, Refreshed, Unrefreshed}
 use Rattle.ots_store.specs.Order.{commits_of, records_of}
 use Rattle.ots_store.specs.Store.{StoreTold, InRecords}
+use Rattle.ots_tickets.specs.Tickets.{TicketsTold}
 use Rattle.ots_calendar.specs.Tree.{TreeTold, IsOver}
 use Rattle.ots_calendar.specs.Values.{AreTrue}
 
 pub record BookTold (D : Type 0) : Type 0 where
   -- its records, on a journal
   pub store : StoreTold D
+  -- what waits, and what is left of closed rounds
+  pub tickets : TicketsTold
 
 -- These bytes stand for records in order whose values are right: a book can be opened on them.
 pub record StandsForBook (bytes : List ℕ) : Type 0 where

@@ -1,12 +1,16 @@
-ghost use Rattle.std.specs.Prelude.{◌≡◌, ◌⊎◌, ◌<◌, ◌≤◌, ◌^◌, ◌∷◌, [], List, ℕ, true, false, length, Some, Err, IfOk, IfErr, IfSome, OnOk, OnErr, MatchOption};
+ghost use Rattle.std.specs.Prelude.{◌≡◌, ◌⊎◌, ◌<◌, ◌≤◌, ◌^◌, ◌+◌, ◌++◌, ◌∷◌, [], List, ℕ, true, false, length, Some, Err, IfOk, IfErr, IsErrOf, IfSome, OnOk, OnErr, MatchOption};
 ghost use Rattle.ots_base.specs.Cause.{HasCause, HasCauseWhere};
 ghost use Rattle.ots_disk.specs.Disk.{LeavesOnly};
 ghost use Rattle.ots_journal.specs.Image.{Stands};
 ghost use Rattle.ots_journal.specs.Journal.{StandsForEither, Refreshed, Unrefreshed};
 ghost use Rattle.ots_store.specs.Order.{commits_of, tips_of, covered_of, records_of, HasSpan, FollowsTip};
 ghost use Rattle.ots_store.specs.Opening.{IfBad};
-ghost use Rattle.ots_store.specs.Records.{AnchorRecord, entry_of, FitsTip};
-ghost use Rattle.ots_store.specs.Store.{Added};
+ghost use Rattle.ots_store.specs.Records.{AnchorRecord, CommitRecord, entry_of, FitsTip};
+ghost use Rattle.ots_store.specs.Store.{Added, Adds};
+ghost use Rattle.ots_tickets.specs.Calls.{Takes, Withdraws};
+ghost use Rattle.ots_tickets.specs.Tickets.{IsNew};
+ghost use Rattle.ots_tickets.specs.declared.tickets.TheConstants.{MAX_WAITING};
+ghost use Rattle.ots_calendar.specs.Rounds.{Closes};
 ghost use Rattle.ots_block.specs.Block.{txids};
 ghost use Rattle.ots_block.specs.declared.limits.TheConstants.{MAX_COMPACT};
 ghost use Rattle.ots_merkle.specs.BlockTree.{block_root};
@@ -21,11 +25,15 @@ use crate::answering::answer_by;
 use crate::tree::OpenTree;
 use crate::values::first_untrue;
 use crate::{AnchorError, Answer, RefusedBook, TipError};
+use ots_attest::Uri;
 use ots_base::OutOfMemory;
 use ots_block::Block;
 use ots_disk::Disk;
 use ots_journal::{AppendError, DiskFault};
+use ots_outside::Leaf;
+use ots_round::{Key, Ticket};
 use ots_store::{Anchor, Store, StoreError, Tip};
+use ots_tickets::{PutError, Taken, Tickets};
 use std::alloc::Global;
 use std::marker::Model;
 
@@ -37,6 +45,7 @@ pub struct Book<D: Disk> {
     alloc: Global,
     store: Store<D>,
     tree: OpenTree,
+    tickets: Tickets,
 }
 
 impl<D: Disk> Model for Book<D> {
@@ -44,7 +53,7 @@ impl<D: Disk> Model for Book<D> {
 
     ghost Value = { BookTold D };
 
-    ghost view = { λ b. record { store = b.store } };
+    ghost view = { λ b. record { store = b.store; tickets = b.tickets } };
 
     ghost invariant = { λ b. Keeps b.store.journal b.tree };
 }
@@ -55,6 +64,8 @@ impl<D: Disk> Book<D> {
     pub fn open(alloc: Global, store: Store<D>) -> Result<Book<D>, RefusedBook<D>>
         requires { store.journal.is_sure ≡ true }
         ensures store { IfOk result (λ b. b.store ≡ store) }
+        ensures waiting { IfOk result (λ b. b.tickets.waiting ≡ []) }
+        ensures settled { IfOk result (λ b. b.tickets.settled ≡ []) }
         ensures are_true { OnOk result (AreTrue store.records) }
         ensures bad { IfErr result (λ r. IfBad r.why (FirstUntrue store.records)) }
         ensures accepts { AreTrue store.records → IfErr result (λ r. r.why ≡ StoreError.OutOfMemory) }
@@ -64,7 +75,13 @@ impl<D: Disk> Book<D> {
         match first_untrue(alloc, &store) {
             Ok(None) => {
                 let tree = OpenTree::new(alloc, 0);
-                let mut book = Book { alloc, store, tree };
+                let tickets = Tickets::new(alloc);
+                let mut book = Book {
+                    alloc,
+                    store,
+                    tree,
+                    tickets,
+                };
                 // Where memory runs out, the next tip catches up.
                 let _ = book.next_tip();
                 Ok(book)
@@ -115,10 +132,71 @@ impl<D: Disk> Book<D> {
         answer_by(self.alloc, &self.store, commitment)
     }
 
+    /// How many tickets wait.
+    pub fn waiting(&self) -> u64
+        ensures { result ≡ length self.now.tickets.waiting }
+    {
+        self.tickets.waiting()
+    }
+
+    /// A digest waits for a round, under a number that no other ticket has. `Busy` comes exactly
+    /// where 65,536 tickets wait. Where it is refused, the book is as before.
+    pub fn put(&mut self, leaf: Leaf, nonce: [u8; 16]) -> Result<Ticket, PutError>
+        ensures store { self.new.store ≡ self.old.store }
+        ensures ticket { IfOk result (λ t. (t.leaf ≡ leaf) × (t.nonce ≡ nonce)) }
+        ensures number { IfOk result (λ t. IsNew t.number self.old.tickets) }
+        ensures waits { IfOk result (λ t. self.new.tickets.waiting ≡ self.old.tickets.waiting ++ t ∷ []) }
+        ensures settled { self.new.tickets.settled ≡ self.old.tickets.settled }
+        ensures err { OnErr result (self.new.tickets.waiting ≡ self.old.tickets.waiting) }
+        ensures busy { result ≡ Err PutError.Busy → MAX_WAITING ≤ length self.old.tickets.waiting }
+        ensures full { MAX_WAITING ≤ length self.old.tickets.waiting → result ≡ Err PutError.Busy }
+    {
+        self.tickets.put(leaf, nonce)
+    }
+
+    /// The tree of a ticket whose round is closed, from its digest to a pending attestation of this
+    /// URI, and its receipt: the ticket is then gone. Or whether it waits. Where memory ran out, the
+    /// book is as before.
+    pub fn take(&mut self, ticket: &Ticket, uri: &Uri) -> Result<Taken, OutOfMemory>
+        ensures store { self.new.store ≡ self.old.store }
+        ensures takes { IfOk result (Takes ticket.now uri.now self.old.tickets self.new.tickets) }
+        ensures err { OnErr result (self.new.tickets ≡ self.old.tickets) }
+    {
+        self.tickets.take(ticket, uri)
+    }
+
+    /// Gives a ticket up: whether it waited or its round was closed, and it is then gone.
+    pub fn withdraw(&mut self, ticket: &Ticket) -> bool
+        ensures store { self.new.store ≡ self.old.store }
+        ensures withdraws { Withdraws ticket.now self.old.tickets self.new.tickets result }
+    {
+        self.tickets.withdraw(ticket)
+    }
+
+    /// Closes the round of all tickets that wait, at this Unix second: one commitment over them is
+    /// stored, they are settled, and its index is answered. `None` comes exactly where nothing
+    /// waits, and the disk is not called then. Where it is refused, every ticket waits as before.
+    ///
+    /// It takes all its memory before it calls the disk.
+    pub fn close(&mut self, second: u32, key: &Key) -> Result<Option<u64>, AppendError>
+        ensures closes { Closes D.bytes D.clock D.images_since key.now second self.old self.new result }
+        ensures index { IfOk result (λ index. IfSome index (λ i. i + 1 ≡ length (commits_of self.new.store.records))) }
+        ensures records { self.new.store.records ≡ records_of self.new.store.journal.entries }
+        ensures acknowledged { IfOk result (λ index. IfSome index (λ _. (c : List ℕ) → D.images self.new.store.journal.disk c → Stands c self.new.store.journal.entries)) }
+        ensures readable { LeavesOnly D.clock D.images_since self.old.store.journal.disk self.new.store.journal.disk StandsForBook }
+        ensures cause { HasCauseWhere (result ≡ Err AppendError.DiskFault) (D.faults self.old.store.journal.disk) (D.faults self.new.store.journal.disk) }
+    {
+        let closed = self.close_round(second, key);
+        // Where memory runs out, the next tip catches up.
+        let _ = self.next_tip();
+        closed
+    }
+
     /// The tip from the first commitment that no anchor covers to the last one. It is stored where
     /// none over these commitments is. `NothingNew` comes exactly where every commitment is covered.
     pub fn tip(&mut self) -> Result<Tip, TipError>
         ensures asks { AsksTip D.bytes D.clock D.images_since self.old.store.journal self.new.store.journal result }
+        ensures tickets { self.new.tickets ≡ self.old.tickets }
         ensures records { self.new.store.records ≡ records_of self.new.store.journal.entries }
         ensures acknowledged { OnOk result ((c : List ℕ) → D.images self.new.store.journal.disk c → Stands c self.new.store.journal.entries) }
         ensures readable { LeavesOnly D.clock D.images_since self.old.store.journal.disk self.new.store.journal.disk StandsForBook }
@@ -146,6 +224,7 @@ impl<D: Disk> Book<D> {
         requires some { 1 ≤ length block.now.transactions }
         requires most { length block.now.transactions ≤ MAX_COMPACT }
         ensures asks { AsksAnchor D.bytes D.clock D.images_since block.now height self.old.store.journal self.new.store.journal result }
+        ensures tickets { self.new.tickets ≡ self.old.tickets }
         ensures records { self.new.store.records ≡ records_of self.new.store.journal.entries }
         ensures acknowledged { OnOk result ((c : List ℕ) → D.images self.new.store.journal.disk c → Stands c self.new.store.journal.entries) }
         ensures readable { LeavesOnly D.clock D.images_since self.old.store.journal.disk self.new.store.journal.disk StandsForBook }
@@ -172,6 +251,7 @@ impl<D: Disk> Book<D> {
         requires root { block.now.header.root ≡ block_root (txids block.now) }
         requires height { height < 2 ^ 63 }
         ensures asks { AnchorsIn D.bytes D.clock D.images_since block.now height self.old.store.journal self.new.store.journal result }
+        ensures tickets { self.new.tickets ≡ self.old.tickets }
         ensures records { self.new.store.records ≡ records_of self.new.store.journal.entries }
         ensures acknowledged { OnOk result ((c : List ℕ) → D.images self.new.store.journal.disk c → Stands c self.new.store.journal.entries) }
         ensures readable { LeavesOnly D.clock D.images_since self.old.store.journal.disk self.new.store.journal.disk StandsForBook }
@@ -192,12 +272,48 @@ impl<D: Disk> Book<D> {
         self.store.stands();
     }
 
+    // Closes the round of all tickets that wait.
+    fn close_round(&mut self, second: u32, key: &Key) -> Result<Option<u64>, AppendError>
+        ensures closes { Closes D.bytes D.clock D.images_since key.now second self.old self.new result }
+        ensures index { IfOk result (λ index. IfSome index (λ i. i + 1 ≡ length (commits_of self.new.store.records))) }
+        ensures records { self.new.store.records ≡ records_of self.new.store.journal.entries }
+        ensures acknowledged { IfOk result (λ index. IfSome index (λ _. (c : List ℕ) → D.images self.new.store.journal.disk c → Stands c self.new.store.journal.entries)) }
+        ensures readable { LeavesOnly D.clock D.images_since self.old.store.journal.disk self.new.store.journal.disk StandsForBook }
+        ensures cause { HasCauseWhere (result ≡ Err AppendError.DiskFault) (D.faults self.old.store.journal.disk) (D.faults self.new.store.journal.disk) }
+    {
+        self.start();
+        match self.tickets.ready(second, key) {
+            Ok(None) => Ok(None),
+            Ok(Some(made)) => {
+                let index = self.add_commit(&made.commitment)?;
+                self.tickets.settle(made, index);
+                Ok(Some(index))
+            }
+            Err(_) => Err(AppendError::OutOfMemory),
+        }
+    }
+
+    // Adds a commitment.
+    fn add_commit(&mut self, commitment: &[u8; 44]) -> Result<u64, AppendError>
+        ensures adds { Adds D.bytes D.clock D.images_since self.old.store.journal self.new.store.journal (entry_of (CommitRecord commitment.now) ∷ []) result }
+        ensures tickets { self.new.tickets ≡ self.old.tickets }
+        ensures index { IfOk result (λ i. i + 1 ≡ length (commits_of self.new.store.records)) }
+        ensures records { self.new.store.records ≡ records_of self.new.store.journal.entries }
+        ensures acknowledged { OnOk result ((c : List ℕ) → D.images self.new.store.journal.disk c → Stands c self.new.store.journal.entries) }
+        ensures readable { LeavesOnly D.clock D.images_since self.old.store.journal.disk self.new.store.journal.disk StandsForBook }
+        ensures cause { HasCauseWhere (IsErrOf result AppendError.DiskFault) (D.faults self.old.store.journal.disk) (D.faults self.new.store.journal.disk) }
+    {
+        self.store.stands();
+        self.store.add_commit(commitment)
+    }
+
     // Finds out whether the record in flight is kept.
     fn refresh(&mut self) -> Result<(), DiskFault>
         ensures ok { OnOk result (Refreshed D.bytes self.old.store.journal self.new.store.journal) }
         ensures err { OnErr result (Unrefreshed D.bytes self.old.store.journal self.new.store.journal) }
         ensures any_moment { LeavesOnly D.clock D.images_since self.old.store.journal.disk self.new.store.journal.disk (StandsForEither self.old.store.journal.entries self.old.store.journal.flight) }
         ensures readable { LeavesOnly D.clock D.images_since self.old.store.journal.disk self.new.store.journal.disk StandsForBook }
+        ensures tickets { self.new.tickets ≡ self.old.tickets }
         ensures records { self.new.store.records ≡ records_of self.new.store.journal.entries }
         ensures cause { HasCause (D.faults self.old.store.journal.disk) (D.faults self.new.store.journal.disk) result }
     {
@@ -228,6 +344,7 @@ impl<D: Disk> Book<D> {
         requires next { IsNextTip self.old.store.records tip.now }
         requires fits { FitsTip tip.now }
         ensures stores { StoresTip D.clock D.images_since tip.now self.old.store.journal self.new.store.journal result }
+        ensures tickets { self.new.tickets ≡ self.old.tickets }
         ensures records { self.new.store.records ≡ records_of self.new.store.journal.entries }
         ensures acknowledged { OnOk result ((c : List ℕ) → D.images self.new.store.journal.disk c → Stands c self.new.store.journal.entries) }
         ensures readable { LeavesOnly D.clock D.images_since self.old.store.journal.disk self.new.store.journal.disk StandsForBook }
@@ -265,6 +382,7 @@ impl<D: Disk> Book<D> {
         requires sure { self.old.store.journal.is_sure ≡ true }
         requires may_stand { MayStand self.old.store.records anchor.now }
         ensures added { Added D.clock D.images_since self.old.store.journal self.new.store.journal (entry_of (AnchorRecord anchor.now) ∷ []) result }
+        ensures tickets { self.new.tickets ≡ self.old.tickets }
         ensures records { self.new.store.records ≡ records_of self.new.store.journal.entries }
         ensures acknowledged { OnOk result ((c : List ℕ) → D.images self.new.store.journal.disk c → Stands c self.new.store.journal.entries) }
         ensures readable { LeavesOnly D.clock D.images_since self.old.store.journal.disk self.new.store.journal.disk StandsForBook }
