@@ -1,3 +1,4 @@
+mod WholeWay
 mod Closing
 mod AnchoringIn
 mod Anchored

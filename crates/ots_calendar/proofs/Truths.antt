@@ -8,7 +8,7 @@ use Rattle.ots_store.specs.Order.{commit_in, commits_of, tips_of, anchors_of, ti
 use Rattle.ots_store.specs.Ranges.{IsWithin, Orderly}
 use Rattle.ots_store.specs.Records.{Record, CommitRecord, TipRecord, AnchorRecord}
 use Rattle.ots_store.proofs.Ordered.{commits_append}
-use Rattle.ots_calendar.specs.Values.{IsTrue, AreTrue}
+use Rattle.ots_calendar.specs.Values.{IsTrue, AreTrue, IsTrueAnchor}
 use Rattle.ots_calendar.proofs.Spans.{span_more}
 
 -- so many commitments are enough for a record
@@ -51,3 +51,9 @@ true_push records r o are one =
     let commits : commits_of (records ++ r ∷ []) ≡ commits_of records ++ commits_of (r ∷ []) = commits_append records (r ∷ []) in
     subst (λ (l : List (List ℕ)). AllByRecursion (IsTrue l) (records ++ r ∷ [])) (sym commits)
     (each_push (commits_of records ++ commits_of (r ∷ [])) records r (each_more (commits_of records) (commits_of (r ∷ [])) records (each_ends records o) are) (last_true (commits_of records) r one))
+
+pub anchors_true : (commits : List (List ℕ)) (records : List Record) → AllByRecursion (IsTrue commits) records → AllByRecursion (IsTrueAnchor commits) (anchors_of records)
+anchors_true commits [] are = tt
+anchors_true commits (CommitRecord c ∷ records) are = anchors_true commits records are.1
+anchors_true commits (TipRecord t ∷ records) are = anchors_true commits records are.1
+anchors_true commits (AnchorRecord a ∷ records) are = (are.0, anchors_true commits records are.1)
