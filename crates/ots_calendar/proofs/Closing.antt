@@ -39,7 +39,10 @@ module _ {D : Type 0} (bytes : D → Option (List ℕ)) (clock : D → ℕ) (sin
     some = ready.some;
     added = Ok index;
     adds = adds_it (Ok index) (subst (λ (r : Result ℕ AppendError). Adds bytes clock since old.store.journal new.store.journal (entry_of (CommitRecord made.commitment) ∷ []) r) was adds);
-    leaves = (waiting, settled ∙ ap (λ (l : List Settled). old.tickets.settled ++ l) (ap (map (at_index index)) ready.settled_are
-    ∙ settles_index index (round_commitment key second old.tickets.waiting) (leaves old.tickets.waiting) 0 old.tickets.waiting));
+    leaves = (
+      waiting,
+      settled ∙ ap (λ (l : List Settled). old.tickets.settled ++ l) (ap (map (at_index index)) ready.settled_are
+          ∙ settles_index index (round_commitment key second old.tickets.waiting) (leaves old.tickets.waiting) 0 old.tickets.waiting),
+    );
     answer = refl;
   })

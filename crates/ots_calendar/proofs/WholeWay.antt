@@ -185,8 +185,17 @@ unfolding complete_path
 complete_few commits i prefix suffix branch few short =
     let up = path_short 32 (hashed commits) i (let n : length (hashed commits) ≤ 2 ^ 32 = omega (arith, length-map commits sha256) in n) in
     let last = before prefix ++ (behind suffix ++ (twice ++ climb branch)) in
-    omega (arith, up, length-append (path (hashed commits) i) last, length-append (before prefix) (behind suffix ++ (twice ++ climb branch)), length-append (behind suffix) (twice ++ climb branch),
-    length-append twice (climb branch), before_few prefix, behind_few suffix, climb_long branch)
+    omega (
+      arith,
+      up,
+      length-append (path (hashed commits) i) last,
+      length-append (before prefix) (behind suffix ++ (twice ++ climb branch)),
+      length-append (behind suffix) (twice ++ climb branch),
+      length-append twice (climb branch),
+      before_few prefix,
+      behind_few suffix,
+      climb_long branch,
+    )
 
 taken_few : {A : Type 0} (n : ℕ) (l : List A) → length (take n l) ≤ length l
 taken_few zero l = omega arith

@@ -34,8 +34,8 @@ returns-after-place_of_waiting-clause-takes c =
     let waiting : c.deref-in-None.result.now ≡ old.waiting = c.deref-in-None.ensures.value ∙ ap (λ (x : TicketsTold). x.waiting) c.self.view_is in
     elim c.match-place_of_waiting.branch [
       | in-Some-place_of_waiting w ↦
-      let place : IsPlace (Waits t) old.waiting w.in-Some-place_of_waiting.field-0 =
-      subst (λ (l : List Ticket). IsPlace (Waits t) l w.in-Some-place_of_waiting.field-0) waiting w.in-Some-place_of_waiting.ensures in
-      inr (inl (none, one_at (Waits t) old.waiting w.in-Some-place_of_waiting.field-0 t place, refl, w.result-is))
+          let place : IsPlace (Waits t) old.waiting w.in-Some-place_of_waiting.field-0 =
+          subst (λ (l : List Ticket). IsPlace (Waits t) l w.in-Some-place_of_waiting.field-0) waiting w.in-Some-place_of_waiting.ensures in
+          inr (inl (none, one_at (Waits t) old.waiting w.in-Some-place_of_waiting.field-0 t place, refl, w.result-is))
       | in-None-place_of_waiting w ↦ inr (inr (none, subst (NoneIs (Waits t)) waiting w.in-None-place_of_waiting.ensures, refl, w.result-is))
     ]
