@@ -1,18 +1,16 @@
 -- What closing a round does, by how its commitment is added.
-use Rattle.std.proofs.Common.{◌≡◌, ◌≤◌, inl, ℕ, List, [], ◌∷◌, ◌++◌, length, map, refl, sym, ap, subst, ◌∙◌}
+use Rattle.std.proofs.Common.{◌≡◌, ◌≤◌, inl, ℕ, List, [], ◌∷◌, ◌++◌, length, map, refl, ap, subst, ◌∙◌}
 use Rattle.std.specs.Prelude.{Option, Some, MatchOption, Result, Ok, Err}
 use Rattle.ots_journal.specs.declared.errors.AppendError.{AppendError}
-use Rattle.ots_journal.specs.Journal.{JournalTold}
 use Rattle.ots_round.specs.Round.{leaves, round_commitment}
 use Rattle.ots_store.specs.Records.{CommitRecord, entry_of}
 use Rattle.ots_store.specs.Store.{Adds}
 use Rattle.ots_tickets.specs.declared.rounds.Ready.{Ready}
 use Rattle.ots_tickets.specs.declared.settled.Settled.{Settled}
 use Rattle.ots_tickets.specs.Ready.{at_index, IsReady}
-use Rattle.ots_tickets.specs.Tickets.{TicketsTold, settles}
 use Rattle.ots_tickets.proofs.Places.{settles_index}
 use Rattle.ots_calendar.specs.Book.{BookTold}
-use Rattle.ots_calendar.specs.Rounds.{round_answer, Closes}
+use Rattle.ots_calendar.specs.Rounds.{Closes}
 
 module _ {D : Type 0} (bytes : D → Option (List ℕ)) (clock : D → ℕ) (since : D → ℕ → List ℕ → Type 0) (key : List ℕ) (second : ℕ) (old new : BookTold D) (made : Ready) (o : Option Ready) (spare : ℕ)
     (found : MatchOption o (old.tickets.waiting ≡ []) (λ r. IsReady key second old.tickets.waiting r.commitment r.settled.items × (length r.settled.items ≤ spare))) (is : o ≡ Some made) where

@@ -1,5 +1,5 @@
 -- What is answered of a commitment, when records are added; and where the whole way leads.
-use Rattle.std.proofs.Common.{◌≡◌, ℕ, zero, suc, ◌+◌, ◌-◌, ◌*◌, ◌^◌, ◌<◌, ◌≤◌, Bool, true, false, cond, List, [], ◌∷◌, ◌++◌, length, take, drop, map, get_or, refl, sym, ap, subst, ◌∙◌, arith, length-append, length-drop}
+use Rattle.std.proofs.Common.{◌≡◌, ℕ, zero, suc, ◌+◌, ◌-◌, ◌*◌, ◌^◌, ◌<◌, ◌≤◌, Bool, true, false, cond, List, [], ◌∷◌, ◌++◌, length, take, drop, get_or, refl, sym, ap, subst, ◌∙◌, arith, length-append, length-drop}
 use Rattle.std.proofs.lemmas.List.{get_or-take, get_or-drop, length-take-le, length-map}
 use Rattle.std.proofs.lemmas.Slice.Eq.{bytes_eq-Decides}
 use Rattle.std.specs.Prelude.{Option, Some, None, find, slice_get, option_and_then}
@@ -8,11 +8,11 @@ use Rattle.std.specs.Option.{option_map}
 use Rattle.std.specs.Str.{bytes_eq}
 use Rattle.sha2.specs.Sha256.{sha256}
 use Rattle.sha2.proofs.Facts256.{length-sha256}
-use Rattle.ots_anchor.specs.Path.{hashed, before, behind, twice, climb, complete_path, led_to}
+use Rattle.ots_anchor.specs.Path.{hashed, before, behind, twice, climb, complete_path}
 use Rattle.ots_anchor.proofs.Paths.{leads}
 use Rattle.ots_journal.specs.declared.entry.Entry.{Entry}
 use Rattle.ots_merkle.specs.Hashes.{AreHashes}
-use Rattle.ots_merkle.specs.CalendarTree.{root, path}
+use Rattle.ots_merkle.specs.CalendarTree.{path}
 use Rattle.ots_merkle.specs.declared.branch.Side.{Side}
 use Rattle.ots_merkle.proofs.PathLaws.{path_leads, path_short}
 use Rattle.ots_ops.specs.Apply.{apply}
@@ -23,7 +23,7 @@ use Rattle.ots_round.specs.declared.ticket.Ticket.{Ticket}
 use Rattle.ots_round.proofs.Leading.{leads_in_round}
 use Rattle.ots_store.specs.declared.anchor.Anchor.{Anchor}
 use Rattle.ots_store.specs.Index.{least}
-use Rattle.ots_store.specs.Order.{anchors_of, anchor_end, commits_of, covered_by, covers, records_of, InOrder}
+use Rattle.ots_store.specs.Order.{anchors_of, commits_of, covers, records_of, InOrder}
 use Rattle.ots_store.specs.Records.{Record, FitsAnchor}
 use Rattle.ots_store.specs.Store.{InRecords}
 use Rattle.ots_store.proofs.Ordered.{commits_append, anchors_append, orderly}
@@ -31,11 +31,10 @@ use Rattle.ots_attest.specs.declared.attestation.Attestation.TheVariants.{Bitcoi
 use Rattle.ots_tree.specs.Made.{lone}
 use Rattle.ots_tree.specs.Wire.{pre}
 use Rattle.ots_tree.specs.declared.token.Token.{Token}
-use Rattle.ots_calendar.specs.declared.answer.Answer.{Answer}
-use Rattle.ots_calendar.specs.declared.answer.Answer.TheVariants.{Complete, Pending, Unknown}
+use Rattle.ots_calendar.specs.declared.answer.Answer.TheVariants.{Complete, Pending}
 use Rattle.ots_calendar.specs.Answer.{answer, answer_of, answer_at, way_in}
 use Rattle.ots_calendar.specs.Values.{span, IsTrueAnchor, AreTrue}
-use Rattle.ots_calendar.proofs.Asked.{EndsBy, all_end, all_fit, found_has, IsCovering, covering, all_long, IsLong}
+use Rattle.ots_calendar.proofs.Asked.{EndsBy, all_end, all_fit, found_has, covering, all_long, IsLong}
 use Rattle.ots_calendar.proofs.Spans.{span_more}
 use Rattle.ots_calendar.proofs.Truths.{anchors_true}
 

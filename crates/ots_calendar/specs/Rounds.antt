@@ -2,7 +2,6 @@
 use Rattle.std.specs.Prelude.{◌≡◌, ◌⊎◌, ◌<◌, ℕ, List, [], ◌∷◌, ◌++◌, length, Option, None, Some, Result, Ok, Err}
 use Rattle.ots_journal.specs.declared.errors.AppendError.{AppendError}
 use Rattle.ots_journal.specs.declared.errors.AppendError.TheVariants.{OutOfMemory}
-use Rattle.ots_journal.specs.Journal.{JournalTold}
 use Rattle.ots_round.specs.Round.{round_commitment}
 use Rattle.ots_store.specs.Records.{CommitRecord, entry_of}
 use Rattle.ots_store.specs.Store.{Adds}

@@ -177,7 +177,8 @@ impl<D: Disk> Book<D> {
     /// stored, they are settled, and its index is answered. `None` comes exactly where nothing
     /// waits, and the disk is not called then. Where it is refused, every ticket waits as before.
     ///
-    /// It takes all its memory before it calls the disk.
+    /// It takes the memory of the round, one hash a ticket and the paths of all, before it calls the
+    /// disk.
     pub fn close(&mut self, second: u32, key: &Key) -> Result<Option<u64>, AppendError>
         ensures closes { Closes D.bytes D.clock D.images_since key.now second self.old self.new result }
         ensures index { IfOk result (λ index. IfSome index (λ i. i + 1 ≡ length (commits_of self.new.store.records))) }

@@ -1,5 +1,5 @@
 -- What the calls on tickets do.
-use Rattle.std.specs.Prelude.{◌≡◌, ◌⊎◌, ℕ, Bool, true, false, List, length, Result, Ok, Err}
+use Rattle.std.specs.Prelude.{◌≡◌, ◌⊎◌, ℕ, Bool, true, false, List}
 use Rattle.ots_attest.specs.declared.attestation.Attestation.TheVariants.{Pending}
 use Rattle.ots_round.specs.declared.ticket.Ticket.{Ticket}
 use Rattle.ots_round.specs.Round.{way}

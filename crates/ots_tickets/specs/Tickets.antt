@@ -1,5 +1,5 @@
 -- Tickets that wait, and tickets whose round is closed.
-use Rattle.std.specs.Prelude.{◌≡◌, ◌≢◌, ◌<◌, ℕ, ◌+◌, suc, List, [], ◌∷◌, ◌++◌}
+use Rattle.std.specs.Prelude.{◌≡◌, ◌≢◌, ℕ, suc, List, [], ◌∷◌, ◌++◌}
 use Rattle.std.specs.List.{AllByRecursion}
 use Rattle.ots_merkle.specs.CalendarTree.{path}
 use Rattle.ots_round.specs.declared.ticket.Ticket.{Ticket}

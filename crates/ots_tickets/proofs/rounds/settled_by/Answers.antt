@@ -1,4 +1,4 @@
-use Rattle.std.proofs.Common.{◌≡◌, ◌++◌, ◌∷◌, [], ◌∙◌, sym, ap, List, ℕ, length, get_or, length-set, take_all, arith}
+use Rattle.std.proofs.Common.{◌≡◌, ◌++◌, ◌∷◌, [], ◌∙◌, sym, List, length-set, take_all, arith}
 use Rattle.std.proofs.lemmas.List.{get_or-set_other}
 use Rattle.ots_merkle.specs.CalendarTree.{path}
 use Rattle.ots_round.specs.declared.ticket.Ticket.{Ticket}

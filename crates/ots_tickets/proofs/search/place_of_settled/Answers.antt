@@ -1,4 +1,3 @@
-use Rattle.std.proofs.Common.{◌≡◌, ◌∙◌, sym, ap}
 use Rattle.ots_tickets.specs.Tickets.{IsSettled}
 use Rattle.ots_tickets.proofs.Places.{none_more}
 use Rattle.ots_tickets.proofs.search.place_of_settled.Goals as goal

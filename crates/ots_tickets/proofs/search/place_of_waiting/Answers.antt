@@ -1,4 +1,4 @@
-use Rattle.std.proofs.Common.{◌≡◌, ◌∙◌, sym, ap}
+use Rattle.std.proofs.Common.{◌∙◌}
 use Rattle.ots_tickets.specs.Tickets.{Waits}
 use Rattle.ots_tickets.proofs.Places.{none_more}
 use Rattle.ots_tickets.proofs.search.place_of_waiting.Goals as goal

@@ -1,4 +1,4 @@
-use Rattle.std.proofs.Common.{sym, ap, ◌∙◌, arith}
+use Rattle.std.proofs.Common.{arith}
 use Rattle.ots_calendar.proofs.Keeping.{adds_keeps, adds_readable}
 use Rattle.ots_calendar.proofs.book.Book.add_commit.Goals as goal
 

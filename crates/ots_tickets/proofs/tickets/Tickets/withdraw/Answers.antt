@@ -1,5 +1,4 @@
-use Rattle.std.proofs.Common.{◌≡◌, inl, inr, refl, sym, ap, subst, get_or, List, ◌∙◌}
-use Rattle.std.specs.Prelude.{slice_get}
+use Rattle.std.proofs.Common.{◌≡◌, inl, inr, refl, subst, get_or, List}
 use Rattle.std.proofs.lemmas.Option.{slice_get-get_or}
 use Rattle.ots_round.specs.declared.ticket.Ticket.{Ticket}
 use Rattle.ots_tickets.specs.declared.settled.Settled.{Settled}
