@@ -1,3 +1,4 @@
+mod Growing
 mod WholeWay
 mod Closing
 mod AnchoringIn

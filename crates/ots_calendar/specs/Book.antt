@@ -43,3 +43,9 @@ pub record GoesOn {D : Type 0} (bytes : D → Option (List ℕ)) (clock : D → 
 pub record Stops {D : Type 0} (bytes : D → Option (List ℕ)) (clock : D → ℕ) (images_since : D → ℕ → List ℕ → Type 0) (old new : JournalTold D) : Type 0 where
   pub unrefreshed : Unrefreshed bytes old new
   pub refreshing : LeavesOnly clock images_since old.disk new.disk (StandsForEither old.entries old.flight)
+
+-- The journal's limit stays, and its entries begin with those before.
+pub record Grows {D : Type 0} (old new : JournalTold D) : Type 0 where
+  pub limit : new.limit ≡ old.limit
+  pub more : List Entry
+  pub entries : new.entries ≡ old.entries ++ more

@@ -1,6 +1,17 @@
 //! What the definitions say of a calendar's answers, beside what each call says.
 ghost use Rattle.std.specs.Prelude.{◌≡◌, ◌≤◌, ◌<◌, ◌+◌, ◌^◌, ◌++◌, ℕ, List, [], Some, find, length, slice_get};
+ghost use Rattle.std.specs.Prelude.{Option, Result};
+ghost use Rattle.ots_block.specs.Block.{Contents};
+ghost use Rattle.ots_journal.specs.Journal.{JournalTold};
 ghost use Rattle.ots_journal.specs.declared.entry.Entry.{Entry};
+ghost use Rattle.ots_journal.specs.declared.errors.AppendError.{AppendError};
+ghost use Rattle.ots_store.specs.declared.tip.Tip.{Tip};
+ghost use Rattle.ots_calendar.specs.Anchors.{AsksAnchor};
+ghost use Rattle.ots_calendar.specs.Book.{BookTold, Grows};
+ghost use Rattle.ots_calendar.specs.Rounds.{Closes};
+ghost use Rattle.ots_calendar.specs.Tips.{AsksTip};
+ghost use Rattle.ots_calendar.specs.declared.errors.AnchorError.{AnchorError};
+ghost use Rattle.ots_calendar.specs.declared.errors.TipError.{TipError};
 ghost use Rattle.ots_ops.specs.Value.{value};
 ghost use Rattle.ots_round.specs.Round.{round_commitment, round_way};
 ghost use Rattle.ots_round.specs.declared.ticket.Ticket.{Ticket};
@@ -14,6 +25,7 @@ ghost use Rattle.ots_calendar.specs.Answer.{answer, answer_at, way_in};
 ghost use Rattle.ots_calendar.specs.Values.{AreTrue};
 ghost use Rattle.ots_calendar.specs.declared.answer.Answer.TheVariants.{Complete, Pending};
 
+use ots_disk::Disk;
 use ots_merkle::path_leads_to_root;
 
 /// What is answered of a stored commitment stays when records are added, as those in flight may be
@@ -42,3 +54,12 @@ pub fn cycle()
 {
     path_leads_to_root();
 }
+
+/// A call that may write leaves the journal's limit, and its entries begin with those before.
+pub fn calls_grow<D: Disk>()
+    ensures close { (key : List ℕ) (second : ℕ) (old new : BookTold D) (result : Result (Option ℕ) AppendError)
+        → Closes D.bytes D.clock D.images_since key second old new result → Grows old.store.journal new.store.journal }
+    ensures tip { (old new : JournalTold D) (result : Result Tip TipError) → AsksTip D.bytes D.clock D.images_since old new result → Grows old new }
+    ensures anchor { (block : Contents) (height : ℕ) (old new : JournalTold D) (result : Result Anchor AnchorError)
+        → AsksAnchor D.bytes D.clock D.images_since block height old new result → Grows old new }
+{}

@@ -7,7 +7,7 @@
 //! | [`Book::take`], [`Book::withdraw`] | the tree of a ticket whose round is closed; a ticket given up |
 //! | [`Book::ask`] | what is answered of a commitment |
 //! | [`Book::tip`], [`Book::anchor`] | the tree over what is not covered; its root found in a block |
-//! | [`answers_stay`], [`cycle`] | what holds of answers when records are added; where the whole way leads |
+//! | [`calls_grow`], [`answers_stay`], [`cycle`] | records are added at the end alone; what holds of answers then; where the whole way leads |
 //!
 //! A call that may write begins with a refresh of the store, so that a record in flight that was
 //! kept counts first. At every moment each image that a crash may leave stands for a book.
@@ -29,7 +29,7 @@ mod values;
 pub use answer::Answer;
 pub use book::Book;
 pub use errors::{AnchorError, RefusedBook, TipError};
-pub use laws::{answers_stay, cycle};
+pub use laws::{answers_stay, calls_grow, cycle};
 pub use ots_outside::{DigestLength, Leaf};
 pub use ots_round::{BadKey, Key, Receipt, Ticket, hmac_sha256};
 pub use ots_tickets::{MAX_WAITING, PutError, Taken};
