@@ -1,0 +1,158 @@
+-- What a book keeps, where its store is refreshed and where a record is added.
+use Rattle.std.proofs.Common.{◌≡◌, inl, inr, ℕ, Bool, true, false, List, [], ◌∷◌, ◌++◌, refl, sym, ap, subst, ◌∙◌, length}
+use Rattle.std.proofs.lemmas.List.{map-append, append-nil}
+use Rattle.std.specs.Prelude.{Option, Result, Ok, Err, OnOk, OnErr}
+use Rattle.ots_disk.specs.Disk.{LeavesOnly}
+use Rattle.ots_disk.specs.Moments.{weaker, joined}
+use Rattle.ots_journal.specs.declared.entry.Entry.{Entry}
+use Rattle.ots_journal.specs.declared.errors.AppendError.{AppendError}
+use Rattle.ots_journal.specs.declared.errors.AppendError.TheVariants.{DiskFault, Full, OutOfMemory}
+use Rattle.ots_journal.specs.Journal.{JournalTold, StandsForEither, Refreshed, Unrefreshed}
+use Rattle.ots_store.specs.declared.anchor.Anchor.{Anchor}
+use Rattle.ots_store.specs.declared.tip.Tip.{Tip}
+use Rattle.ots_store.specs.Order.{commits_of, records_of, Follows, FollowsTip, FollowsAnchor}
+use Rattle.ots_store.specs.Records.{Record, CommitRecord, TipRecord, AnchorRecord, entry_of, record_of, FitsTip, FitsAnchor}
+use Rattle.ots_store.specs.Store.{InRecords, StoreTold, StoreStands, Added, Adds}
+use Rattle.ots_store.proofs.Adding.{nothing_flies}
+use Rattle.ots_store.proofs.Ordered.{commits_append, orderly, records_push}
+use Rattle.ots_store.proofs.Spellings.{record_read, is_record}
+use Rattle.ots_calendar.specs.Book.{StandsForBook, Keeps}
+use Rattle.ots_calendar.specs.Tree.{TreeTold, IsOver}
+use Rattle.ots_calendar.specs.Values.{IsTrue, IsTrueTip, IsTrueAnchor, AreTrue}
+use Rattle.ots_calendar.proofs.Spans.{over_more}
+use Rattle.ots_calendar.proofs.Truths.{true_push}
+
+commits_more : (xs ys : List Entry) → commits_of (records_of (xs ++ ys)) ≡ commits_of (records_of xs) ++ commits_of (records_of ys)
+commits_more xs ys = ap commits_of (map-append record_of xs ys) ∙ commits_append (records_of xs) (records_of ys)
+
+pub over_entries : (xs ys : List Entry) (t : TreeTold) → IsOver (commits_of (records_of xs)) t → IsOver (commits_of (records_of (xs ++ ys))) t
+over_entries xs ys t over = subst (λ (l : List (List ℕ)). IsOver l t) (sym (commits_more xs ys)) (over_more (commits_of (records_of xs)) (commits_of (records_of ys)) t over)
+
+pub true_entries : (entries : List Entry) (e : Entry) → InRecords entries → AreTrue (records_of entries) → IsTrue (commits_of (records_of entries)) (record_of e) → AreTrue (records_of (entries ++ e ∷ []))
+true_entries entries e are is one =
+    subst AreTrue (sym (map-append record_of entries (e ∷ []))) (true_push (records_of entries) (record_of e) (orderly (records_of entries) are.order) is one)
+
+not_both : {A : Type 0} (b : Bool) → b ≡ true → b ≡ false → A
+not_both b is not = absurd (let h : true ≡ false = sym is ∙ not in cc)
+
+-- ---- a refresh
+
+module _ {D : Type 0} (bytes : D → Option (List ℕ)) (old new : JournalTold D) (tree : TreeTold) (k : Keeps old tree) where
+  kept_at : (b : Bool) → old.is_sure ≡ b → Refreshed bytes old new → Keeps new tree
+  kept_at true sure r = subst (λ (j : JournalTold D). Keeps j tree) (sym (r.already sure)) k
+  kept_at false unsure r = elim (r.decided unsure) [
+    | inl same ↦ record {
+      are_true = subst (λ (l : List Entry). AreTrue (records_of l)) (sym same.0) k.are_true;
+      flying = λ un. not_both new.is_sure r.sure un;
+      over = subst (λ (l : List Entry). IsOver (commits_of (records_of l)) tree) (sym same.0) k.over;
+    }
+    | inr more ↦ record {
+      are_true = subst (λ (l : List Entry). AreTrue (records_of l)) (sym more.0) (k.flying unsure);
+      flying = λ un. not_both new.is_sure r.sure un;
+      over = subst (λ (l : List Entry). IsOver (commits_of (records_of l)) tree) (sym more.0) (over_entries old.entries old.flight tree k.over);
+    }
+  ]
+
+  -- whatever it answers
+  pub refresh_keeps : {A E : Type 0} (result : Result A E) → OnOk result (Refreshed bytes old new) → OnErr result (Unrefreshed bytes old new) → Keeps new tree
+  refresh_keeps (Ok x) ok err = kept_at old.is_sure refl ok
+  refresh_keeps (Err e) ok err = subst (λ (j : JournalTold D). Keeps j tree) (sym err.same) (record { are_true = k.are_true; flying = k.flying; over = k.over })
+
+-- a book can be opened on what stands for its records, or for these and others
+either_books : (entries flight : List Entry) → InRecords entries → InRecords (entries ++ flight) → AreTrue (records_of entries) → AreTrue (records_of (entries ++ flight))
+    → (c : List ℕ) → StandsForEither entries flight c → StandsForBook c
+either_books entries flight are more is is_more c (inl stands) = record { entries = entries; stands = stands; records = are; are_true = is }
+either_books entries flight are more is is_more c (inr stands) = record { entries = entries ++ flight; stands = stands; records = more; are_true = is_more }
+
+module _ {D : Type 0} (bytes : D → Option (List ℕ)) (images : D → List ℕ → Type 0) (clock : D → ℕ) (since : D → ℕ → List ℕ → Type 0) (s : StoreTold D) (new : JournalTold D) (tree : TreeTold)
+    (k : Keeps s.journal tree) (stands : StoreStands bytes images s) (run : LeavesOnly clock since s.journal.disk new.disk (StandsForEither s.journal.entries s.journal.flight)) where
+  readable_at : (b : Bool) → s.journal.is_sure ≡ b → (s.journal.is_sure ≡ true → s.journal.flight ≡ []) → LeavesOnly clock since s.journal.disk new.disk StandsForBook
+  readable_at true sure none =
+      let same : s.journal.entries ++ s.journal.flight ≡ s.journal.entries = ap (λ (l : List Entry). s.journal.entries ++ l) (none sure) ∙ append-nil s.journal.entries in
+      weaker clock since s.journal.disk new.disk (StandsForEither s.journal.entries s.journal.flight) StandsForBook run
+      (either_books s.journal.entries s.journal.flight stands.are (subst InRecords (sym same) stands.are) k.are_true (subst (λ (l : List Entry). AreTrue (records_of l)) (sym same) k.are_true))
+  readable_at false unsure none =
+      weaker clock since s.journal.disk new.disk (StandsForEither s.journal.entries s.journal.flight) StandsForBook run
+      (either_books s.journal.entries s.journal.flight stands.are (stands.flying unsure) k.are_true (k.flying unsure))
+
+  pub refresh_readable : {A E : Type 0} (result : Result A E) → OnOk result (Refreshed bytes s.journal new) → OnErr result (Unrefreshed bytes s.journal new) → LeavesOnly clock since s.journal.disk new.disk StandsForBook
+  refresh_readable (Ok x) ok err = readable_at s.journal.is_sure refl (nothing_flies bytes s.journal new ok)
+  refresh_readable (Err e) ok err = readable_at s.journal.is_sure refl (λ sure. not_both s.journal.is_sure sure err.was_unsure)
+
+-- ---- a record more
+
+module _ {D A : Type 0} (clock : D → ℕ) (since : D → ℕ → List ℕ → Type 0) (old new : JournalTold D) (tree : TreeTold) (e : Entry)
+    (sure : old.is_sure ≡ true) (are : InRecords old.entries) (k : Keeps old tree) (one : IsTrue (commits_of (records_of old.entries)) (record_of e)) where
+  pub add_keeps : (result : Result A AppendError) → Added clock since old new (e ∷ []) result → Keeps new tree
+  add_keeps (Ok x) added =
+      let put = added.outcome in
+      record {
+        are_true = subst (λ (l : List Entry). AreTrue (records_of l)) (sym put.entries) (true_entries old.entries e are k.are_true one);
+        flying = λ un. not_both new.is_sure put.sure un;
+        over = subst (λ (l : List Entry). IsOver (commits_of (records_of l)) tree) (sym put.entries) (over_entries old.entries (e ∷ []) tree k.over);
+      }
+  add_keeps (Err DiskFault) added =
+      let flies = added.outcome in
+      record {
+        are_true = subst (λ (l : List Entry). AreTrue (records_of l)) (sym flies.entries) k.are_true;
+        flying = λ un. subst (λ (l : List Entry). AreTrue (records_of l)) (λ i. (sym flies.entries) i ++ (sym flies.flight) i) (true_entries old.entries e are k.are_true one);
+        over = subst (λ (l : List Entry). IsOver (commits_of (records_of l)) tree) (sym flies.entries) k.over;
+      }
+  add_keeps (Err (Full need limit)) added = subst (λ (j : JournalTold D). Keeps j tree) (sym added.outcome.0) k
+  add_keeps (Err OutOfMemory) added = subst (λ (j : JournalTold D). Keeps j tree) (sym added.outcome) k
+
+  pub add_readable : (result : Result A AppendError) → InRecords (old.entries ++ e ∷ []) → Added clock since old new (e ∷ []) result → LeavesOnly clock since old.disk new.disk StandsForBook
+  add_readable result more added =
+      weaker clock since old.disk new.disk (StandsForEither old.entries (e ∷ [])) StandsForBook added.at_any_moment
+      (either_books old.entries (e ∷ []) are more k.are_true (true_entries old.entries e are k.are_true one))
+
+-- a tip more, by the records that the store tells
+pub tip_more : (records : List Record) (entries : List Entry) (tip : Tip) → records ≡ records_of entries → FitsTip tip → IsTrueTip (commits_of records) tip
+    → IsTrue (commits_of (records_of entries)) (record_of (entry_of (TipRecord tip)))
+tip_more records entries tip same fits is =
+    subst (IsTrue (commits_of (records_of entries))) (sym (record_read (TipRecord tip) fits)) (subst (λ (l : List Record). IsTrueTip (commits_of l) tip) same is)
+
+pub tip_records : (records : List Record) (entries : List Entry) (tip : Tip) → records ≡ records_of entries → InRecords entries → FitsTip tip → FollowsTip records tip → InRecords (entries ++ entry_of (TipRecord tip) ∷ [])
+tip_records records entries tip same are fits follows =
+    records_push [] entries (entry_of (TipRecord tip)) are (is_record (TipRecord tip) fits)
+    (subst (Follows (records_of entries)) (sym (record_read (TipRecord tip) fits)) (subst (λ (l : List Record). FollowsTip l tip) same follows))
+
+-- an anchor more
+pub anchor_more : (records : List Record) (entries : List Entry) (a : Anchor) → records ≡ records_of entries → FitsAnchor a → IsTrueAnchor (commits_of records) a
+    → IsTrue (commits_of (records_of entries)) (record_of (entry_of (AnchorRecord a)))
+anchor_more records entries a same fits is =
+    subst (IsTrue (commits_of (records_of entries))) (sym (record_read (AnchorRecord a) fits)) (subst (λ (l : List Record). IsTrueAnchor (commits_of l) a) same is)
+
+pub anchor_records : (records : List Record) (entries : List Entry) (a : Anchor) → records ≡ records_of entries → InRecords entries → FitsAnchor a → FollowsAnchor records a → InRecords (entries ++ entry_of (AnchorRecord a) ∷ [])
+anchor_records records entries a same are fits follows =
+    records_push [] entries (entry_of (AnchorRecord a)) are (is_record (AnchorRecord a) fits)
+    (subst (Follows (records_of entries)) (sym (record_read (AnchorRecord a) fits)) (subst (λ (l : List Record). FollowsAnchor l a) same follows))
+
+-- ---- a commitment more, behind a refresh
+
+found_at : {D : Type 0} (bytes : D → Option (List ℕ)) (images : D → List ℕ → Type 0) (s : StoreTold D) (mid : JournalTold D) (b : Bool) → StoreStands bytes images s → s.journal.is_sure ≡ b → Refreshed bytes s.journal mid → InRecords mid.entries
+found_at bytes images s mid true stands sure r = subst (λ (j : JournalTold _). InRecords j.entries) (sym (r.already sure)) stands.are
+found_at bytes images s mid false stands unsure r = elim (r.decided unsure) [
+  | inl same ↦ subst InRecords (sym same.0) stands.are
+  | inr more ↦ subst InRecords (sym more.0) (stands.flying unsure)
+]
+
+commit_follows : (c : List ℕ) (entries : List Entry) → length c ≡ 44 → InRecords entries → InRecords (entries ++ entry_of (CommitRecord c) ∷ [])
+commit_follows c entries long are = records_push [] entries (entry_of (CommitRecord c)) are (is_record (CommitRecord c) long) tt
+
+module _ {D A : Type 0} (bytes : D → Option (List ℕ)) (images : D → List ℕ → Type 0) (clock : D → ℕ) (since : D → ℕ → List ℕ → Type 0) (s : StoreTold D) (new : JournalTold D) (tree : TreeTold) (c : List ℕ)
+    (k : Keeps s.journal tree) (stands : StoreStands bytes images s) where
+  pub adds_keeps : (result : Result A AppendError) → Adds bytes clock since s.journal new (entry_of (CommitRecord c) ∷ []) result → Keeps new tree
+  adds_keeps result (inl after) =
+      let mid : Keeps after.mid tree = refresh_keeps bytes s.journal after.mid tree k {A = Unit {0}} {E = Unit {0}} (Ok tt) after.refreshed tt in
+      add_keeps clock since after.mid new tree (entry_of (CommitRecord c)) after.refreshed.sure (found_at bytes images s after.mid s.journal.is_sure stands refl after.refreshed) mid tt result after.added
+  adds_keeps result (inr nothing) = refresh_keeps bytes s.journal new tree k {A = Unit {0}} {E = Unit {0}} (Err tt) tt nothing.unrefreshed
+
+  pub adds_readable : (result : Result A AppendError) → length c ≡ 44 → Adds bytes clock since s.journal new (entry_of (CommitRecord c) ∷ []) result → LeavesOnly clock since s.journal.disk new.disk StandsForBook
+  adds_readable result long (inl after) =
+      let mid : Keeps after.mid tree = refresh_keeps bytes s.journal after.mid tree k {A = Unit {0}} {E = Unit {0}} (Ok tt) after.refreshed tt in
+      let are : InRecords after.mid.entries = found_at bytes images s after.mid s.journal.is_sure stands refl after.refreshed in
+      joined clock since s.journal.disk after.mid.disk new.disk StandsForBook StandsForBook StandsForBook
+      (refresh_readable bytes images clock since s after.mid tree k stands after.refreshing {A = Unit {0}} {E = Unit {0}} (Ok tt) after.refreshed tt)
+      (add_readable clock since after.mid new tree (entry_of (CommitRecord c)) after.refreshed.sure are mid tt result (commit_follows c after.mid.entries long are) after.added) (λ b h. h) (λ b h. h)
+  adds_readable result long (inr nothing) = refresh_readable bytes images clock since s new tree k stands nothing.refreshing {A = Unit {0}} {E = Unit {0}} (Err tt) tt nothing.unrefreshed

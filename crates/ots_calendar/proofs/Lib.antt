@@ -1,0 +1,13 @@
+mod Growing
+mod WholeWay
+mod Closing
+mod AnchoringIn
+mod Anchored
+mod Asked
+mod Branches
+mod Climbing
+mod Keeping
+mod Looking
+mod Spans
+mod Tipping
+mod Truths

@@ -1,0 +1,8 @@
+pub mod Anchors
+pub mod Answer
+pub mod Book
+pub mod Rounds
+pub mod Seen
+pub mod Tips
+pub mod Tree
+pub mod Values

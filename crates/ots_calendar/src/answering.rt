@@ -1,0 +1,91 @@
+//! What a calendar answers of a commitment.
+ghost use Rattle.std.specs.Prelude.{◌≡◌, ◌<◌, ◌≤◌, ◌+◌, ◌^◌, IfOk, Some, find, length};
+ghost use Rattle.ots_base.specs.declared.limits.TheConstants.{MAX_MESSAGE};
+ghost use Rattle.ots_attest.specs.declared.attestation.Attestation.TheVariants.{Bitcoin};
+ghost use Rattle.ots_store.specs.Index.{least};
+ghost use Rattle.ots_store.specs.Order.{anchors_of, commits_of, covers};
+ghost use Rattle.ots_tree.specs.Made.{lone};
+ghost use Rattle.ots_tree.specs.Wire.{pre};
+ghost use Rattle.ots_calendar.specs.Answer.{answer, way_in};
+
+use crate::Answer;
+use ots_anchor::complete_path;
+use ots_attest::Attestation;
+use ots_base::OutOfMemory;
+use ots_disk::Disk;
+use ots_store::{Anchor, Store};
+use ots_tree::{Tree, single};
+use std::alloc::Global;
+
+/// The number of bytes of a commitment.
+const COMMITMENT: usize = 44;
+
+/// What is answered of a commitment, by its least index and the first anchor that covers it.
+pub(crate) fn answer_by<D: Disk>(
+    alloc: Global,
+    store: &Store<D>,
+    commitment: &[u8],
+) -> Result<Answer, OutOfMemory>
+    ensures { IfOk result (λ a. a ≡ answer store.now.records commitment.now) }
+{
+    let Some(i) = index_of(store, commitment) else {
+        return Ok(Answer::Unknown);
+    };
+    match store.anchor_of(i) {
+        None => Ok(Answer::Pending),
+        Some(anchor) => Ok(Answer::Complete(complete(alloc, store, i, anchor)?)),
+    }
+}
+
+/// The least index of these bytes among the commitments.
+fn index_of<D: Disk>(store: &Store<D>, commitment: &[u8]) -> Option<u64>
+    ensures { result ≡ least commitment.now (commits_of store.now.records) }
+{
+    store.stands();
+    if commitment.len() != COMMITMENT {
+        return None;
+    }
+    let mut key = [0; COMMITMENT];
+    key.copy_from_slice(commitment);
+    store.index_of(&key)
+}
+
+/// The tree of the one path from a commitment to the Merkle root of the block of an anchor that
+/// covers it. It hashes all commitments that the anchor covers.
+fn complete<D: Disk>(
+    alloc: Global,
+    store: &Store<D>,
+    i: u64,
+    anchor: &Anchor,
+) -> Result<Tree, OutOfMemory>
+    requires covers { find (covers i) (anchors_of store.now.records) ≡ Some anchor.now }
+    ensures { IfOk result (λ tree. tree ≡ pre (lone (way_in (commits_of store.now.records) i anchor.now) (Bitcoin anchor.now.height))) }
+{
+    let (first, end) = bounds(store, i, anchor);
+    let ops = complete_path(
+        alloc,
+        &store.commitments()[first..end],
+        i as usize - first,
+        anchor.prefix.items(),
+        anchor.suffix.items(),
+        &anchor.branch,
+    )?;
+    single(alloc, ops.items(), Attestation::Bitcoin(anchor.height))
+}
+
+/// The index of the first commitment of an anchor that covers an index, and the one behind its last.
+fn bounds<D: Disk>(store: &Store<D>, i: u64, anchor: &Anchor) -> (usize, usize)
+    requires covers { find (covers i) (anchors_of store.now.records) ≡ Some anchor.now }
+    ensures first { result.0 ≡ anchor.now.first }
+    ensures end { result.1 ≡ anchor.now.first + anchor.now.count }
+    ensures begins { result.0 ≤ i }
+    ensures ends { i < result.1 }
+    ensures within { result.1 ≤ length (commits_of store.now.records) }
+    ensures few { length (commits_of store.now.records) < 2 ^ 32 }
+    ensures short { length anchor.now.prefix + 32 + length anchor.now.suffix ≤ MAX_MESSAGE }
+{
+    store.stands();
+    let _ = store.commits();
+    let first = anchor.first as usize;
+    (first, first + anchor.count as usize)
+}

@@ -1,0 +1,65 @@
+//! What the definitions say of a calendar's answers, beside what each call says.
+ghost use Rattle.std.specs.Prelude.{◌≡◌, ◌≤◌, ◌<◌, ◌+◌, ◌^◌, ◌++◌, ℕ, List, [], Some, find, length, slice_get};
+ghost use Rattle.std.specs.Prelude.{Option, Result};
+ghost use Rattle.ots_block.specs.Block.{Contents};
+ghost use Rattle.ots_journal.specs.Journal.{JournalTold};
+ghost use Rattle.ots_journal.specs.declared.entry.Entry.{Entry};
+ghost use Rattle.ots_journal.specs.declared.errors.AppendError.{AppendError};
+ghost use Rattle.ots_store.specs.declared.tip.Tip.{Tip};
+ghost use Rattle.ots_calendar.specs.Anchors.{AsksAnchor};
+ghost use Rattle.ots_calendar.specs.Book.{BookTold, Grows};
+ghost use Rattle.ots_calendar.specs.Rounds.{Closes};
+ghost use Rattle.ots_calendar.specs.Tips.{AsksTip};
+ghost use Rattle.ots_calendar.specs.declared.errors.AnchorError.{AnchorError};
+ghost use Rattle.ots_calendar.specs.declared.errors.TipError.{TipError};
+ghost use Rattle.ots_ops.specs.Value.{value};
+ghost use Rattle.ots_round.specs.Round.{round_commitment, round_way};
+ghost use Rattle.ots_round.specs.declared.ticket.Ticket.{Ticket};
+ghost use Rattle.ots_store.specs.Index.{least};
+ghost use Rattle.ots_store.specs.Order.{anchors_of, commits_of, covers, records_of, InOrder};
+ghost use Rattle.ots_store.specs.Records.{Record};
+ghost use Rattle.ots_store.specs.Store.{InRecords};
+ghost use Rattle.ots_store.specs.declared.anchor.Anchor.{Anchor};
+ghost use Rattle.ots_tree.specs.declared.token.Token.{Token};
+ghost use Rattle.ots_calendar.specs.Answer.{answer, answer_at, way_in};
+ghost use Rattle.ots_calendar.specs.Values.{AreTrue};
+ghost use Rattle.ots_calendar.specs.declared.answer.Answer.TheVariants.{Complete, Pending};
+
+use ots_disk::Disk;
+use ots_merkle::path_leads_to_root;
+
+/// What is answered of a stored commitment stays when records are added, as those in flight may be
+/// by a crash: a complete answer is the same, and a pending one is as the first of the added anchors
+/// has it that covers the commitment.
+pub fn answers_stay()
+    ensures complete { (records more : List Record) (c : List ℕ) (tree : List Token) → InOrder [] records → answer records c ≡ Complete tree → answer (records ++ more) c ≡ Complete tree }
+    ensures pending { (records more : List Record) (c : List ℕ) → answer records c ≡ Pending
+        → (i : ℕ) × (least c (commits_of records) ≡ Some i) × (answer (records ++ more) c ≡ answer_at (commits_of (records ++ more)) i (find (covers i) (anchors_of more))) }
+{}
+
+/// The way of a ticket to its commitment, and then that of the commitment to its anchor, lead from
+/// the digest to the anchor's root, which is the Merkle root in the header of the anchor's block.
+/// They have at most 201 operations.
+pub fn cycle()
+    ensures leads { (entries : List Entry) (key : List ℕ) (second : ℕ) (tickets : List Ticket) (i : ℕ) (ticket : Ticket) (j : ℕ) (anchor : Anchor)
+        → InRecords entries → AreTrue (records_of entries)
+        → slice_get tickets i ≡ Some ticket → length ticket.leaf ≤ 64 → length ticket.nonce ≡ 16
+        → least (round_commitment key second tickets) (commits_of (records_of entries)) ≡ Some j
+        → find (covers j) (anchors_of (records_of entries)) ≡ Some anchor
+        → value (round_way key second tickets i ticket ++ way_in (commits_of (records_of entries)) j anchor) ticket.leaf ≡ Some anchor.root }
+    ensures few { (entries : List Entry) (key : List ℕ) (second : ℕ) (tickets : List Ticket) (i : ℕ) (ticket : Ticket) (j : ℕ) (anchor : Anchor)
+        → InRecords entries → length (commits_of (records_of entries)) ≤ 2 ^ 32 → length tickets ≤ 2 ^ 16
+        → find (covers j) (anchors_of (records_of entries)) ≡ Some anchor
+        → length (round_way key second tickets i ticket ++ way_in (commits_of (records_of entries)) j anchor) ≤ 201 }
+{
+    path_leads_to_root();
+}
+
+/// A call that may write leaves the journal's limit, and its entries begin with those before.
+pub fn calls_grow<D: Disk>()
+    ensures close { (key : List ℕ) (second : ℕ) (old new : BookTold D) (result : Result (Option ℕ) AppendError)
+        → Closes D.bytes D.clock D.images_since key second old new result → Grows old.store.journal new.store.journal }
+    ensures tip { (old new : JournalTold D) (result : Result Tip TipError) → AsksTip D.bytes D.clock D.images_since old new result → Grows old new }
+    ensures anchor { (block : Contents) (height : ℕ) (old new : JournalTold D) (result : Result Anchor AnchorError)
+        → AsksAnchor D.bytes D.clock D.images_since block height old new result → Grows old new }
+{}

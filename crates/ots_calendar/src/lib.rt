@@ -1,0 +1,35 @@
+//! The book: a calendar's records, what it answers of them, and the rounds that are put into it.
+//!
+//! | call | what it is |
+//! |---|---|
+//! | [`Book::open`] | the book of a store whose records' values are right |
+//! | [`Book::put`], [`Book::close`] | a digest waits; one commitment over all that wait |
+//! | [`Book::take`], [`Book::withdraw`] | the tree of a ticket whose round is closed; a ticket given up |
+//! | [`Book::ask`] | what is answered of a commitment |
+//! | [`Book::tip`], [`Book::anchor`] | the tree over what is not covered; its root found in a block |
+//! | [`calls_grow`], [`answers_stay`], [`cycle`] | records are added at the end alone; what holds of answers then; where the whole way leads |
+//!
+//! A call that may write begins with a refresh of the store, so that a record in flight that was
+//! kept counts first. At every moment each image that a crash may leave stands for a book.
+//!
+//! `tip` takes one hash for each 1 of the number of commitments that are not covered, written in
+//! base two, once the tree over them has caught up; after an anchor it is made anew. `ask` hashes
+//! all commitments that the anchor covers. `take` and `withdraw` walk over the tickets.
+#![tactic(auto)]
+
+mod anchoring;
+mod answer;
+mod answering;
+mod book;
+mod errors;
+mod laws;
+mod tree;
+mod values;
+
+pub use answer::Answer;
+pub use book::Book;
+pub use errors::{AnchorError, RefusedBook, TipError};
+pub use laws::{answers_stay, calls_grow, cycle};
+pub use ots_outside::{DigestLength, Leaf};
+pub use ots_round::{BadKey, Key, Receipt, Ticket, hmac_sha256};
+pub use ots_tickets::{MAX_WAITING, PutError, Taken};

@@ -1,0 +1,2 @@
+mod Blocks
+pub mod Leading

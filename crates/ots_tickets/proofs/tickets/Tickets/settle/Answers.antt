@@ -1,0 +1,25 @@
+use Rattle.std.proofs.Common.{◌<◌, length, arith, List, sym, ap, subst}
+use Rattle.std.specs.List.{AllByRecursion}
+use Rattle.ots_round.specs.declared.ticket.Ticket.{Ticket}
+use Rattle.ots_round.specs.Round.{leaves, round_commitment}
+use Rattle.ots_tickets.specs.declared.settled.Settled.{Settled}
+use Rattle.ots_tickets.specs.Tickets.{TicketsTold}
+use Rattle.ots_tickets.proofs.Places.{settles_below, below_index, all_either}
+use Rattle.ots_tickets.proofs.tickets.Tickets.settle.Goals as goal
+
+pub invariant_of-self : goal.invariant_of-self
+invariant_of-self c =
+    let next = c.self.inside.next in
+    let Below : Settled → Type 0 = λ s. s.ticket.number < next in
+    let same = c.requires.same in
+    let waiting : List Ticket = c.args.self.now.waiting in
+    let below : AllByRecursion (λ (t : Ticket). t.number < next) waiting = subst (λ (x : TicketsTold). AllByRecursion (λ (t : Ticket). t.number < next) x.waiting) c.self.view_is c.self.invariant.waiting_below in
+    let made : AllByRecursion Below c.args.made.settled.items =
+    subst (AllByRecursion Below) (sym same.2.settled_are) (settles_below next 0 (round_commitment same.0 same.1 waiting) (leaves waiting) 0 waiting below) in
+    let stored : AllByRecursion Below c.stored_at-settled.result.items =
+    subst (AllByRecursion Below) (sym c.stored_at-settled.ensures.items) (below_index next c.args.index c.args.made.settled.items made) in
+    record {
+      few = omega (arith, ap length c.clear.ensures.items);
+      waiting_below = subst (AllByRecursion (λ (t : Ticket). t.number < next)) (sym c.clear.ensures.items) tt;
+      settled_below = subst (AllByRecursion Below) (sym c.append.ensures.items) (all_either Below _ c.self.inside.settled.items c.stored_at-settled.result.items c.self.invariant.settled_below stored);
+    }

@@ -1,0 +1,5 @@
+pub mod Tickets
+pub mod Calls
+pub mod Search
+pub mod Ready
+pub mod Numbers
