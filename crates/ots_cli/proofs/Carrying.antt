@@ -1,6 +1,6 @@
 -- An ending is carried out.
-use Rattle.std.proofs.Common.{◌≡◌, inl, inr, ℕ, List, [], ◌∷◌, Option, refl, sym, subst, ◌∙◌, arith}
-use Rattle.std.specs.Prelude.{Ok}
+use Rattle.std.proofs.Common.{◌≡◌, Bool, None, Bor, inl, inr, ℕ, List, [], ◌∷◌, Option, refl, sym, subst, ◌∙◌, arith}
+use Rattle.std.specs.Prelude.{Ok, Err}
 use Rattle.ots_base.specs.Cause.{Rose}
 use Rattle.ots_detached.specs.File.{file_of}
 use Rattle.ots_outside.specs.Shelf.{Names, NeverFalls, ShelfFaults, ShelfTold}
@@ -11,10 +11,17 @@ use Rattle.ots_cli.specs.declared.ending.Ending.{Ending as Decided}
 use Rattle.ots_cli.specs.declared.ending.Text.{Text}
 use Rattle.ots_cli.specs.declared.status.Status.{Status}
 use Rattle.ots_cli.specs.Answer.{Comes, as_defined, not_read}
-use Rattle.ots_cli.specs.CarriedOut.{CarriesOut, CarriesOutEnding, Ends, carried_out, Makes, PrintsLast}
+use Rattle.ots_cli.specs.CarriedOut.{Carries, CarriesOut, CarriesOutEnding, Ends, carried_out, Makes, Outputs, PrintsBoth, PrintsLast}
+use Rattle.ots_cli.specs.declared.output.OutputError.{OutputError}
 use Rattle.ots_cli.specs.Decided.{AreActsOf, IsTextOf}
 use Rattle.ots_cli.specs.Ending.{Act, Ending, makes, prints}
 use Rattle.ots_cli.specs.Gathered.{ComesToEnd}
+use Rattle.ots_cli.specs.Found.{IsUnder}
+use Rattle.ots_cli.specs.Refusal.{refusal_text}
+use Rattle.ots_cli.specs.Text.{complete_text}
+use Rattle.ots_outside.specs.Written.{with_name}
+use Rattle.ots_cli.specs.declared.status.Status.TheVariants.{WriteFault}
+use Rattle.ots_outside.specs.Streams.{Takes, TakesFront}
 use Rattle.ots_cli.specs.Opened.{StopsAt, not_opened, opened_last}
 
 -- the last text
@@ -40,18 +47,111 @@ text_printed d t told faults printing taken now r is h = record {
   later = omega arith;
 }
 
-pub file_made : (d : Decided) (a : Acts) (name : List ℕ) (p : Detached) (old new : ShelfTold) (before now : ShelfFaults) (printing : Type 0) (taken taken_now : Option (List ℕ)) (r : Status)
-    → d.acts ≡ a → AreActsOf d.status a (makes name (file_of p) ∷ []) → Makes d.status name (file_of p) old new before now printing taken taken_now r
-    → CarriesOutEnding d old new before now printing taken taken_now r
-file_made d a name p old new before now printing taken taken_now r is made h = record {
-  ending = record { status = d.status; acts = makes name (file_of p) ∷ [] };
-  is = record { status = refl; acts = acts_are d.status d.acts a (makes name (file_of p) ∷ []) is made };
+-- acts that were carried out are those of the ending
+pub ending_carried : (d : Decided) (status : Status) (done : List Act) (a : Acts) (old new : ShelfTold) (before now : ShelfFaults) (printing : Type 0)
+    (taken taken_now : Option (List ℕ)) (r : Status) → d.status ≡ status → d.acts ≡ a → AreActsOf d.status a done
+    → Carries status done old new before now printing taken taken_now r → CarriesOutEnding d old new before now printing taken taken_now r
+ending_carried d status done a old new before now printing taken taken_now r same is made h = record {
+  ending = record { status = status; acts = done };
+  is = record { status = sym same; acts = acts_are d.status d.acts a done is made };
   out = h.out;
   opened = h.opened;
   slots = h.slots;
   short = h.short;
   counts = h.counts;
   later = h.later;
+}
+
+pub file_made : (d : Decided) (a : Acts) (name : List ℕ) (p : Detached) (old new : ShelfTold) (before now : ShelfFaults) (printing : Type 0) (taken taken_now : Option (List ℕ)) (r : Status)
+    → d.acts ≡ a → AreActsOf d.status a (makes name (file_of p) ∷ []) → Makes d.status name (file_of p) old new before now printing taken taken_now r
+    → CarriesOutEnding d old new before now printing taken taken_now r
+file_made d a name p old new before now printing taken taken_now r is made h =
+    ending_carried d d.status (makes name (file_of p) ∷ []) a old new before now printing taken taken_now r refl is made h
+
+pub refused_behind : (d : Decided) (t : Text) (name : Bor (List ℕ)) (told : ShelfTold) (faults : ShelfFaults) (printing : Type 0) (taken now : Option (List ℕ)) (r : Status)
+    → d.acts ≡ acts.RefuseBehind t name
+    → (bytes : List ℕ) × IsTextOf d.status t bytes × PrintsBoth printing d.status bytes (refusal_text name.now d.status) taken now r
+    → CarriesOutEnding d told told faults faults printing taken now r
+refused_behind d t name told faults printing taken now r is h =
+    ending_carried d d.status (prints h.0 ∷ prints (refusal_text name.now d.status) ∷ []) (acts.RefuseBehind t name) told told faults faults printing taken now r
+    refl is (h.0, h.1, refl) (record {
+      out = both h.2;
+      opened = refl;
+      slots = λ k. refl;
+      short = λ enough. refl;
+      counts = record { opening = refl; reading = refl };
+      later = omega arith;
+    }) where
+      both : PrintsBoth printing d.status h.0 (refusal_text name.now d.status) taken now r
+          → CarriesOut (Rose faults.writing faults.writing) printing d.status (prints h.0 ∷ prints (refusal_text name.now d.status) ∷ []) told.names told.names taken now r
+      both (inl (mid, whole, last)) = inl (mid, whole, last_text (Rose faults.writing faults.writing) printing d.status (refusal_text name.now d.status) told.names mid now r last)
+      both (inr front) = inr (refl, front.0, front.1, front.2)
+
+pub made_behind : (d : Decided) (t : Text) (name : Bor (List ℕ)) (p : Detached) (complete : Bool) (old new : ShelfTold) (before now : ShelfFaults) (printing : Type 0)
+    (taken taken_now : Option (List ℕ)) (r : Status) → d.acts ≡ acts.MakeBehind t name p complete
+    → (bytes : List ℕ) × IsTextOf d.status t bytes
+    × Carries d.status (prints bytes ∷ makes name.now (file_of p) ∷ prints (complete_text complete) ∷ []) old new before now printing taken taken_now r
+    → CarriesOutEnding d old new before now printing taken taken_now r
+made_behind d t name p complete old new before now printing taken taken_now r is h =
+    ending_carried d d.status _ (acts.MakeBehind t name p complete) old new before now printing taken taken_now r refl is (h.0, h.1, refl) h.2
+
+-- A file was made, and then a text was the last.
+pub made_then : (writing printing : Type 0) (status : Status) (name bytes text : List ℕ) (old new : Option Names) (taken now : Option (List ℕ)) (r : Status) → IsUnder old name None
+    → new ≡ with_name name bytes old → (last : List ℕ) × (last ≡ text) × PrintsLast printing status last taken now r
+    → CarriesOut writing printing status (makes name bytes ∷ prints text ∷ []) old new taken now r
+made_then writing printing status name bytes text old new taken now r absent same (last, is, printed) =
+    inl (
+      absent,
+      subst (λ (z : Option Names). CarriesOut writing printing status (prints text ∷ []) z new taken now r) same
+          (subst (λ (z : List ℕ). CarriesOut writing printing status (prints z ∷ []) new new taken now r) is (last_text writing printing status last new taken now r printed)),
+    )
+
+-- what an error says of the names
+pub as_said : (name file : List ℕ) (old new : Option Names) (e f : OutputError) → e ≡ f → Outputs name file old new (Err e) → Outputs name file old new (Err f)
+as_said name file old new e f is h = subst (λ (z : OutputError). Outputs name file old new (Err z)) is h
+
+-- ---- one act after another
+
+-- What fails in a part fails in the whole.
+last_later : (P Q : Type 0) → (P → Q) → (status : Status) (text : List ℕ) (taken now : Option (List ℕ)) (r : Status)
+    → PrintsLast P status text taken now r → PrintsLast Q status text taken now r
+last_later P Q f status text taken now r (inl whole) = inl whole
+last_later P Q f status text taken now r (inr front) = inr (f front.0, front.1, front.2)
+
+carries_later : (writing P Q : Type 0) → (P → Q) → (status : Status) (acts : List Act) (old new : Option Names) (taken now : Option (List ℕ)) (r : Status)
+    → CarriesOut writing P status acts old new taken now r → CarriesOut writing Q status acts old new taken now r
+carries_later writing P Q f status [] old new taken now r h = h
+carries_later writing P Q f status (prints text ∷ acts) old new taken now r (inl h) =
+    inl (h.0, h.1, carries_later writing P Q f status acts old new h.0 now r h.2)
+carries_later writing P Q f status (prints text ∷ acts) old new taken now r (inr h) = inr (h.0, f h.1, h.2, h.3)
+carries_later writing P Q f status (makes name bytes ∷ acts) old new taken now r (inl h) = inl (h.0, carries_later writing P Q f status acts _ new taken now r h.1)
+carries_later writing P Q f status (makes name bytes ∷ acts) old new taken now r (inr (inl h)) = inr (inl (h.0, h.1, last_later P Q f _ _ taken now r h.2))
+carries_later writing P Q f status (makes name bytes ∷ acts) old new taken now r (inr (inr (inl h))) =
+    inr (inr (inl (h.0, h.1, h.2, last_later P Q f _ _ taken now r h.3)))
+carries_later writing P Q f status (makes name bytes ∷ acts) old new taken now r (inr (inr (inr h))) = inr (inr (inr h))
+
+-- A text was printed, and then acts were carried out.
+pub text_then : (P Q : Type 0) → (P → Q) → (status : Status) (text : List ℕ) (acts : List Act) (old new : ShelfTold) (before now : ShelfFaults) (taken mid taken_now : Option (List ℕ))
+    (r : Status) → Takes taken mid text → Carries status acts old new before now P mid taken_now r → Carries status (prints text ∷ acts) old new before now Q taken taken_now r
+text_then P Q f status text acts old new before now taken mid taken_now r whole h = record {
+  out = inl (mid, whole, carries_later (Rose before.writing now.writing) P Q f status acts old.names new.names mid taken_now r h.out);
+  opened = h.opened;
+  slots = h.slots;
+  short = h.short;
+  counts = h.counts;
+  later = h.later;
+}
+
+-- A text was not printed whole.
+pub text_lost : (printing : Type 0) (status : Status) (text : List ℕ) (acts : List Act) (told : ShelfTold) (faults : ShelfFaults) (taken now : Option (List ℕ))
+    → printing → TakesFront taken now text → Carries status (prints text ∷ acts) told told faults faults printing taken now WriteFault
+text_lost printing status text acts told faults taken now failed front = record {
+  out = inr (refl, failed, front, refl);
+  opened = refl;
+  slots = λ k. refl;
+  short = λ enough. refl;
+  counts = record { opening = refl; reading = refl };
+  later = omega arith;
 }
 
 -- ---- a run

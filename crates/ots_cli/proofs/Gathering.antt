@@ -3,20 +3,21 @@ use Rattle.std.proofs.Common.{◌≡◌, ℕ, List, [], ◌∷◌, ◌++◌, Opt
 use Rattle.std.specs.Prelude.{Result, Ok, Err, IfOk, IfErr, IsErrAnd}
 use Rattle.ots_outside.specs.Shelf.{Names, NeverFalls, ShelfFaults, ShelfTold}
 use Rattle.ots_cli.specs.declared.input.InputError.{InputError}
-use Rattle.ots_cli.specs.declared.input.InputError.TheVariants.{NoFile, ReadFault, TooBig, BadProof, BadHeaders, FileTooLong, OutOfMemory}
+use Rattle.ots_cli.specs.declared.input.InputError.TheVariants.{NoFile, ReadFault, TooBig, BadProof, BadHeaders, FileTooLong, BadAddress, OutOfMemory}
 use Rattle.ots_cli.specs.declared.input.Stop.{Stop}
 use Rattle.ots_cli.specs.declared.status.Status.{Status}
 use Rattle.ots_cli.specs.declared.status.Status.TheVariants as status
 use Rattle.ots_bitcoin.specs.HeaderTable.{Table}
 use Rattle.ots_cli.specs.declared.inputs.Inputs.{Inputs}
-use Rattle.ots_words.specs.Words.{Command, HeaderFile}
-use Rattle.ots_cli.specs.Answer.{Answers, Comes, as_defined, not_read, Decides, HasPerhapsTable, RefusesInput, no_file, refuses, RefusesPerhapsTable, WithPerhapsTable, is_given, is_refused}
+use Rattle.ots_words.specs.Words.{Command, HeaderFile, Upgrading, upgrade}
+use Rattle.ots_cli.specs.Asking.{Outside, alone}
+use Rattle.ots_cli.specs.Answer.{Answers, AnswersAs, Comes, as_defined, not_read, Decides, DecidesAs, is_bad, HasPerhapsTable, RefusesInput, no_file, refuses, RefusesPerhapsTable, WithPerhapsTable, is_given, is_refused}
 use Rattle.ots_base.specs.declared.out_of_memory.OutOfMemory.{OutOfMemory as NoMemory}
 use Rattle.ots_cli.specs.declared.ending.Ending.{Ending as Decided}
 use Rattle.ots_cli.specs.Decided.{EndsAs, IsEnding}
 use Rattle.ots_cli.specs.Ending.{Ending, refused}
 use Rattle.ots_cli.specs.Found.{IsRefusal, status_of}
-use Rattle.ots_cli.specs.Gathered.{ComesToEnd, Reads, ReadsName, ReadsUnder, StopsFor}
+use Rattle.ots_cli.specs.Gathered.{ComesToEnd, IfBadList, Reads, ReadsName, ReadsUnder, StopsFor}
 use Rattle.ots_cli.specs.Opened.{IsOpenedOrNot, Opens, StopsAt, names_read}
 use Rattle.ots_cli.proofs.Opened.{both, front_of_more, none_opened, one_refused, stops_at_one, stops_before, stops_later, then_opened}
 
@@ -35,6 +36,7 @@ stops_for told name Refuses old new before now ReadFault under opened = stops_at
 stops_for told name Refuses old new before now TooBig under opened = refuses status.TooBig under refl
 stops_for told name Refuses old new before now (BadProof f) under opened = refuses (status.BadProof f) under refl
 stops_for told name Refuses old new before now (BadHeaders n) under opened = refuses (status.BadHeaders n) under refl
+stops_for told name Refuses old new before now (BadAddress place https) under opened = absurd under
 stops_for told name Refuses old new before now FileTooLong under opened = refuses status.FileTooLong under refl
 stops_for told name Refuses old new before now OutOfMemory under opened = tt
 
@@ -80,6 +82,7 @@ stops_as R Q S T name ReadFault f g h = g name h
 stops_as R Q S T name TooBig f g h = f _ h
 stops_as R Q S T name (BadProof k) f g h = f _ h
 stops_as R Q S T name (BadHeaders n) f g h = f _ h
+stops_as R Q S T name (BadAddress place https) f g h = f _ h
 stops_as R Q S T name FileTooLong f g h = f _ h
 stops_as R Q S T name OutOfMemory f g h = tt
 
@@ -184,11 +187,11 @@ perhaps_refused told (Some file) P e h = is_refused h
 
 -- ---- the command that was read
 
-pub of_command : {c d : Command} {old new : ShelfTold} {before now : ShelfFaults} {r : Result Inputs Stop} → c ≡ d
-    → Reads (names_read (Some d)) (Goes Decides (λ told. Answers told (Some d))) (λ told. Answers told (Some d)) old new before now r
-    → Reads (names_read (Some c)) (Goes Decides (λ told. Answers told (Some c))) (λ told. Answers told (Some c)) old new before now r
-of_command {c} {d} {old} {new} {before} {now} {r} is h =
-    subst (λ (z : Command). Reads (names_read (Some z)) (Goes Decides (λ told. Answers told (Some z))) (λ told. Answers told (Some z)) old new before now r) (sym is) h
+pub of_command : (o : Outside) {c d : Command} {old new : ShelfTold} {before now : ShelfFaults} {r : Result Inputs Stop} → c ≡ d
+    → Reads (names_read (Some d)) (Goes (Decides o) (λ told. Answers o told (Some d))) (λ told. Answers o told (Some d)) old new before now r
+    → Reads (names_read (Some c)) (Goes (Decides o) (λ told. Answers o told (Some c))) (λ told. Answers o told (Some c)) old new before now r
+of_command o {c} {d} {old} {new} {before} {now} {r} is h =
+    subst (λ (z : Command). Reads (names_read (Some z)) (Goes (Decides o) (λ told. Answers o told (Some z))) (λ told. Answers o told (Some z)) old new before now r) (sym is) h
 
 -- ---- how a run ends
 
@@ -204,6 +207,7 @@ stop_comes answers stops_at name ReadFault s e same h is =
 stop_comes answers stops_at name TooBig s e same h is = as_defined (of_refusal answers name s _ e same h is)
 stop_comes answers stops_at name (BadProof f) s e same h is = as_defined (of_refusal answers name s _ e same h is)
 stop_comes answers stops_at name (BadHeaders n) s e same h is = as_defined (of_refusal answers name s _ e same h is)
+stop_comes answers stops_at name (BadAddress place https) s e same h is = as_defined (of_refusal answers name s _ e same h is)
 stop_comes answers stops_at name FileTooLong s e same h is = as_defined (of_refusal answers name s _ e same h is)
 stop_comes answers stops_at name OutOfMemory s e same h is = absurd cc
 
@@ -223,7 +227,115 @@ refusal_ends {answers = answers} {reads = reads} {old = old} {new = new} {before
   writing = h.writing;
 }
 
-pub end_of_command : {c d : Option Command} {old new : ShelfTold} {before now : ShelfFaults} {r : Result Decided NoMemory} → c ≡ d
-    → ComesToEnd (λ told. Answers told d) (names_read d) old new before now r → ComesToEnd (λ told. Answers told c) (names_read c) old new before now r
-end_of_command {c} {d} {old} {new} {before} {now} {r} is h =
-    subst (λ (z : Option Command). ComesToEnd (λ told. Answers told z) (names_read z) old new before now r) (sym is) h
+-- An ending that was decided of what was read.
+pub decided_ends : (happens : Outside → Type 0) (c : Command) {inputs : Inputs} {old new : ShelfTold} {before now : ShelfFaults} (r : Result Decided NoMemory)
+    → ((o : Outside) → Reads (names_read (Some c)) (Goes (Decides o) (λ told. Answers o told (Some c))) (λ told. Answers o told (Some c)) old new before now (Ok inputs))
+    → IfOk r (EndsAs (DecidesAs happens inputs))
+    → ComesToEnd (λ told. AnswersAs happens told (Some c)) (names_read (Some c)) old new before now r
+decided_ends happens c (Ok d) reads h = let k = reads alone in record {
+  ending = λ e seen. let x = h e seen in as_defined (x.0, x.1, (reads x.0).given e x.2);
+  opened = k.front;
+  names = k.names;
+  slots = k.slots;
+  short = k.short (λ ran. ran);
+  later = k.later;
+  writing = k.writing;
+}
+decided_ends happens c (Err x) reads h = let k = reads alone in record {
+  ending = tt;
+  opened = k.front;
+  names = k.names;
+  slots = k.slots;
+  short = tt;
+  later = k.later;
+  writing = k.writing;
+}
+
+-- An ending at a refusal, where nobody was asked.
+pub refused_alone : (happens : Outside → Type 0) (c : Option Command) {reads : List (List ℕ)} {old new : ShelfTold} {before now : ShelfFaults} {d : Decided} → happens alone
+    → ComesToEnd (λ told. Answers alone told c) reads old new before now (Ok d) → ComesToEnd (λ told. AnswersAs happens told c) reads old new before now (Ok d)
+refused_alone happens c {reads} {old} {new} {before} {now} {d} heard h = record {
+  ending = λ e seen. lift e (h.ending e seen);
+  opened = h.opened;
+  names = h.names;
+  slots = h.slots;
+  short = h.short;
+  later = h.later;
+  writing = h.writing;
+} where
+  lift : (e : Ending) → Comes (Answers alone old.names c) (StopsAt reads old.opened new.opened before now) e
+      → Comes (AnswersAs happens old.names c) (StopsAt reads old.opened new.opened before now) e
+  lift e (as_defined a) = as_defined (alone, heard, a)
+  lift e (not_read name stops is) = not_read name stops is
+
+-- Memory ran out while names were read.
+pub ran_out : {B : Type 0} {gives : Option Names → B → Type 0} {refuses answers : Option Names → Ending → Type 0} {reads : List (List ℕ)} {old new : ShelfTold}
+    {before now : ShelfFaults} {stop : Stop} {x : NoMemory} → Reads {A = B} reads gives refuses old new before now (Err stop) → ComesToEnd answers reads old new before now (Err x)
+ran_out h = record {
+  ending = tt;
+  opened = h.front;
+  names = h.names;
+  slots = h.slots;
+  short = tt;
+  later = h.later;
+  writing = h.writing;
+}
+
+-- Words of no command's form.
+pub usage_ends : (happens : Outside → Type 0) → happens alone → (c : Option Command) → c ≡ None → {told : ShelfTold} {faults : ShelfFaults} {d : Decided}
+    → EndsAs (IsEnding (refused [] status.Usage)) d → ComesToEnd (λ t. AnswersAs happens t c) (names_read c) told told faults faults (Ok d)
+usage_ends happens heard c is {told} {faults} {d} ends = record {
+  ending = λ e seen. as_defined (alone, heard, subst (λ (z : Option Command). Answers alone told.names z e) (sym is) (ends e seen));
+  opened = (0, none_opened told.opened);
+  names = refl;
+  slots = λ k. refl;
+  short = refl;
+  later = record { opening = omega arith; reading = omega arith; writing = omega arith };
+  writing = refl;
+}
+
+-- A stop is one, whatever was to be made of what was read.
+pub stop_as : {A B : Type 0} {names : List (List ℕ)} {gives : Option Names → A → Type 0} {takes : Option Names → B → Type 0} {refuses : Option Names → Ending → Type 0}
+    {old new : ShelfTold} {before now : ShelfFaults} {stop : Stop} → Reads {A = A} names gives refuses old new before now (Err stop)
+    → Reads {A = B} names takes refuses old new before now (Err stop)
+stop_as h = record {
+  given = tt;
+  stopped = h.stopped;
+  opened = tt;
+  front = h.front;
+  names = h.names;
+  slots = h.slots;
+  short = h.short;
+  later = h.later;
+  writing = h.writing;
+}
+
+-- A list of calendars that was refused, before anything is opened.
+pub list_refused : {B : Type 0} (o : Outside) {u : Upgrading} {gives : Option Names → B → Type 0} {told : ShelfTold} {faults : ShelfFaults} (names : List (List ℕ)) (stop : Stop)
+    → IfBadList u.calendars stop.name.now stop.cause → Reads {A = B} names gives (λ told. Answers o told (Some (upgrade u))) told told faults faults (Err stop)
+list_refused o {u} {told = told} {faults = faults} names stop h = record {
+  given = tt;
+  stopped = why stop.name.now stop.cause h;
+  opened = tt;
+  front = (0, none_opened told.opened);
+  names = refl;
+  slots = λ k. refl;
+  short = λ enough. refl;
+  later = record { opening = omega arith; reading = omega arith; writing = omega arith };
+  writing = refl;
+} where
+  why : (name : List ℕ) (e : InputError) → IfBadList u.calendars name e
+      → StopsFor (Answers o told.names (Some (upgrade u))) (StopsAt names told.opened told.opened faults faults) name e
+  why name (BadAddress place https) (bad, empty) = is_bad place https bad (ap (λ (z : List ℕ). refused z (status.BadAddress place https)) empty)
+  why name OutOfMemory bad = tt
+  why name NoFile bad = absurd bad
+  why name ReadFault bad = absurd bad
+  why name TooBig bad = absurd bad
+  why name (BadProof f) bad = absurd bad
+  why name (BadHeaders n) bad = absurd bad
+  why name FileTooLong bad = absurd bad
+
+pub end_of_command : (happens : Outside → Type 0) {c d : Option Command} {old new : ShelfTold} {before now : ShelfFaults} {r : Result Decided NoMemory} → c ≡ d
+    → ComesToEnd (λ told. AnswersAs happens told d) (names_read d) old new before now r → ComesToEnd (λ told. AnswersAs happens told c) (names_read c) old new before now r
+end_of_command happens {c} {d} {old} {new} {before} {now} {r} is h =
+    subst (λ (z : Option Command). ComesToEnd (λ told. AnswersAs happens told z) (names_read z) old new before now r) (sym is) h

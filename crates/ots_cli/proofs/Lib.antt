@@ -9,3 +9,4 @@ mod OneAnswer
 mod Taken
 mod Yes
 mod ReadsBack
+mod Asked

@@ -22,8 +22,9 @@ use Rattle.ots_canon.specs.Join.{IsMergeOf}
 use Rattle.ots_canon.proofs.Lawful.{one_form, one_join, one_prune}
 use Rattle.ots_cli.specs.Found.{HasUnder, IsHashOf, RefusesProof, too_big, bad_proof, RefusesTable, cut, too_many, RefusesTarget}
 use Rattle.ots_cli.specs.Text.{verdict_status, verdict_text}
-use Rattle.ots_words.specs.Words.{Command, HeaderFile, Verification, info, canon, merge, prune, verify}
-use Rattle.ots_cli.specs.Answer.{Answers, Comes, as_defined, not_read, PrintsInfo, UnlessFailed, PrintsVerdict, RefusesInput, no_file, refuses, WithInput, is_given, is_refused, WithProof, WithTable, WithPerhapsTable, WithTarget, VerifiesTarget, VerifiesProof, VerifiesBy, Verifies, Writes, too_long, is_made, WritesOf, Merges, differ, joined}
+use Rattle.ots_words.specs.Words.{Command, HeaderFile, Verification, info, canon, merge, prune, verify, upgrade}
+use Rattle.ots_cli.specs.Asking.{IsOffline, Outside, alone}
+use Rattle.ots_cli.specs.Answer.{Answers, AnswersAs, Comes, as_defined, not_read, PrintsInfo, UnlessFailed, PrintsVerdict, RefusesInput, no_file, refuses, WithInput, is_given, is_refused, WithProof, WithTable, WithPerhapsTable, WithTarget, VerifiesTarget, VerifiesProof, VerifiesBy, Verifies, Writes, too_long, is_made, WritesOf, Merges, differ, joined}
 use Rattle.ots_cli.specs.CarriedOut.{Ends, carried_out, no_memory, status_over}
 use Rattle.ots_cli.proofs.Outcome.{carried_status, only_prints, over_names}
 use Rattle.ots_info.specs.Listing.{file_line, item_line}
@@ -182,28 +183,31 @@ verifies names v d e =
     (λ p. with_target names v.target p.hash (PrintsVerdict p b l) d e
     (λ x f g. f.2 ∙ ap (λ (z : Verdict). printing (verdict_status z) (verdict_text z)) (one p x b l f.0 g.0 f.1 g.1) ∙ sym g.2))))
 
--- A command has one answer.
-pub one_answer : (names : Names) (command : Option Command) (d e : Ending) → Answers (Some names) command d → Answers (Some names) command e → d ≡ e
-one_answer names None d e f g = f ∙ sym g
-one_answer names (Some (info name)) d e f g = with_proof names name PrintsInfo d e (λ p. one_text p d e) f g
-one_answer names (Some (canon from to)) d e f g = rewrites names Canon from to d e f g
-one_answer names (Some (merge first second to)) d e f g =
+-- A command that asks nobody has one answer.
+pub one_answer : (o q : Outside) (names : Names) (command : Option Command) (d e : Ending) → IsOffline command
+    → Answers o (Some names) command d → Answers q (Some names) command e → d ≡ e
+one_answer o q names None d e alone f g = f ∙ sym g
+one_answer o q names (Some (info name)) d e alone f g = with_proof names name PrintsInfo d e (λ p. one_text p d e) f g
+one_answer o q names (Some (canon from to)) d e alone f g = rewrites names Canon from to d e f g
+one_answer o q names (Some (merge first second to)) d e alone f g =
     with_proof names first (λ p. WithProof (Some names) second (Merges to p)) d e
     (λ p. with_proof names second (Merges to p) d e (λ q. merges to p q d e)) f g
-one_answer names (Some (prune from to)) d e f g = rewrites names Prune from to d e f g
-one_answer names (Some (verify v)) d e f g = verifies names v d e f g
+one_answer o q names (Some (prune from to)) d e alone f g = rewrites names Prune from to d e f g
+one_answer o q names (Some (verify v)) d e alone f g = verifies names v d e f g
+one_answer o q names (Some (upgrade u)) d e alone f g = absurd alone
 
 -- ---- the status that is answered
 
-pub exact : (names : Names) (old new : Option Names) (command : Option Command) (stops_at : List ℕ → Type 0) (writing lost : Type 0) (taken now : Option (List ℕ)) (r : Status)
-    (e : Ending) → Ends (Comes (Answers old command) stops_at) writing lost old new taken now r → old ≡ Some names → Answers (Some names) command e
-    → UnlessFailed (status_over names e.status e.acts) r
-exact names old new command stops_at writing lost taken now r e h told is =
-    of_names (subst (λ (z : Option Names). Ends (Comes (Answers z command) stops_at) writing lost z new taken now r) told h) where
-      of_names : Ends (Comes (Answers (Some names) command) stops_at) writing lost (Some names) new taken now r → UnlessFailed (status_over names e.status e.acts) r
+pub exact : (happens : Outside → Type 0) (names : Names) (old new : Option Names) (command : Option Command) (stops_at : List ℕ → Type 0) (writing lost : Type 0)
+    (taken now : Option (List ℕ)) (r : Status) (e : Ending) → Ends (Comes (AnswersAs happens old command) stops_at) writing lost old new taken now r → old ≡ Some names
+    → IsOffline command → Answers alone (Some names) command e → UnlessFailed (status_over names e.status e.acts) r
+exact happens names old new command stops_at writing lost taken now r e h told offline is =
+    of_names (subst (λ (z : Option Names). Ends (Comes (AnswersAs happens z command) stops_at) writing lost z new taken now r) told h) where
+      of_names : Ends (Comes (AnswersAs happens (Some names) command) stops_at) writing lost (Some names) new taken now r
+          → UnlessFailed (status_over names e.status e.acts) r
       of_names (no_memory ran same kept) = subst (UnlessFailed (status_over names e.status e.acts)) (sym ran) tt
-      of_names (carried_out d (as_defined a) c) =
-          subst (λ (z : Ending). UnlessFailed (status_over names z.status z.acts) r) (one_answer names command d e a is)
+      of_names (carried_out d (as_defined (o, heard, a)) c) =
+          subst (λ (z : Ending). UnlessFailed (status_over names z.status z.acts) r) (one_answer o alone names command d e offline a is)
           (over_names writing lost d.status d.acts names new taken now r c)
       of_names (carried_out d (not_read name stops at) c) = elim (carried_status writing lost d.status d.acts (Some names) new taken now r c) [
         | inl may ↦ subst (UnlessFailed (status_over names e.status e.acts)) (sym (only_prints d r ReadFault _ at may)) tt

@@ -6,11 +6,11 @@ use Rattle.std.specs.FinMap as map
 use Rattle.ots_outside.specs.Shelf.{Names}
 use Rattle.ots_outside.proofs.Names.{get-insert_other}
 use Rattle.ots_cli.specs.declared.status.Status.{Status}
-use Rattle.ots_cli.specs.declared.status.Status.TheVariants.{Done, No, Usage, BadProof, NoFile, Exists, ReadFault, WriteFault, TooBig, BadHeaders, FileTooLong, Differs, OutOfMemory}
+use Rattle.ots_cli.specs.declared.status.Status.TheVariants.{Done, No, Usage, BadProof, NoFile, Exists, ReadFault, WriteFault, TooBig, BadHeaders, FileTooLong, BadAddress, Differs, OutOfMemory}
 use Rattle.ots_cli.specs.Answer.{Comes, as_defined, not_read, UnlessFailed}
 use Rattle.ots_cli.specs.CarriedOut.{CarriesOut, Ends, carried_out, no_memory, PrintsLast, status_over}
 use Rattle.ots_cli.specs.Ending.{Act, Ending, makes, printing, prints}
-use Rattle.ots_cli.specs.ReadsBack.{Leaves}
+use Rattle.ots_cli.specs.ReadsBack.{IsDoneOrNo, Leaves}
 
 -- ---- the status
 
@@ -76,6 +76,7 @@ unless s No e = e
 unless s (BadHeaders n) e = e
 unless s FileTooLong e = e
 unless s (Differs h d k f) e = e
+unless s (BadAddress place https) e = e
 unless s ReadFault e = tt
 unless s WriteFault e = tt
 unless s OutOfMemory e = tt
@@ -104,25 +105,43 @@ over_names writing lost s (makes name bytes ∷ acts) names new taken now r (inr
 
 -- ---- the names
 
--- a file was made last, and that is done
-pub done_making : (writing lost : Type 0) (name bytes : List ℕ) (names : Names) (new : Option Names) (taken now : Option (List ℕ)) (r : Status) → r ≡ Done
-    → CarriesOut writing lost Done (makes name bytes ∷ []) (Some names) new taken now r → new ≡ Some (map.insert names name bytes)
-done_making writing lost name bytes names new taken now r done (inl (absent, h)) = h.0
-done_making writing lost name bytes names new taken now r done (inr (inl (there, same, inl last))) = absurd (let clash : Exists ≡ Done = sym last.1 ∙ done in cc)
-done_making writing lost name bytes names new taken now r done (inr (inl (there, same, inr last))) = absurd (let clash : WriteFault ≡ Done = sym last.2 ∙ done in cc)
-done_making writing lost name bytes names new taken now r done (inr (inr (inl (fault, absent, same, inl last)))) =
-    absurd (let clash : WriteFault ≡ Done = sym last.1 ∙ done in cc)
-done_making writing lost name bytes names new taken now r done (inr (inr (inl (fault, absent, same, inr last)))) =
-    absurd (let clash : WriteFault ≡ Done = sym last.2 ∙ done in cc)
-done_making writing lost name bytes names new taken now r done (inr (inr (inr none))) = absurd (let clash : OutOfMemory ≡ Done = sym none.2 ∙ done in cc)
+-- a status of work that was done is none of these
+pub never : (s t : Status) → s ≡ t → (t ≡ Done → ⊥) → (t ≡ No → ⊥) → IsDoneOrNo s → ⊥
+never s t is other none (inl h) = other (sym is ∙ h)
+never s t is other none (inr h) = none (sym is ∙ h)
+
+-- only texts are printed
+abbrev pub Prints : List Act → Type 0
+Prints [] = Unit {0}
+Prints (prints text ∷ acts) = Prints acts
+Prints (makes name bytes ∷ acts) = ⊥
+
+printed_all : (writing lost : Type 0) (s : Status) (acts : List Act) (old new : Option Names) (taken now : Option (List ℕ)) (r : Status) → Prints acts → IsDoneOrNo r
+    → CarriesOut writing lost s acts old new taken now r → new ≡ old
+printed_all writing lost s [] old new taken now r only done h = h.0
+printed_all writing lost s (prints text ∷ acts) old new taken now r only done (inl h) = printed_all writing lost s acts old new h.0 now r only done h.2
+printed_all writing lost s (prints text ∷ acts) old new taken now r only done (inr h) = absurd (never r WriteFault h.3 (λ clash. cc) (λ clash. cc) done)
+printed_all writing lost s (makes name bytes ∷ acts) old new taken now r only done h = absurd only
+
+-- a file was made, perhaps between texts, and the work was done
+pub done_making : (writing lost : Type 0) (s : Status) (name bytes : List ℕ) (acts : List Act) (names : Names) (new : Option Names) (taken now : Option (List ℕ)) (r : Status)
+    → Prints acts → IsDoneOrNo r → CarriesOut writing lost s (makes name bytes ∷ acts) (Some names) new taken now r → new ≡ Some (map.insert names name bytes)
+done_making writing lost s name bytes acts names new taken now r only done (inl (absent, h)) = printed_all writing lost s acts _ new taken now r only done h
+done_making writing lost s name bytes acts names new taken now r only done (inr (inl (there, same, inl last))) = absurd (never r Exists last.1 (λ clash. cc) (λ clash. cc) done)
+done_making writing lost s name bytes acts names new taken now r only done (inr (inl (there, same, inr last))) = absurd (never r WriteFault last.2 (λ clash. cc) (λ clash. cc) done)
+done_making writing lost s name bytes acts names new taken now r only done (inr (inr (inl (fault, absent, same, inl last)))) =
+    absurd (never r WriteFault last.1 (λ clash. cc) (λ clash. cc) done)
+done_making writing lost s name bytes acts names new taken now r only done (inr (inr (inl (fault, absent, same, inr last)))) =
+    absurd (never r WriteFault last.2 (λ clash. cc) (λ clash. cc) done)
+done_making writing lost s name bytes acts names new taken now r only done (inr (inr (inr none))) = absurd (never r OutOfMemory none.2 (λ clash. cc) (λ clash. cc) done)
 
 -- no act makes another name
-abbrev pub MakesOnly : Option (List ℕ) → List Act → Type 0
+abbrev pub MakesOnly : (List ℕ → Type 0) → List Act → Type 0
 MakesOnly out [] = Unit {0}
 MakesOnly out (prints text ∷ acts) = MakesOnly out acts
-MakesOnly out (makes name bytes ∷ acts) = (out ≡ Some name) × MakesOnly out acts
+MakesOnly out (makes name bytes ∷ acts) = out name × MakesOnly out acts
 
-leaves_all : (names : Names) (out : Option (List ℕ)) (new : Option Names) → new ≡ Some names → Leaves names out new
+leaves_all : (names : Names) (out : List ℕ → Type 0) (new : Option Names) → new ≡ Some names → Leaves names out new
 leaves_all names out new same = (names, same, λ name other. refl)
 
 is_there : (o : Option (List ℕ)) → IsSome o → o ≡ None → ⊥
@@ -130,12 +149,12 @@ is_there None some none = absurd (false≢true some)
 is_there (Some b) some none = cc
 
 -- one name more, which was not there
-module _ (names : Names) (out : Option (List ℕ)) (name bytes : List ℕ) (is : out ≡ Some name) (absent : map.get names name ≡ None) where
-  differs : (other : List ℕ) → (out ≡ Some other → IsSome (map.get names other)) → other ≡ name → ⊥
+module _ (names : Names) (out : List ℕ → Type 0) (name bytes : List ℕ) (is : out name) (absent : map.get names name ≡ None) where
+  differs : (other : List ℕ) → (out other → IsSome (map.get names other)) → other ≡ name → ⊥
   differs other kept same =
-      is_there (map.get names name) (subst (λ (z : List ℕ). IsSome (map.get names z)) same (kept (is ∙ ap (λ (z : List ℕ). Some z) (sym same)))) absent
+      is_there (map.get names name) (subst (λ (z : List ℕ). IsSome (map.get names z)) same (kept (subst out (sym same) is))) absent
 
-  others : (other : List ℕ) → (out ≡ Some other → IsSome (map.get names other)) → map.get (map.insert names name bytes) other ≡ map.get names other
+  others : (other : List ℕ) → (out other → IsSome (map.get names other)) → map.get (map.insert names name bytes) other ≡ map.get names other
   others other kept = get-insert_other names name bytes other (differs other kept)
 
   leaves_one : (new : Option Names) → new ≡ Some (map.insert names name bytes) → Leaves names out new
@@ -150,7 +169,7 @@ module _ (names : Names) (out : Option (List ℕ)) (name bytes : List ℕ) (is :
         h.2 other (λ told. subst (λ (z : Option (List ℕ)). IsSome z) (sym same) (kept told)) ∙ same,
   )
 
-pub carried_leaves : (writing lost : Type 0) (s : Status) (acts : List Act) (names : Names) (out : Option (List ℕ)) (new : Option Names) (taken now : Option (List ℕ)) (r : Status)
+pub carried_leaves : (writing lost : Type 0) (s : Status) (acts : List Act) (names : Names) (out : List ℕ → Type 0) (new : Option Names) (taken now : Option (List ℕ)) (r : Status)
     → MakesOnly out acts → CarriesOut writing lost s acts (Some names) new taken now r → Leaves names out new
 carried_leaves writing lost s [] names out new taken now r only h = leaves_all names out new h.0
 carried_leaves writing lost s (prints text ∷ acts) names out new taken now r only (inl h) = carried_leaves writing lost s acts names out new h.0 now r only h.2

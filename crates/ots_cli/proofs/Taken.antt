@@ -1,5 +1,5 @@
 -- What a status says of the proofs that a command reads.
-use Rattle.std.proofs.Common.{◌≡◌, ℕ, List, [], ◌∷◌, Option, Some, None, inl, inr, sym, ap, subst, ◌∙◌}
+use Rattle.std.proofs.Common.{◌≡◌, ℕ, true, false, List, [], ◌∷◌, Option, Some, None, inl, inr, sym, ap, subst, ◌∙◌}
 use Rattle.ots_outside.specs.Shelf.{Names}
 use Rattle.ots_ops.specs.declared.hash_op.HashOp.{HashOp}
 use Rattle.ots_tree.specs.declared.detached.Detached.{Detached}
@@ -7,15 +7,17 @@ use Rattle.ots_bitcoin.specs.HeaderTable.{Table}
 use Rattle.ots_eval.specs.declared.verdicts.Verdict.{Verdict}
 use Rattle.ots_eval.specs.declared.verdicts.Verdict.TheVariants.{Yes, NoDigest, NoPath}
 use Rattle.ots_cli.specs.declared.status.Status.{Status}
-use Rattle.ots_cli.specs.declared.status.Status.TheVariants.{Done, No, Usage, BadProof, NoFile, Exists, ReadFault, WriteFault, TooBig, BadHeaders, FileTooLong, Differs, OutOfMemory}
+use Rattle.ots_cli.specs.declared.status.Status.TheVariants.{Done, No, Usage, BadProof, NoFile, Exists, ReadFault, WriteFault, TooBig, BadHeaders, FileTooLong, BadAddress, Differs, OutOfMemory}
 use Rattle.ots_cli.specs.Ending.{Ending, makes, printing}
-use Rattle.ots_cli.specs.Answer.{Answers, Comes, no_file, refuses, is_given, is_refused, PrintsInfo, WithProof, WithTable, WithPerhapsTable, WithTarget, PrintsVerdict, Writes, too_long, is_made, Merges, differ, joined, VerifiesProof, VerifiesTarget, VerifiesBy}
+use Rattle.ots_cli.specs.Answer.{Answers, AnswersAs, Comes, is_list, is_bad, WritesAsked, asked_too_long, asked_made, no_file, refuses, is_given, is_refused, PrintsInfo, WithProof, WithTable, WithPerhapsTable, WithTarget, PrintsVerdict, Writes, too_long, is_made, Merges, differ, joined, VerifiesProof, VerifiesTarget, VerifiesBy}
+use Rattle.ots_cli.specs.Asking.{Outside}
+use Rattle.ots_upgrade.specs.declared.asking.AskedAt.{AskedAt}
 use Rattle.ots_cli.specs.CarriedOut.{Ends}
 use Rattle.ots_cli.proofs.Outcome.{Failed, MayEnd, only_prints, outcome}
 use Rattle.ots_cli.specs.Found.{too_big, bad_proof, cut, too_many}
 use Rattle.ots_cli.specs.Taken.{IsProof, TakesProofs, proofs_read}
 use Rattle.ots_cli.specs.Text.{verdict_status}
-use Rattle.ots_words.specs.Words.{Command, HeaderFile, info, canon, merge, prune, verify}
+use Rattle.ots_words.specs.Words.{Command, HeaderFile, info, canon, merge, prune, verify, upgrade}
 
 -- the status of an ending is this one, of which it is said
 of_status : (names : Names) (proofs : List (List ℕ)) (s t : Status) → s ≡ t → TakesProofs names proofs t → TakesProofs names proofs s
@@ -34,6 +36,7 @@ one_more names name rest WriteFault is h = tt
 one_more names name rest TooBig is h = inr (is, h)
 one_more names name rest (BadHeaders n) is h = tt
 one_more names name rest FileTooLong is h = (is, h)
+one_more names name rest (BadAddress place https) is h = tt
 one_more names name rest (Differs h d k e) is g = (is, g)
 one_more names name rest OutOfMemory is h = tt
 
@@ -90,12 +93,26 @@ module _ (names : Names) (e : Ending) (s : Status) (may : MayEnd e s) where
   of_perhaps_table None proofs P then h = then None h
   of_perhaps_table (Some file) proofs P then h = of_table file proofs (λ t. P (Some t)) (λ t. then (Some t)) h
 
-  takes : (c : Command) → Answers (Some names) (Some c) e → TakesProofs names (proofs_read c) s
-  takes (info name) h = of_proof name [] PrintsInfo (λ p printed. of_text [] Done _ printed.2 tt) h
-  takes (canon from to) h = of_proof from [] _ (λ p result. of_writing to result.0 result.2) h
-  takes (merge first second to) h = of_proof first (second ∷ []) _ (λ p. of_proof second [] _ (λ q. of_merging to p q)) h
-  takes (prune from to) h = of_proof from [] _ (λ p result. of_writing to result.0 result.2) h
-  takes (verify v) h =
+  -- a status of an ending with several acts
+  of_acts : (t : Status) → e.status ≡ t → TakesProofs names [] t → TakesProofs names [] s
+  of_acts t is h = elim may [
+    | inl same ↦ of_status names [] s t (same ∙ is) h
+    | inr (some, exists) ↦ of_status names [] s Exists exists tt
+  ]
+
+  of_asked : (asked : List AskedAt) (to : List ℕ) (r : Detached) → WritesAsked asked to r e → TakesProofs names [] s
+  of_asked asked to r (asked_too_long long f) = of_acts TooBig (ap (λ (z : Ending). z.status) f) tt
+  of_asked asked to r (asked_made true is file f) = of_acts Done (ap (λ (z : Ending). z.status) f) tt
+  of_asked asked to r (asked_made false is file f) = of_acts No (ap (λ (z : Ending). z.status) f) tt
+
+  takes : (o : Outside) (c : Command) → Answers o (Some names) (Some c) e → TakesProofs names (proofs_read c) s
+  takes o (info name) h = of_proof name [] PrintsInfo (λ p printed. of_text [] Done _ printed.2 tt) h
+  takes o (canon from to) h = of_proof from [] _ (λ p result. of_writing to result.0 result.2) h
+  takes o (merge first second to) h = of_proof first (second ∷ []) _ (λ p. of_proof second [] _ (λ q. of_merging to p q)) h
+  takes o (prune from to) h = of_proof from [] _ (λ p result. of_writing to result.0 result.2) h
+  takes o (upgrade u) (is_list calendars is h) = of_proof u.proof [] _ (λ p completes. of_asked completes.0 u.to completes.1 completes.3) h
+  takes o (upgrade u) (is_bad place https is f) = of_text (u.proof ∷ []) (BadAddress place https) _ f tt
+  takes o (verify v) h =
       of_table v.bitcoin (v.proof ∷ []) (VerifiesBy (Some names) v)
       (λ b. of_perhaps_table v.litecoin (v.proof ∷ []) (VerifiesProof (Some names) v b)
       (λ l. of_proof v.proof [] (VerifiesTarget (Some names) v.target b l) (λ p. of_target v.target p.hash p b l))) h
@@ -105,11 +122,11 @@ of_fault names proofs s (inl is) = of_status names proofs s ReadFault is tt
 of_fault names proofs s (inr (inl is)) = of_status names proofs s WriteFault is tt
 of_fault names proofs s (inr (inr is)) = of_status names proofs s OutOfMemory is tt
 
-pub are_taken : (names : Names) (c : Command) (old new : Option Names) (command : Option Command) (stops_at : List ℕ → Type 0) (writing lost : Type 0)
-    (taken now : Option (List ℕ)) (s : Status) → old ≡ Some names → command ≡ Some c → Ends (Comes (Answers old command) stops_at) writing lost old new taken now s
+pub are_taken : (happens : Outside → Type 0) (names : Names) (c : Command) (old new : Option Names) (command : Option Command) (stops_at : List ℕ → Type 0) (writing lost : Type 0)
+    (taken now : Option (List ℕ)) (s : Status) → old ≡ Some names → command ≡ Some c → Ends (Comes (AnswersAs happens old command) stops_at) writing lost old new taken now s
     → TakesProofs names (proofs_read c) s
-are_taken names c old new command stops_at writing lost taken now s told asks h = elim (outcome _ _ _ _ _ _ _ _ s h) [
+are_taken happens names c old new command stops_at writing lost taken now s told asks h = elim (outcome _ _ _ _ _ _ _ _ s h) [
   | inr failed ↦ of_fault names (proofs_read c) s failed
-  | inl (e, a, may) ↦
-      takes names e s may c (subst (λ (z : Option Command). Answers (Some names) z e) asks (subst (λ (z : Option Names). Answers z command e) told a))
+  | inl (e, (o, heard, a), may) ↦
+      takes names e s may o c (subst (λ (z : Option Command). Answers o (Some names) z e) asks (subst (λ (z : Option Names). Answers o z command e) told a))
 ]

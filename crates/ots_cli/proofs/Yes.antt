@@ -9,9 +9,10 @@ use Rattle.ots_eval.specs.declared.verdicts.Chain.TheVariants as chain
 use Rattle.ots_eval.specs.declared.verdicts.Verdict.{Verdict}
 use Rattle.ots_eval.specs.declared.verdicts.Verdict.TheVariants.{Yes, NoDigest, NoPath}
 use Rattle.ots_cli.specs.declared.status.Status.{Status}
-use Rattle.ots_cli.specs.declared.status.Status.TheVariants.{Done, No, Usage, BadProof, NoFile, Exists, ReadFault, WriteFault, TooBig, BadHeaders, FileTooLong, Differs, OutOfMemory}
+use Rattle.ots_cli.specs.declared.status.Status.TheVariants.{Done, No, Usage, BadProof, NoFile, Exists, ReadFault, WriteFault, TooBig, BadHeaders, FileTooLong, BadAddress, Differs, OutOfMemory}
 use Rattle.ots_cli.specs.Ending.{Ending}
-use Rattle.ots_cli.specs.Answer.{Answers, Comes, HasPerhapsTable, PrintsVerdict, Verifies, VerifiesBy, VerifiesProof, VerifiesTarget, WithPerhapsTable}
+use Rattle.ots_cli.specs.Asking.{Outside}
+use Rattle.ots_cli.specs.Answer.{Answers, AnswersAs, Comes, HasPerhapsTable, PrintsVerdict, Verifies, VerifiesBy, VerifiesProof, VerifiesTarget, WithPerhapsTable}
 use Rattle.ots_cli.specs.CarriedOut.{Ends}
 use Rattle.ots_cli.proofs.Outcome.{only_prints, outcome}
 use Rattle.ots_cli.specs.Text.{verdict_status}
@@ -64,20 +65,21 @@ exactly says NoFile to from = λ h. absurd (let clash = from h in cc)
 exactly says Exists to from = λ h. absurd (let clash = from h in cc)
 exactly says TooBig to from = λ h. absurd (let clash = from h in cc)
 exactly says (BadHeaders n) to from = λ h. absurd (let clash = from h in cc)
+exactly says (BadAddress place https) to from = λ h. absurd (let clash = from h in cc)
 exactly says FileTooLong to from = λ h. absurd (let clash = from h in cc)
 exactly says (Differs h d k e) to from = λ g. absurd (let clash = from g in cc)
 
-pub done_exactly : (names : Names) (v : Verification) (b : Table) (l : Option Table) (p : Detached) (target : List ℕ) → HasFiles names v b l p target
+pub done_exactly : (happens : Outside → Type 0) (names : Names) (v : Verification) (b : Table) (l : Option Table) (p : Detached) (target : List ℕ) → HasFiles names v b l p target
     → (old new : Option Names) (command : Option Command) (stops_at : List ℕ → Type 0) (writing lost : Type 0) (taken now : Option (List ℕ)) (s : Status)
-    → old ≡ Some names → command ≡ Some (verify v) → Ends (Comes (Answers old command) stops_at) writing lost old new taken now s
+    → old ≡ Some names → command ≡ Some (verify v) → Ends (Comes (AnswersAs happens old command) stops_at) writing lost old new taken now s
     → IsDoneExactlyWhere (SaysYes p target b l) s
-done_exactly names v b l p target has old new command stops_at writing lost taken now s told asks h = elim (outcome _ _ _ _ _ _ _ _ s h) [
+done_exactly happens names v b l p target has old new command stops_at writing lost taken now s told asks h = elim (outcome _ _ _ _ _ _ _ _ s h) [
   | inr (inl is) ↦ subst (IsDoneExactlyWhere (SaysYes p target b l)) (sym is) tt
   | inr (inr (inl is)) ↦ subst (IsDoneExactlyWhere (SaysYes p target b l)) (sym is) tt
   | inr (inr (inr is)) ↦ subst (IsDoneExactlyWhere (SaysYes p target b l)) (sym is) tt
-  | inl (e, a, may) ↦
+  | inl (e, (o, heard, a), may) ↦
       let verdict = prints_verdict names v b l p target e has
-      (subst (λ (z : Option Command). Answers (Some names) z e) asks (subst (λ (z : Option Names). Answers z command e) told a)) in
+      (subst (λ (z : Option Command). Answers o (Some names) z e) asks (subst (λ (z : Option Names). Answers o z command e) told a)) in
       let is = only_prints e s (verdict_status verdict.0) _ verdict.2 may in
       exactly (SaysYes p target b l) s (λ done. yes_says p target b l verdict.0 verdict.1 (sym is ∙ done)) (λ says. is ∙ says_yes p target b l verdict.0 verdict.1 says)
 ]

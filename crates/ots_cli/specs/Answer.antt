@@ -1,5 +1,14 @@
 -- What a command answers: how it ends, by what is under the names that it reads.
-use Rattle.std.specs.Prelude.{◌≡◌, ◌<◌, ℕ, List, [], ◌∷◌, length, Option, Some, None}
+use Rattle.std.specs.Prelude.{◌≡◌, ◌<◌, ◌↔◌, ℕ, Bool, IsTrue, List, [], ◌∷◌, length, Option, Some, None}
+use Rattle.ots_address.specs.Address.{AddressParts}
+use Rattle.ots_address.specs.AddressList.{IsBadAddress, IsListOf}
+use Rattle.ots_pending.specs.Bitcoin.{HasBitcoin}
+use Rattle.ots_pending.specs.Completed.{IsCompleted}
+use Rattle.ots_pending.specs.Pairs.{ArePairs, PairAt}
+use Rattle.ots_upgrade.specs.declared.asking.AskedAt.{AskedAt}
+use Rattle.ots_upgrade.specs.Upgrading.{AreAsked, outcomes, questions, trees_of}
+use Rattle.ots_cli.specs.Asking.{Outside}
+use Rattle.ots_cli.specs.Text.{asked_text, complete_status, complete_text}
 use Rattle.ots_base.specs.declared.limits.TheConstants.{MAX_PROOF_FILE}
 use Rattle.ots_outside.specs.Shelf.{Names}
 use Rattle.ots_tree.specs.declared.detached.Detached.{Detached}
@@ -12,15 +21,16 @@ use Rattle.ots_eval.specs.declared.verdicts.Verdict.{Verdict}
 use Rattle.ots_cli.specs.declared.inputs.Inputs.{Inputs}
 use Rattle.ots_cli.specs.declared.inputs.Inputs.TheVariants as inputs
 use Rattle.ots_cli.specs.declared.status.Status.{Status}
-use Rattle.ots_cli.specs.declared.status.Status.TheVariants.{Done, Usage, NoFile, ReadFault, WriteFault, TooBig, Differs, OutOfMemory}
-use Rattle.ots_cli.specs.Ending.{Ending, makes, printing, refused}
+use Rattle.ots_cli.specs.declared.status.Status.TheVariants.{Done, Usage, NoFile, ReadFault, WriteFault, TooBig, BadAddress, Differs, OutOfMemory}
+use Rattle.ots_cli.specs.Ending.{Ending, makes, printing, prints, refused}
+use Rattle.ots_cli.specs.Refusal.{refusal_text}
 use Rattle.ots_cli.specs.Found.{IsUnder, HasUnder, IsHashOf, RefusesProof, RefusesTable, RefusesTarget}
 use Rattle.ots_info.specs.Listing.{IsInfoText}
 use Rattle.ots_cli.specs.Text.{verdict_status, verdict_text}
 use Rattle.ots_canon.specs.Join.{HaveOnePair, IsMergeOf}
 use Rattle.ots_cli.specs.Rewritten.{IsRewritten}
 use Rattle.ots_cli.specs.declared.rewriting.Rewriting.TheVariants.{Canon, Prune}
-use Rattle.ots_words.specs.Words.{Command, HeaderFile, Verification, info, canon, merge, prune, verify}
+use Rattle.ots_words.specs.Words.{Command, HeaderFile, Upgrading, Verification, info, canon, merge, prune, verify, upgrade}
 
 -- ---- where nothing of the outside fails
 
@@ -99,22 +109,68 @@ VerifiesBy told v bitcoin = WithPerhapsTable told v.litecoin (VerifiesProof told
 abbrev pub Verifies : Option Names → Verification → Ending → Type 0
 Verifies told v = WithTable told v.bitcoin (VerifiesBy told v)
 
--- Words of no command's form are refused.
-abbrev pub Answers : Option Names → Option Command → Ending → Type 0
-Answers told None e = e ≡ refused [] Usage
-Answers told (Some (info proof)) e = WithProof told proof PrintsInfo e
-Answers told (Some (canon from to)) e = WithProof told from (λ p. WritesOf to (IsRewritten Canon p)) e
-Answers told (Some (merge first second to)) e = WithProof told first (λ p. WithProof told second (Merges to p)) e
-Answers told (Some (prune from to)) e = WithProof told from (λ p. WritesOf to (IsRewritten Prune p)) e
-Answers told (Some (verify v)) e = Verifies told v e
+-- A list of calendar addresses is read: the command goes on with them; or ends at the first that is none.
+pub data WithList (list : List ℕ) (goes_on : List AddressParts → Ending → Type 0) (e : Ending) : Type 0 where
+  is_list : (calendars : List AddressParts) → IsListOf list calendars → goes_on calendars e → WithList list goes_on e
+  is_bad : (place : ℕ) (https : Bool) → IsBadAddress list place https → e ≡ refused [] (BadAddress place https) → WithList list goes_on e
+
+-- What was asked is printed. Then the proof is written, unless it is too long for a file, and it is told whether some path
+-- of it ends in Bitcoin.
+pub data WritesAsked (asked : List AskedAt) (to : List ℕ) (proof : Detached) (e : Ending) : Type 0 where
+  asked_too_long : MAX_PROOF_FILE < length (file_of proof)
+      → e ≡ record { status = TooBig; acts = prints (asked_text asked) ∷ prints (refusal_text to TooBig) ∷ [] } → WritesAsked asked to proof e
+  asked_made : (complete : Bool) → IsTrue complete ↔ HasBitcoin proof.tree → IsFileOf (file_of proof) proof
+      → e ≡ record { status = complete_status complete; acts = prints (asked_text asked) ∷ makes to (file_of proof) ∷ prints (complete_text complete) ∷ [] }
+      → WritesAsked asked to proof e
+
+-- The second proof is what calendars made of the first: for each pair of its pending paths one was asked where an address
+-- has the URI as its text, and what they answered completes it.
+pub record IsUpgradeOf (o : Outside) (calendars : List AddressParts) (p : Detached) (asked : List AskedAt) (r : Detached) : Type 0 where
+  pub pairs : List PairAt
+  pub are : ArePairs p pairs
+  pub are_asked : AreAsked calendars pairs asked
+  pub questions_are : o.questions ≡ questions calendars pairs
+  pub outcomes_are : o.outcomes ≡ outcomes asked
+  pub hash : r.hash ≡ p.hash
+  pub digest : r.digest ≡ p.digest
+  pub tree : IsCompleted p pairs (trees_of asked) r.tree
+
+-- Calendars are asked to complete a proof, and that is written.
+abbrev pub Completes : Outside → List AddressParts → Detached → List ℕ → Ending → Type 0
+Completes o calendars p to e = (asked : List AskedAt) × (r : Detached) × IsUpgradeOf o calendars p asked r × WritesAsked asked to r e
+
+-- The list of calendars is read, and then the proof.
+abbrev pub Upgrades : Outside → Option Names → Upgrading → Ending → Type 0
+Upgrades o told u e = WithList u.calendars (λ calendars. WithProof told u.proof (λ p. Completes o calendars p u.to)) e
+
+-- Words of no command's form are refused. What an ending rests on besides the names is what happens outside.
+abbrev pub Answers : Outside → Option Names → Option Command → Ending → Type 0
+Answers o told None e = e ≡ refused [] Usage
+Answers o told (Some (info proof)) e = WithProof told proof PrintsInfo e
+Answers o told (Some (canon from to)) e = WithProof told from (λ p. WritesOf to (IsRewritten Canon p)) e
+Answers o told (Some (merge first second to)) e = WithProof told first (λ p. WithProof told second (Merges to p)) e
+Answers o told (Some (prune from to)) e = WithProof told from (λ p. WritesOf to (IsRewritten Prune p)) e
+Answers o told (Some (verify v)) e = Verifies told v e
+Answers o told (Some (upgrade u)) e = Upgrades o told u e
+
+-- The same, where it happened so outside.
+abbrev pub AnswersAs : (Outside → Type 0) → Option Names → Option Command → Ending → Type 0
+AnswersAs happens told c e = (o : Outside) × happens o × Answers o told c e
 
 -- ---- what is decided of inputs
 
-abbrev pub Decides : Inputs → Ending → Type 0
-Decides (inputs.Info proof) e = PrintsInfo proof e
-Decides (inputs.Rewrite way proof to) e = WritesOf to.now (IsRewritten way proof) e
-Decides (inputs.Merge first second to) e = Merges to.now first second e
-Decides (inputs.Verify v) e = PrintsVerdict v.proof v.bitcoin v.litecoin v.digest e
+abbrev pub Decides : Outside → Inputs → Ending → Type 0
+Decides o (inputs.Info proof) e = PrintsInfo proof e
+Decides o (inputs.Rewrite way proof to) e = WritesOf to.now (IsRewritten way proof) e
+Decides o (inputs.Merge first second to) e = Merges to.now first second e
+Decides o (inputs.Verify v) e = PrintsVerdict v.proof v.bitcoin v.litecoin v.digest e
+Decides o (inputs.Upgrade calendars proof to) e = Completes o calendars.items proof to.now e
+
+abbrev pub CompletesAs : (Outside → Type 0) → List AddressParts → Detached → List ℕ → Ending → Type 0
+CompletesAs happens calendars p to e = (o : Outside) × happens o × Completes o calendars p to e
+
+abbrev pub DecidesAs : (Outside → Type 0) → Inputs → Ending → Type 0
+DecidesAs happens inputs e = (o : Outside) × happens o × Decides o inputs e
 
 -- ---- with what may fail
 

@@ -14,6 +14,7 @@ use Rattle.ots_cli.specs.declared.status.Status.TheVariants.{Exists, OutOfMemory
 use Rattle.ots_cli.specs.declared.ending.Ending.{Ending as Decided}
 use Rattle.ots_words.specs.Words.{Command}
 use Rattle.ots_cli.specs.Answer.{Answers, UnlessFailed}
+use Rattle.ots_cli.specs.Asking.{alone}
 use Rattle.ots_cli.specs.Decided.{IsEndingOf}
 use Rattle.ots_cli.specs.Ending.{Act, Ending, prints, makes}
 use Rattle.ots_cli.specs.Found.{IsThere, IsUnder}
@@ -57,9 +58,9 @@ status_over names status (prints text ∷ acts) = status_over names status acts
 status_over names status (makes name bytes ∷ acts) =
     if is_some (map.get names name) then Exists else status_over (map.insert names name bytes) status acts
 
--- Where nothing fails, the status is the one that the answer to this command has over these names.
+-- Where nothing fails, the status is the one that the answer to this command has over these names, where nobody is asked.
 abbrev pub EndsExactly : Names → Option Command → Status → Type 0
-EndsExactly names c r = (e : Ending) → Answers (Some names) c e → UnlessFailed (status_over names e.status e.acts) r
+EndsExactly names c r = (e : Ending) → Answers alone (Some names) c e → UnlessFailed (status_over names e.status e.acts) r
 
 -- What stays of a sink that was printed on: it is the same, and its count of faults has not fallen.
 pub record SinkStays {K : Type 0} (faults : K → ℕ) (keeps : K → K → Type 0) (old new : K) : Type 0 where
@@ -90,16 +91,26 @@ pub record MakesFile (name file : List ℕ) (old new : ShelfTold) (before now : 
   pub cause : HasCauseWhere (IsErrOf r output.WriteFault) before.writing now.writing
   pub counts : OnlyWriting before now
 
--- A file was made under a name, which ends a run with the status `done`; or it is told why not. All that is told of the
--- shelf but its names stays.
-pub record Makes (done : Status) (name bytes : List ℕ) (old new : ShelfTold) (before now : ShelfFaults) (printing : Type 0) (taken taken_now : Option (List ℕ))
+-- Acts were carried out, with which a run ends that has this status where all of them are. All that is told of the shelf but
+-- its names stays.
+pub record Carries (status : Status) (acts : List Act) (old new : ShelfTold) (before now : ShelfFaults) (printing : Type 0) (taken taken_now : Option (List ℕ))
     (r : Status) : Type 0 where
-  pub out : CarriesOut (Rose before.writing now.writing) printing done (makes name bytes ∷ []) old.names new.names taken taken_now r
+  pub out : CarriesOut (Rose before.writing now.writing) printing status acts old.names new.names taken taken_now r
   pub opened : new.opened ≡ old.opened
   pub slots : (k : ℕ) → new.slots k ≡ old.slots k
   pub short : r ≢ OutOfMemory → new.short ≡ old.short
   pub counts : OnlyWriting before now
   pub later : before.writing ≤ now.writing
+
+-- A file was made under a name, which ends a run with the status `done`; or it is told why not.
+abbrev pub Makes : Status → List ℕ → List ℕ → ShelfTold → ShelfTold → ShelfFaults → ShelfFaults → Type 0 → Option (List ℕ) → Option (List ℕ) → Status → Type 0
+Makes done name bytes = Carries done (makes name bytes ∷ [])
+
+-- A text is printed, and then another, with which a run ends that has this status.
+abbrev pub PrintsBoth : Type 0 → Status → List ℕ → List ℕ → Option (List ℕ) → Option (List ℕ) → Status → Type 0
+PrintsBoth printing status first last taken now r =
+    ((mid : Option (List ℕ)) × Takes taken mid first × PrintsLast printing status last mid now r)
+    ⊎ (printing × TakesFront taken now first × (r ≡ WriteFault))
 
 -- An ending was carried out: it is of these acts, and all that is told of the shelf but its names stays.
 pub record CarriesOutEnding (d : Decided) (old new : ShelfTold) (before now : ShelfFaults) (printing : Type 0) (taken taken_now : Option (List ℕ))

@@ -20,7 +20,7 @@ use Rattle.ots_bitcoin.specs.declared.headers.HeadersError.TheVariants as header
 use Rattle.ots_cli.specs.declared.status.Status.{Status}
 use Rattle.ots_cli.specs.declared.status.Status.TheVariants as status
 use Rattle.ots_cli.specs.declared.input.InputError.{InputError}
-use Rattle.ots_cli.specs.declared.input.InputError.TheVariants.{NoFile, ReadFault, TooBig, BadProof, BadHeaders, FileTooLong, OutOfMemory}
+use Rattle.ots_cli.specs.declared.input.InputError.TheVariants.{NoFile, ReadFault, TooBig, BadProof, BadHeaders, FileTooLong, BadAddress, OutOfMemory}
 
 -- What is under the name: nothing, or these bytes, as the names say that the shelf tells. Of a shelf
 -- that tells none, as of real files, nothing is said.
@@ -63,6 +63,7 @@ IsRefusal told name Refuses OutOfMemory = Unit {0}
 IsRefusal told name Refuses TooBig = HasUnder told name (λ bytes. Refuses bytes status.TooBig)
 IsRefusal told name Refuses (BadProof f) = HasUnder told name (λ bytes. Refuses bytes (status.BadProof f))
 IsRefusal told name Refuses (BadHeaders n) = HasUnder told name (λ bytes. Refuses bytes (status.BadHeaders n))
+IsRefusal told name Refuses (BadAddress place https) = ⊥
 IsRefusal told name Refuses FileTooLong = HasUnder told name (λ bytes. Refuses bytes status.FileTooLong)
 
 -- What was read is what the name's input gives; each refusal is that of its input.
@@ -98,4 +99,5 @@ status_of TooBig = Some status.TooBig
 status_of (BadProof f) = Some (status.BadProof f)
 status_of (BadHeaders n) = Some (status.BadHeaders n)
 status_of FileTooLong = Some status.FileTooLong
+status_of (BadAddress place https) = Some (status.BadAddress place https)
 status_of OutOfMemory = None

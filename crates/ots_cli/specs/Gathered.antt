@@ -1,9 +1,17 @@
 -- What reading names does to a shelf, and what it gives.
 use Rattle.std.specs.Prelude.{◌≡◌, ℕ, List, [], ◌∷◌, Option, Result, Ok, Err, IfOk, IfErr, IsErrOf}
+use Rattle.ots_address.specs.Address.{AddressParts}
+use Rattle.ots_address.specs.AddressList.{IsBadAddress, IsListOf}
+use Rattle.ots_outside.specs.Dialer.{DialerTold}
 use Rattle.ots_outside.specs.Shelf.{Names, NeverFalls, ShelfFaults, ShelfTold}
+use Rattle.ots_detached.specs.File.{IsFileOf}
+use Rattle.ots_upgrade.specs.Upgrading.{UpgradesUpTo}
+use Rattle.ots_words.specs.Words.{Command, Upgrading, info, canon, merge, prune, verify, upgrade}
+use Rattle.ots_cli.specs.declared.inputs.Inputs.{Inputs}
+use Rattle.ots_cli.specs.declared.inputs.Inputs.TheVariants as inputs
 use Rattle.ots_cli.specs.declared.ending.Ending.{Ending as Decided}
 use Rattle.ots_cli.specs.declared.input.InputError.{InputError}
-use Rattle.ots_cli.specs.declared.input.InputError.TheVariants.{NoFile, ReadFault, TooBig, BadProof, BadHeaders, FileTooLong, OutOfMemory}
+use Rattle.ots_cli.specs.declared.input.InputError.TheVariants.{NoFile, ReadFault, TooBig, BadProof, BadHeaders, FileTooLong, BadAddress, OutOfMemory}
 use Rattle.ots_cli.specs.declared.input.Stop.{Stop}
 use Rattle.ots_cli.specs.declared.status.Status.{Status}
 use Rattle.ots_cli.specs.declared.status.Status.TheVariants as status
@@ -23,6 +31,7 @@ StopsFor refuses stops_at name NoFile = refuses (refused name status.NoFile)
 StopsFor refuses stops_at name TooBig = refuses (refused name status.TooBig)
 StopsFor refuses stops_at name (BadProof f) = refuses (refused name (status.BadProof f))
 StopsFor refuses stops_at name (BadHeaders n) = refuses (refused name (status.BadHeaders n))
+StopsFor refuses stops_at name (BadAddress place https) = refuses (refused name (status.BadAddress place https))
 StopsFor refuses stops_at name FileTooLong = refuses (refused name status.FileTooLong)
 
 -- Reading stopped because memory ran out.
@@ -43,6 +52,17 @@ pub record Reads {A : Type 0} (reads : List (List ℕ)) (gives : Option Names �
   pub short : ¬ RanOut r → new.short ≡ old.short
   pub later : NeverFalls before now
   pub writing : now.writing ≡ before.writing
+
+-- The list has a first piece that is no address; or memory ran out.
+abbrev pub IfBadList : List ℕ → List ℕ → InputError → Type 0
+IfBadList list name (BadAddress place https) = IsBadAddress list place https × (name ≡ [])
+IfBadList list name OutOfMemory = Unit {0}
+IfBadList list name other = ⊥
+
+-- A list of calendar addresses was read; or reading stops at the first that is none, or for want of memory.
+abbrev pub ReadsList : List ℕ → Result (List AddressParts) Stop → Type 0
+ReadsList list (Ok calendars) = IsListOf list calendars
+ReadsList list (Err stop) = IfBadList list stop.name.now stop.cause
 
 -- One name was read: what its bytes give, or why they are refused.
 abbrev pub ReadsName : {A : Type 0} → (List ℕ → A → Type 0) → (List ℕ → Status → Type 0) → List ℕ → ShelfTold → ShelfTold → ShelfFaults → ShelfFaults
@@ -72,3 +92,38 @@ pub record ComesToEnd (answers : Option Names → Ending → Type 0) (reads : Li
   pub short : IfOk r (λ d. new.short ≡ old.short)
   pub later : NeverFalls before now
   pub writing : now.writing ≡ before.writing
+
+-- ---- asking
+
+-- What is asked of inputs: nothing, or some of what a proof asks for.
+abbrev pub AsksFor : {D : Type 0} → (D → DialerTold) → (D → ℕ) → Inputs → D → D → Type 0
+AsksFor told faults (inputs.Info proof) old new = new ≡ old
+AsksFor told faults (inputs.Rewrite way proof to) old new = new ≡ old
+AsksFor told faults (inputs.Merge first second to) old new = new ≡ old
+AsksFor told faults (inputs.Verify v) old new = new ≡ old
+AsksFor told faults (inputs.Upgrade calendars proof to) old new = UpgradesUpTo told faults calendars.items proof old new
+
+-- Nobody is to be asked.
+abbrev pub AreOffline : Inputs → Type 0
+AreOffline (inputs.Info proof) = Unit {0}
+AreOffline (inputs.Rewrite way proof to) = Unit {0}
+AreOffline (inputs.Merge first second to) = Unit {0}
+AreOffline (inputs.Verify v) = Unit {0}
+AreOffline (inputs.Upgrade calendars proof to) = ⊥
+
+-- The calendars of the list are to be asked for the proof under the name.
+abbrev pub SuitsUpgrade : Option Names → Upgrading → Inputs → Type 0
+SuitsUpgrade told u (inputs.Info proof) = ⊥
+SuitsUpgrade told u (inputs.Rewrite way proof to) = ⊥
+SuitsUpgrade told u (inputs.Merge first second to) = ⊥
+SuitsUpgrade told u (inputs.Verify v) = ⊥
+SuitsUpgrade told u (inputs.Upgrade calendars proof to) = IsListOf u.calendars calendars.items × HasUnder told u.proof (λ bytes. IsFileOf bytes proof)
+
+-- whom these inputs of a command are for
+abbrev pub Suits : Option Names → Command → Inputs → Type 0
+Suits told (info proof) i = AreOffline i
+Suits told (canon from to) i = AreOffline i
+Suits told (merge first second to) i = AreOffline i
+Suits told (prune from to) i = AreOffline i
+Suits told (verify v) i = AreOffline i
+Suits told (upgrade u) i = SuitsUpgrade told u i

@@ -8,6 +8,7 @@ pub mod Rewritten
 pub mod Ending
 pub mod Decided
 pub mod Answer
+pub mod Asking
 pub mod Yes
 pub mod Taken
 pub mod CarriedOut

@@ -1,5 +1,12 @@
--- What is written reads back: under the output of a command that is done stands a proof file, that of the command's result.
-use Rattle.std.specs.Prelude.{◌≡◌, ℕ, List, Option, Some, None, IsSome}
+-- What is written reads back: under the output of a command that did its work stands a proof file, that of the command's result.
+use Rattle.std.specs.Prelude.{◌≡◌, ◌⊎◌, ℕ, List, Option, Some, None, IsSome}
+use Rattle.ots_address.specs.Address.{AddressParts}
+use Rattle.ots_address.specs.AddressList.{IsListOf}
+use Rattle.ots_upgrade.specs.declared.asking.AskedAt.{AskedAt}
+use Rattle.ots_cli.specs.Answer.{IsUpgradeOf}
+use Rattle.ots_cli.specs.Asking.{Outside}
+use Rattle.ots_cli.specs.declared.status.Status.{Status}
+use Rattle.ots_cli.specs.declared.status.Status.TheVariants.{Done, No}
 use Rattle.std.specs.FinMap as map
 use Rattle.ots_outside.specs.Shelf.{Names}
 use Rattle.ots_tree.specs.declared.detached.Detached.{Detached}
@@ -8,33 +15,41 @@ use Rattle.ots_canon.specs.Join.{IsMergeOf}
 use Rattle.ots_cli.specs.Found.{HasUnder}
 use Rattle.ots_cli.specs.Rewritten.{IsRewritten}
 use Rattle.ots_cli.specs.declared.rewriting.Rewriting.TheVariants.{Canon, Prune}
-use Rattle.ots_words.specs.Words.{Command, info, canon, merge, prune, verify}
+use Rattle.ots_words.specs.Words.{Command, info, canon, merge, prune, verify, upgrade}
 
--- the name that a command writes
-abbrev pub output_of : Command → Option (List ℕ)
-output_of (info proof) = None
-output_of (canon from to) = Some to
-output_of (merge first second to) = Some to
-output_of (prune from to) = Some to
-output_of (verify v) = None
+-- the names that a command writes
+abbrev pub IsOutput : Command → List ℕ → Type 0
+IsOutput (info proof) name = ⊥
+IsOutput (canon from to) name = to ≡ name
+IsOutput (merge first second to) name = to ≡ name
+IsOutput (prune from to) name = to ≡ name
+IsOutput (verify v) name = ⊥
+IsOutput (upgrade u) name = u.to ≡ name
 
-abbrev pub output_asked : Option Command → Option (List ℕ)
-output_asked None = None
-output_asked (Some c) = output_of c
+abbrev pub IsOutputAsked : Option Command → List ℕ → Type 0
+IsOutputAsked None name = ⊥
+IsOutputAsked (Some c) name = IsOutput c name
 
--- Each name holds what it held, but for this one where it is the output and was not there.
-abbrev pub Leaves : Names → Option (List ℕ) → Option Names → Type 0
-Leaves names out new =
-    (after : Names) × (new ≡ Some after) × ((name : List ℕ) → (out ≡ Some name → IsSome (map.get names name)) → map.get after name ≡ map.get names name)
+-- Each name holds what it held, but for the outputs that were not there.
+abbrev pub Leaves : Names → (List ℕ → Type 0) → Option Names → Type 0
+Leaves names is_output new =
+    (after : Names) × (new ≡ Some after) × ((name : List ℕ) → (is_output name → IsSome (map.get names name)) → map.get after name ≡ map.get names name)
 
 -- what a command makes of the proofs under the names that it reads
-abbrev pub IsResultOf : Names → Command → Detached → Type 0
-IsResultOf names (info proof) r = ⊥
-IsResultOf names (canon from to) r = HasUnder (Some names) from (λ bytes. (p : Detached) × IsFileOf bytes p × IsRewritten Canon p r)
-IsResultOf names (merge first second to) r = HasUnder (Some names) first (λ b. (p : Detached) × IsFileOf b p
+abbrev pub IsResultOf : Outside → Names → Command → Detached → Type 0
+IsResultOf o names (info proof) r = ⊥
+IsResultOf o names (canon from to) r = HasUnder (Some names) from (λ bytes. (p : Detached) × IsFileOf bytes p × IsRewritten Canon p r)
+IsResultOf o names (merge first second to) r = HasUnder (Some names) first (λ b. (p : Detached) × IsFileOf b p
     × HasUnder (Some names) second (λ c. (q : Detached) × IsFileOf c q × IsMergeOf p q r))
-IsResultOf names (prune from to) r = HasUnder (Some names) from (λ bytes. (p : Detached) × IsFileOf bytes p × IsRewritten Prune p r)
-IsResultOf names (verify v) r = ⊥
+IsResultOf o names (prune from to) r = HasUnder (Some names) from (λ bytes. (p : Detached) × IsFileOf bytes p × IsRewritten Prune p r)
+IsResultOf o names (verify v) r = ⊥
+IsResultOf o names (upgrade u) r = HasUnder (Some names) u.proof (λ bytes. (p : Detached) × IsFileOf bytes p
+    × (calendars : List AddressParts) × IsListOf u.calendars calendars × (asked : List AskedAt) × IsUpgradeOf o calendars p asked r)
 
-abbrev pub ReadsBack : Names → Command → List ℕ → Option Names → Type 0
-ReadsBack names c to new = (bytes : List ℕ) × (r : Detached) × (new ≡ Some (map.insert names to bytes)) × IsFileOf bytes r × IsResultOf names c r
+-- The command did its work, or has a result without a Bitcoin path.
+abbrev pub IsDoneOrNo : Status → Type 0
+IsDoneOrNo s = (s ≡ Done) ⊎ (s ≡ No)
+
+abbrev pub ReadsBack : (Outside → Type 0) → Names → Command → List ℕ → Option Names → Type 0
+ReadsBack happens names c to new =
+    (o : Outside) × happens o × (bytes : List ℕ) × (r : Detached) × (new ≡ Some (map.insert names to bytes)) × IsFileOf bytes r × IsResultOf o names c r

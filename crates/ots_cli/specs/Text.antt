@@ -1,5 +1,8 @@
--- The line of a verdict, and the status that comes with it.
-use Rattle.std.specs.Prelude.{ℕ, List, ◌++◌, codes, decimal}
+-- The line of a verdict, and what is printed of an upgraded proof; and the status that comes with each.
+use Rattle.std.specs.Prelude.{ℕ, Bool, true, false, List, ◌++◌, codes, decimal}
+use Rattle.std.specs.List.{flat_map}
+use Rattle.ots_lines.specs.Lines.{asked_line}
+use Rattle.ots_upgrade.specs.declared.asking.AskedAt.{AskedAt}
 use Rattle.ots_eval.specs.declared.verdicts.Chain.{Chain}
 use Rattle.ots_eval.specs.declared.verdicts.Chain.TheVariants as chain
 use Rattle.ots_eval.specs.declared.verdicts.Verdict.{Verdict}
@@ -21,3 +24,16 @@ abbrev pub verdict_status : Verdict → Status
 verdict_status (Yes c height time) = Done
 verdict_status NoDigest = No
 verdict_status NoPath = No
+
+-- a line for each pair that a proof asks for
+abbrev pub asked_text : List AskedAt → List ℕ
+asked_text asked = flat_map asked_line asked
+
+-- whether some path of it ends in Bitcoin
+abbrev pub complete_text : Bool → List ℕ
+complete_text true = line (codes "complete")
+complete_text false = line (codes "pending")
+
+abbrev pub complete_status : Bool → Status
+complete_status true = Done
+complete_status false = No

@@ -1,7 +1,11 @@
 //! The second step of a run: what the inputs of a command mean. Nothing is opened, made or printed
-//! here.
-ghost use Rattle.std.specs.Prelude.{◌≡◌, IfOk};
-ghost use Rattle.ots_cli.specs.Answer.{Decides, Merges, PrintsVerdict, Writes};
+//! here; calendars are asked, where a command is to ask them.
+ghost use Rattle.std.specs.Prelude.{◌≡◌, ◌<◌, ◌↔◌, IsTrue, length, IfOk};
+ghost use Rattle.ots_detached.specs.File.{file_of};
+ghost use Rattle.ots_cli.specs.Answer.{CompletesAs, DecidesAs, Merges, PrintsVerdict, Writes, WritesAsked};
+ghost use Rattle.ots_cli.specs.Asking.{Heard};
+ghost use Rattle.ots_cli.specs.Gathered.{AsksFor};
+ghost use Rattle.ots_upgrade.specs.Upgrading.{UpgradesUpTo};
 ghost use Rattle.ots_cli.specs.Decided.{EndsAs};
 ghost use Rattle.ots_cli.specs.declared.status.Status.TheVariants.{Differs};
 
@@ -9,17 +13,26 @@ use crate::ending::{Acts, Ending, Text};
 use crate::inputs::{Evidence, Inputs};
 use crate::rewriting::rewritten;
 use crate::status::Status;
-use crate::text::verdict_status;
+use crate::text::{complete_status, verdict_status};
+use ots_address::Address;
 use ots_base::{MAX_PROOF_FILE, OutOfMemory};
 use ots_canon::MergeError;
 use ots_detached::{file_length, written_file};
 use ots_eval::verdict;
+use ots_outside::Dialer;
+use ots_pending::has_bitcoin;
 use ots_tree::Detached;
+use ots_upgrade::{AskedList, Upgraded, upgrade_with};
 use std::alloc::Global;
 
 /// How the command ends that has these inputs.
-pub fn decide(alloc: Global, inputs: Inputs<'_>) -> Result<Ending<'_>, OutOfMemory>
-    ensures { IfOk result (EndsAs (Decides inputs.entry)) }
+pub fn decide<'a, D: Dialer>(
+    alloc: Global,
+    inputs: Inputs<'a>,
+    dialer: &mut D,
+) -> Result<Ending<'a>, OutOfMemory>
+    ensures decided { IfOk result (EndsAs (DecidesAs (Heard D.told D.faults dialer.old dialer.new) inputs.entry)) }
+    ensures asks { AsksFor D.told D.faults inputs.entry dialer.old dialer.new }
 {
     match inputs {
         Inputs::Info(proof) => Ok(Ending {
@@ -32,6 +45,7 @@ pub fn decide(alloc: Global, inputs: Inputs<'_>) -> Result<Ending<'_>, OutOfMemo
         }
         Inputs::Merge(first, second, to) => merged(alloc, &first, &second, to),
         Inputs::Verify(evidence) => judged(alloc, &evidence),
+        Inputs::Upgrade(calendars, proof, to) => upgraded(alloc, &calendars, &proof, to, dialer),
     }
 }
 
@@ -40,13 +54,20 @@ fn written(to: &str, proof: Detached) -> Ending<'_>
     ensures { EndsAs (Writes to.entry.now proof) result }
 {
     written_file(&proof);
-    if file_length(&proof) > MAX_PROOF_FILE as u64 {
+    if is_too_long(&proof) {
         return Ending::refused(to, Status::TooBig);
     }
     Ending {
         status: Status::Done,
         acts: Acts::Make(to, proof),
     }
+}
+
+/// Whether a proof has more bytes than a proof file may have.
+fn is_too_long(proof: &Detached) -> bool
+    ensures { IsTrue result ↔ MAX_PROOF_FILE < length (file_of proof.now) }
+{
+    file_length(proof) > MAX_PROOF_FILE as u64
 }
 
 /// The proofs are joined, and that is written; or it is told that they are of different digests.
@@ -92,4 +113,41 @@ fn judged<'a>(alloc: Global, on: &Evidence) -> Result<Ending<'a>, OutOfMemory>
         status: verdict_status(verdict),
         acts: Acts::Print(Text::Verdict(verdict)),
     })
+}
+
+/// Calendars are asked to complete a proof, and that is written behind a line for each pair that it
+/// asks for.
+fn upgraded<'a, D: Dialer>(
+    alloc: Global,
+    calendars: &[Address],
+    proof: &Detached,
+    to: &'a str,
+    dialer: &mut D,
+) -> Result<Ending<'a>, OutOfMemory>
+    ensures decided { IfOk result (EndsAs (CompletesAs (Heard D.told D.faults dialer.old dialer.new) calendars.now proof.now to.entry.now)) }
+    ensures asks { UpgradesUpTo D.told D.faults calendars.now proof.now dialer.old dialer.new }
+{
+    let upgraded = upgrade_with(alloc, dialer, calendars, proof)?;
+    let Upgraded { proof, asked } = upgraded;
+    Ok(completed(asked, proof, to))
+}
+
+/// The file of a proof that calendars were asked to complete is made, unless it would be too long for
+/// a proof file.
+fn completed(asked: AskedList, proof: Detached, to: &str) -> Ending<'_>
+    ensures { EndsAs (WritesAsked asked to.entry.now proof) result }
+{
+    written_file(&proof);
+    let asked = Text::Asked(asked);
+    if is_too_long(&proof) {
+        return Ending {
+            status: Status::TooBig,
+            acts: Acts::RefuseBehind(asked, to),
+        };
+    }
+    let complete = has_bitcoin(&proof.tree);
+    Ending {
+        status: complete_status(complete),
+        acts: Acts::MakeBehind(asked, to, proof, complete),
+    }
 }

@@ -5,6 +5,7 @@ ghost use Rattle.ots_cli.specs.Ending.{refused};
 use crate::status::Status;
 use ots_eval::Verdict;
 use ots_tree::Detached;
+use ots_upgrade::AskedList;
 
 /// How a command ends, and what is done before.
 #[derive(Drop)]
@@ -20,6 +21,11 @@ pub enum Acts<'a> {
     Print(Text<'a>),
     /// The file of a proof is made under a name.
     Make(&'a str, Detached),
+    /// A text is printed, and then the line of the ending's status, a refusal over this name.
+    RefuseBehind(Text<'a>, &'a str),
+    /// A text is printed, the file of a proof is made under a name, and it is told whether some path
+    /// of the proof ends in Bitcoin.
+    MakeBehind(Text<'a>, &'a str, Detached, bool),
 }
 
 /// A text to be printed.
@@ -31,6 +37,10 @@ pub enum Text<'a> {
     Verdict(Verdict),
     /// The line of the ending's status, a refusal over this name.
     Refusal(&'a str),
+    /// A line for each pair that a proof asks calendars for.
+    Asked(AskedList),
+    /// Whether an upgraded proof has a path that ends in Bitcoin.
+    Complete(bool),
 }
 
 impl<'a> Ending<'a> {

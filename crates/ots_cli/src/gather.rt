@@ -1,13 +1,14 @@
 //! The first step of a run: all that a command reads, in order.
-ghost use Rattle.std.specs.Prelude.{Some};
+ghost use Rattle.std.specs.Prelude.{Some, IfOk};
 ghost use Rattle.std.specs.Option.{option_map};
 ghost use Rattle.ots_cli.specs.Answer.{Answers, Decides, HasPerhapsTable, PrintsVerdict, RefusesPerhapsTable, Verifies};
+ghost use Rattle.ots_cli.specs.Asking.{Outside};
 ghost use Rattle.ots_cli.specs.Ending.{Ending};
-ghost use Rattle.ots_cli.specs.Gathered.{Reads};
+ghost use Rattle.ots_cli.specs.Gathered.{Reads, Suits};
 ghost use Rattle.ots_cli.specs.Opened.{names_of, names_read};
 ghost use Rattle.ots_words.specs.Words.{read_as, read_header_file, read_verification, verify};
 
-use crate::input::{Stop, hash_target, read_headers, read_proof};
+use crate::input::{Stop, hash_target, read_headers, read_list, read_proof};
 use crate::inputs::{Evidence, Inputs};
 use crate::rewriting::Rewriting;
 use ots_bitcoin::Headers;
@@ -21,8 +22,9 @@ pub fn gather<'a, S: Shelf>(
     command: Command<'a>,
     shelf: &mut S,
 ) -> Result<Inputs<'a>, Stop<'a>>
-    ensures { Reads (names_read (Some (read_as command.entry))) (λ told inputs. (e : Ending) → Decides inputs e → Answers told (Some (read_as command.entry)) e)
-        (λ told. Answers told (Some (read_as command.entry))) (S.told shelf.old) (S.told shelf.new) (S.faults shelf.old) (S.faults shelf.new) result }
+    ensures reads { (o : Outside) → Reads (names_read (Some (read_as command.entry))) (λ told inputs. (e : Ending) → Decides o inputs e → Answers o told (Some (read_as command.entry)) e)
+        (λ told. Answers o told (Some (read_as command.entry))) (S.told shelf.old) (S.told shelf.new) (S.faults shelf.old) (S.faults shelf.new) result }
+    ensures suits { IfOk result (Suits (S.told shelf.old).names (read_as command.entry)) }
 {
     match command {
         Command::Info(name) => {
@@ -45,6 +47,11 @@ pub fn gather<'a, S: Shelf>(
         Command::Verify(verification) => {
             let evidence = gather_evidence(alloc, verification, shelf)?;
             Ok(Inputs::Verify(evidence))
+        }
+        Command::Upgrade(upgrading) => {
+            let calendars = read_list(alloc, upgrading.calendars)?;
+            let proof = read_proof(alloc, upgrading.proof, shelf)?;
+            Ok(Inputs::Upgrade(calendars, proof, upgrading.to))
         }
     }
 }

@@ -1,11 +1,13 @@
-//! Reading an input by its name: the only code that opens one.
-ghost use Rattle.std.specs.Prelude.{◌≡◌, ◌≤◌, ◌-◌, ◌^◌};
+//! Reading an input by its name: the only code that opens one. And lists, which the words give themselves.
+ghost use Rattle.std.specs.Prelude.{◌≡◌, ◌≤◌, ◌-◌, ◌^◌, MatchResult};
+ghost use Rattle.ots_address.specs.AddressList.{IsListOf};
 ghost use Rattle.ots_detached.specs.File.{IsFileOf};
 ghost use Rattle.ots_bitcoin.specs.TableRead.{IsTableOf};
-ghost use Rattle.ots_cli.specs.Gathered.{ReadsName, ReadsUnder};
+ghost use Rattle.ots_cli.specs.Gathered.{IfBadList, ReadsName, ReadsUnder};
 ghost use Rattle.ots_cli.specs.Found.{IsHashOf, RefusesProof, RefusesTable, RefusesTarget, refused_headers, refused_open, refused_proof, refused_target, status_of};
 
 use crate::status::Status;
+use ots_address::{Address, AddressError, read_addresses};
 use ots_base::MAX_TARGET_FILE;
 use ots_bitcoin::{Headers, HeadersError};
 use ots_detached::{FileError, HashError, hash_source, read_file};
@@ -38,6 +40,9 @@ pub enum InputError {
     BadHeaders(u64),
     /// It was to be hashed, and has more than 2^40 bytes.
     FileTooLong,
+    /// It was to be a list of calendar addresses: where the first piece stands that is none, and
+    /// whether it begins with `https://`.
+    BadAddress { place: usize, https: bool },
     /// Memory ran out.
     OutOfMemory,
 }
@@ -54,6 +59,7 @@ impl InputError {
             InputError::BadProof(fault) => Status::BadProof(fault),
             InputError::BadHeaders(length) => Status::BadHeaders(length),
             InputError::FileTooLong => Status::FileTooLong,
+            InputError::BadAddress { place, https } => Status::BadAddress { place, https },
             InputError::OutOfMemory => return None,
         })
     }
@@ -104,6 +110,23 @@ impl From<HashError> for InputError {
             HashError::ReadFault => InputError::ReadFault,
             HashError::FileTooLong(_) => InputError::FileTooLong,
         }
+    }
+}
+
+/// The calendars of a list, which is no file.
+pub fn read_list<'a>(alloc: Global, list: &str) -> Result<Vec<Address>, Stop<'a>>
+    ensures { MatchResult result (λ calendars. IsListOf list.now calendars.items) (λ stop. IfBadList list.now stop.name.now stop.cause) }
+{
+    match read_addresses(alloc, list) {
+        Ok(calendars) => Ok(calendars),
+        Err(AddressError::BadAddress { place, https }) => Err(Stop {
+            name: "",
+            cause: InputError::BadAddress { place, https },
+        }),
+        Err(AddressError::OutOfMemory) => Err(Stop {
+            name: "",
+            cause: InputError::OutOfMemory,
+        }),
     }
 }
 

@@ -1,5 +1,6 @@
 //! What a command works on, once all of it is read.
 use crate::rewriting::Rewriting;
+use ots_address::Address;
 use ots_bitcoin::Headers;
 use ots_ops::Digest;
 use ots_tree::Detached;
@@ -15,6 +16,8 @@ pub enum Inputs<'a> {
     Merge(Detached, Detached, &'a str),
     /// `verify`: all that a verdict rests on.
     Verify(Evidence),
+    /// `upgrade`: the calendars that may be asked, and the proof.
+    Upgrade(Vec<Address>, Detached, &'a str),
 }
 
 /// What a verdict rests on.

@@ -2,11 +2,12 @@
 ghost use Rattle.std.specs.Prelude.{◌≡◌, ◌≢◌, ◌≤◌, ℕ, List, Some};
 ghost use Rattle.std.specs.declared.option.Option.{Option};
 ghost use Rattle.ots_base.specs.Cause.{Rose};
-ghost use Rattle.ots_cli.specs.Answer.{Answers, Comes};
+ghost use Rattle.ots_cli.specs.Answer.{AnswersAs, Comes};
+ghost use Rattle.ots_cli.specs.Asking.{Asks, Heard, IsOffline};
 ghost use Rattle.ots_cli.specs.CarriedOut.{Ends, EndsExactly};
 ghost use Rattle.ots_cli.specs.Gathered.{ComesToEnd};
 ghost use Rattle.ots_cli.specs.Opened.{OpensFront, StopsAt, names_read};
-ghost use Rattle.ots_cli.specs.ReadsBack.{Leaves, ReadsBack, output_asked, output_of};
+ghost use Rattle.ots_cli.specs.ReadsBack.{IsDoneOrNo, IsOutput, IsOutputAsked, Leaves, ReadsBack};
 ghost use Rattle.ots_cli.specs.Taken.{TakesProofs, proofs_read};
 ghost use Rattle.ots_words.specs.Words.{Command as Asked, Verification, asked, read_as, verify};
 ghost use Rattle.ots_cli.specs.Yes.{HasFiles, IsDoneExactlyWhere, SaysYes};
@@ -30,8 +31,8 @@ use std::alloc::Global;
 /// that failed.
 ///
 /// It opens the files that the command reads, in order, creates its output last, and changes no
-/// other name. No command of these asks a calendar or draws a nonce, so the dialer and the nonces
-/// stay as they are.
+/// other name. `upgrade` asks calendars, each in a conversation of its own, before it makes its output;
+/// the other commands leave the dialer as it is. The nonces stay as they are.
 pub fn run_client<S: Shelf, K: Sink, D: Dialer, N: Nonces>(
     alloc: Global,
     words: &[String],
@@ -46,55 +47,59 @@ pub fn run_client<S: Shelf, K: Sink, D: Dialer, N: Nonces>(
     ensures faults { NeverFalls (S.faults shelf.old) (S.faults shelf.new) }
     ensures out_faults { K.faults out.old ≤ K.faults out.new }
     ensures same { K.same out.old out.new }
-    ensures dialer { dialer.new ≡ dialer.old }
+    ensures asks { Asks D.told D.faults (S.told shelf.old).names (asked words.now) dialer.old dialer.new }
     ensures nonces { nonces.new ≡ nonces.old }
-    ensures ends { Ends (Comes (Answers (S.told shelf.old).names (asked words.now))
+    ensures ends { Ends (Comes (AnswersAs (Heard D.told D.faults dialer.old dialer.new) (S.told shelf.old).names (asked words.now))
         (StopsAt (names_read (asked words.now)) (S.told shelf.old).opened (S.told shelf.new).opened (S.faults shelf.old) (S.faults shelf.new)))
         (Rose (S.faults shelf.old).writing (S.faults shelf.new).writing) (Rose (K.faults out.old) (K.faults out.new))
         (S.told shelf.old).names (S.told shelf.new).names (K.taken out.old) (K.taken out.new) result }
-    ensures exact { (names : Names) → (S.told shelf.old).names ≡ Some names → EndsExactly names (asked words.now) result }
-    ensures leaves { (names : Names) → (S.told shelf.old).names ≡ Some names → Leaves names (output_asked (asked words.now)) (S.told shelf.new).names }
+    ensures exact { (names : Names) → (S.told shelf.old).names ≡ Some names → IsOffline (asked words.now) → EndsExactly names (asked words.now) result }
+    ensures leaves { (names : Names) → (S.told shelf.old).names ≡ Some names → Leaves names (IsOutputAsked (asked words.now)) (S.told shelf.new).names }
     ensures takes { (names : Names) (c : Asked) → (S.told shelf.old).names ≡ Some names → asked words.now ≡ Some c
         → TakesProofs names (proofs_read c) result }
     ensures yes { (names : Names) (v : Verification) (bitcoin : Table) (litecoin : Option Table) (proof : Detached) (target : List ℕ)
         → (S.told shelf.old).names ≡ Some names → asked words.now ≡ Some (verify v) → HasFiles names v bitcoin litecoin proof target
         → IsDoneExactlyWhere (SaysYes proof target bitcoin litecoin) result }
     ensures reads_back { (names : Names) (c : Asked) (to : List ℕ) → (S.told shelf.old).names ≡ Some names → asked words.now ≡ Some c
-        → output_of c ≡ Some to → result ≡ Status.Done → ReadsBack names c to (S.told shelf.new).names }
+        → IsOutput c to → IsDoneOrNo result → ReadsBack (Heard D.told D.faults dialer.old dialer.new) names c to (S.told shelf.new).names }
 {
-    match come_to_end(alloc, words, shelf) {
+    match come_to_end(alloc, words, shelf, dialer) {
         Ok(ending) => carry_out(&ending, shelf, out),
         Err(OutOfMemory) => Status::OutOfMemory,
     }
 }
 
 /// How these words end: all that they name is read, and it is decided what that comes to.
-fn come_to_end<'a, S: Shelf>(
+fn come_to_end<'a, S: Shelf, D: Dialer>(
     alloc: Global,
     words: &'a [String],
     shelf: &mut S,
+    dialer: &mut D,
 ) -> Result<Ending<'a>, OutOfMemory>
-    ensures { ComesToEnd (λ told. Answers told (asked words.entry.now)) (names_read (asked words.entry.now))
+    ensures ends { ComesToEnd (λ told. AnswersAs (Heard D.told D.faults dialer.old dialer.new) told (asked words.entry.now)) (names_read (asked words.entry.now))
         (S.told shelf.old) (S.told shelf.new) (S.faults shelf.old) (S.faults shelf.new) result }
+    ensures asks { Asks D.told D.faults (S.told shelf.old).names (asked words.entry.now) dialer.old dialer.new }
 {
     match read_words(alloc, words) {
-        Ok(command) => end_of(alloc, command, shelf),
+        Ok(command) => end_of(alloc, command, shelf, dialer),
         Err(WordsError::Usage) => Ok(Ending::refused("", Status::Usage)),
         Err(WordsError::OutOfMemory) => Err(OutOfMemory),
     }
 }
 
 /// How a command ends.
-fn end_of<'a, S: Shelf>(
+fn end_of<'a, S: Shelf, D: Dialer>(
     alloc: Global,
     command: Command<'a>,
     shelf: &mut S,
+    dialer: &mut D,
 ) -> Result<Ending<'a>, OutOfMemory>
-    ensures { ComesToEnd (λ told. Answers told (Some (read_as command.entry))) (names_read (Some (read_as command.entry)))
+    ensures ends { ComesToEnd (λ told. AnswersAs (Heard D.told D.faults dialer.old dialer.new) told (Some (read_as command.entry))) (names_read (Some (read_as command.entry)))
         (S.told shelf.old) (S.told shelf.new) (S.faults shelf.old) (S.faults shelf.new) result }
+    ensures asks { Asks D.told D.faults (S.told shelf.old).names (Some (read_as command.entry)) dialer.old dialer.new }
 {
     match gather(alloc, command, shelf) {
-        Ok(inputs) => decide(alloc, inputs),
+        Ok(inputs) => decide(alloc, inputs, dialer),
         Err(stop) => match stop.cause.status() {
             Some(status) => Ok(Ending::refused(stop.name, status)),
             None => Err(OutOfMemory),

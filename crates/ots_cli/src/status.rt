@@ -10,7 +10,7 @@ pub enum Status {
     /// The command did its work.
     Done,
     /// `verify`: no path of the proof takes the file's digest to the Merkle root of a block that it
-    /// attests, or the proof is of another digest.
+    /// attests, or the proof is of another digest. `upgrade`: no path of the result ends in Bitcoin.
     No,
     /// The words are not of a command's form.
     Usage,
@@ -42,6 +42,13 @@ pub enum Status {
         /// The digest of the second proof.
         second_digest: Digest,
     },
+    /// The list of calendars has a piece that is no address, or one too many: where it begins.
+    BadAddress {
+        /// The place of its first byte in the list.
+        place: usize,
+        /// Whether it begins with `https://`.
+        https: bool,
+    },
     /// Memory ran out.
     OutOfMemory,
 }
@@ -64,6 +71,7 @@ impl Status {
             Status::BadHeaders(_) => 9,
             Status::FileTooLong => 12,
             Status::Differs { .. } => 13,
+            Status::BadAddress { .. } => 14,
             Status::OutOfMemory => 20,
         }
     }

@@ -7,14 +7,15 @@ ghost use Rattle.ots_outside.specs.Streams.{Takes, TakesFront};
 ghost use Rattle.ots_printer.specs.Printing.{Puts};
 ghost use Rattle.ots_cli.specs.CarriedOut.{SinkStays};
 ghost use Rattle.ots_cli.specs.Decided.{IsTextOf};
-ghost use Rattle.ots_cli.specs.Refusal.{refusal_text};
-ghost use Rattle.ots_cli.specs.Text.{verdict_status, verdict_text, yes_words};
-ghost use Rattle.ots_cli.specs.declared.status.Status.TheVariants.{BadProof, Differs};
+ghost use Rattle.ots_cli.specs.Refusal.{bad_words, refusal_text};
+ghost use Rattle.ots_cli.specs.Text.{complete_status, complete_text, verdict_status, verdict_text, yes_words};
+ghost use Rattle.ots_cli.specs.declared.status.Status.TheVariants.{BadAddress, BadProof, Differs};
 
 use crate::ending::Text;
 use crate::status::Status;
 use ots_eval::{Chain, Verdict};
 use ots_info::{put_pair, put_proof};
+use ots_lines::put_asked;
 use ots_ops::{Digest, HashOp};
 use ots_outside::{Failed, Sink};
 use ots_printer::Printer;
@@ -58,6 +59,8 @@ fn put_text<K: Sink>(text: &Text<'_>, status: &Status, out: &mut Printer<'_, K>)
         Text::Proof(proof) => put_proof(proof, out),
         Text::Verdict(verdict) => put_verdict(*verdict, out),
         Text::Refusal(name) => put_refusal(name, status, out),
+        Text::Asked(asked) => put_asked(asked.items(), out),
+        Text::Complete(complete) => put_complete(*complete, out),
     }
 }
 
@@ -109,6 +112,20 @@ pub fn verdict_status(verdict: Verdict) -> Status
     }
 }
 
+/// Puts the line that tells whether an upgraded proof is complete.
+fn put_complete<K: Sink>(complete: bool, out: &mut Printer<'_, K>)
+    ensures { Puts K.taken K.faults K.same (complete_text complete) out.old out.new }
+{
+    out.word(if complete { "complete\n" } else { "pending\n" });
+}
+
+/// The status of an upgraded proof.
+pub fn complete_status(complete: bool) -> Status
+    ensures { result ≡ complete_status complete }
+{
+    if complete { Status::Done } else { Status::No }
+}
+
 // ---- refusals
 
 /// Puts the line of a refusal over a name, or nothing where the status has none.
@@ -131,6 +148,7 @@ fn put_refusal<K: Sink>(name: &str, status: &Status, out: &mut Printer<'_, K>)
             out.word("\n");
         }
         Status::FileTooLong => put_line("file too long ", name, out),
+        Status::BadAddress { place, https } => put_bad_address(*place, *https, out),
         Status::Differs {
             first_hash,
             first_digest,
@@ -161,6 +179,26 @@ fn put_fault<K: Sink>(name: &str, fault: Fault, out: &mut Printer<'_, K>)
     out.word(": ");
     out.word(fault.reason.words());
     out.word("\n");
+}
+
+/// Puts the line for a list of calendars with a piece that is no address.
+fn put_bad_address<K: Sink>(place: usize, https: bool, out: &mut Printer<'_, K>)
+    ensures { Puts K.taken K.faults K.same (refusal_text [] (BadAddress place https)) out.old out.new }
+{
+    out.word(bad_words(https));
+    out.number(place as u64);
+    out.word("\n");
+}
+
+/// The words before the place of a piece that is no address.
+fn bad_words(https: bool) -> &'static str
+    ensures { result.now ≡ bad_words https }
+{
+    if https {
+        "https is not supported at "
+    } else {
+        "bad address at "
+    }
 }
 
 /// Puts the line for two proofs that can't be joined.

@@ -11,6 +11,13 @@ const NO_CALENDARS: DialerRoom = DialerRoom {
     bytes: 0,
 };
 
+/// Four conversations with calendars.
+const CALENDARS: DialerRoom = DialerRoom {
+    conversations: 4,
+    host_length: 64,
+    bytes: 1024,
+};
+
 /// A run over any shelf and any sink, with no calendars and no nonces.
 pub fn run<S: Shelf, K: Sink>(
     alloc: Global,
@@ -18,13 +25,24 @@ pub fn run<S: Shelf, K: Sink>(
     shelf: &mut S,
     out: &mut K,
 ) -> Result<Status, Fail> {
+    let mut dialer = ScriptDialer::new(alloc, &[], NO_CALENDARS, &[])?;
+    run_with(alloc, words, shelf, out, &mut dialer)
+}
+
+/// A run over any shelf and any sink, with these calendars and no nonces.
+fn run_with<S: Shelf, K: Sink>(
+    alloc: Global,
+    words: &[&str],
+    shelf: &mut S,
+    out: &mut K,
+    dialer: &mut ScriptDialer,
+) -> Result<Status, Fail> {
     let mut owned = Vec::new(alloc);
     for word in words {
         owned.push(word.to_string(alloc)?)?;
     }
-    let mut dialer = ScriptDialer::new(alloc, &[], NO_CALENDARS, &[])?;
     let mut nonces = ListNonces::new(alloc, &[], &[])?;
-    Ok(run_client(alloc, &owned, shelf, out, &mut dialer, &mut nonces))
+    Ok(run_client(alloc, &owned, shelf, out, dialer, &mut nonces))
 }
 
 /// How a run ended, what the shelf holds then, and what was printed.
@@ -44,6 +62,19 @@ pub fn run_on(
     failing: &[u64],
     failing_writes: &[u64],
 ) -> Result<Ended, Fail> {
+    let mut shelf = shelf_with(alloc, files, failing)?;
+    let mut out = BytesSink::new(alloc, 20_000, failing_writes)?;
+    let status = run(alloc, words, &mut shelf, &mut out)?;
+    Ok(Ended { status, shelf, out })
+}
+
+/// A shelf that holds these files, and has room for one more and four slots. The calls that are listed
+/// fail.
+fn shelf_with(
+    alloc: Global,
+    files: &[(&str, &[u8])],
+    failing: &[u64],
+) -> Result<MapShelf, Fail> {
     let mut longest = 256;
     for (_, bytes) in files {
         longest = bytes.len().max(longest);
@@ -58,9 +89,31 @@ pub fn run_on(
     for (name, bytes) in files {
         shelf.put(name, bytes)?;
     }
-    let mut out = BytesSink::new(alloc, 20_000, failing_writes)?;
-    let status = run(alloc, words, &mut shelf, &mut out)?;
-    Ok(Ended { status, shelf, out })
+    Ok(shelf)
+}
+
+/// Calls that are to fail: of the shelf, of the dialer and writes of the sink, each by its number.
+#[derive(Clone, Copy)]
+pub struct Failing<'a> {
+    pub shelf: &'a [u64],
+    pub dialer: &'a [u64],
+    pub writes: &'a [u64],
+}
+
+/// A run where the shelf holds these files and calendars give these replies, and what was sent to
+/// them.
+pub fn run_asking(
+    alloc: Global,
+    words: &[&str],
+    files: &[(&str, &[u8])],
+    replies: &[&[u8]],
+    failing: Failing<'_>,
+) -> Result<(Ended, ScriptDialer), Fail> {
+    let mut shelf = shelf_with(alloc, files, failing.shelf)?;
+    let mut out = BytesSink::new(alloc, 20_000, failing.writes)?;
+    let mut dialer = ScriptDialer::new(alloc, replies, CALENDARS, failing.dialer)?;
+    let status = run_with(alloc, words, &mut shelf, &mut out, &mut dialer)?;
+    Ok((Ended { status, shelf, out }, dialer))
 }
 
 /// How a run ends, and what it printed, where the shelf holds these bytes under `p`. The calls of

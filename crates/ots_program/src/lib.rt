@@ -4,36 +4,31 @@
 #![tactic(auto)]
 
 use ots_cli::{Status, run_client};
-use ots_io::{DialerRoom, DirShelf, ListNonces, OutOfMemory, ScriptDialer, StdSink};
+use ots_io::{DirShelf, ListNonces, OutOfMemory, StdSink, TcpDialer};
 use std::alloc::{AllocError, Global};
 use std::io::{ErrorKind, Print};
+use std::net::Net;
 use std::process::ExitCode;
 use std::rt::{Env, Files};
+use std::time::Clock;
 use std::{env, io};
 
-// No conversation with a calendar, since no command asks one yet.
-const NO_ROOM: DialerRoom = DialerRoom {
-    conversations: 0,
-    host_length: 0,
-    bytes: 0,
-};
-
-/// Runs the client on the words behind the program's name, over the files, standard output, and no
-/// calendars and no nonces, and answers the number of its status as an exit code.
-pub fn run_program(rt: &(impl Env + Files + Print + AllocGlobal)) -> ExitCode {
+/// Runs the client on the words behind the program's name, over the files, standard output, sockets
+/// to calendars and no nonces, and answers the number of its status as an exit code.
+pub fn run_program(rt: &(impl Env + Files + Print + Net + Clock + AllocGlobal)) -> ExitCode {
     let status = run(rt, rt.alloc()).unwrap_or(Status::OutOfMemory);
     ExitCode::from(status.number())
 }
 
 // Runs the client over the real objects.
 fn run(
-    rt: &(impl Env + Files + Print + AllocGlobal),
+    rt: &(impl Env + Files + Print + Net + Clock + AllocGlobal),
     alloc: Global,
 ) -> Result<Status, OutOfMemory> {
     let words = read_words(rt, alloc)?;
     let mut shelf = DirShelf::new(rt, alloc);
     let mut out = StdSink::new(io::writer(rt));
-    let mut dialer = ScriptDialer::new(alloc, &[], NO_ROOM, &[])?;
+    let mut dialer = TcpDialer::new(rt, alloc);
     let mut nonces = ListNonces::new(alloc, &[], &[])?;
     Ok(run_client(
         alloc,

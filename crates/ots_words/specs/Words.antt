@@ -11,11 +11,12 @@ use Rattle.clap.specs.declared.builder.action.ArgAction.TheVariants.{Set}
 use Rattle.ots_words.specs.declared.command.Command.{Command as Read}
 use Rattle.ots_words.specs.declared.command.Command.TheVariants as read
 use Rattle.ots_words.specs.declared.words.Form.{Form}
-use Rattle.ots_words.specs.declared.words.Form.TheVariants.{Info, Canon, Merge, Prune, Verify}
+use Rattle.ots_words.specs.declared.words.Form.TheVariants.{Info, Canon, Merge, Prune, Verify, Upgrade}
 use Rattle.ots_words.specs.declared.arguments.Argument.{Argument}
 use Rattle.ots_words.specs.declared.arguments.Kind.{Kind}
 use Rattle.ots_words.specs.declared.arguments.Kind.TheVariants.{Positional, Required, Optional}
 use Rattle.ots_words.specs.declared.command.HeaderFile.{HeaderFile as ReadHeaderFile}
+use Rattle.ots_words.specs.declared.command.Upgrading.{Upgrading as ReadUpgrading}
 use Rattle.ots_words.specs.declared.command.Verification.{Verification as ReadVerification}
 
 -- a file of headers, and the height of its first one
@@ -30,6 +31,12 @@ pub record Verification : Type 0 where
   pub bitcoin : HeaderFile
   pub litecoin : Option HeaderFile
 
+-- the list of calendars as it was given, the proof, and the name under which it is written
+pub record Upgrading : Type 0 where
+  pub calendars : List ℕ
+  pub proof : List ℕ
+  pub to : List ℕ
+
 -- what the words ask for
 pub data Command : Type 0 where
   -- print what this proof says
@@ -42,11 +49,12 @@ pub data Command : Type 0 where
   prune : List ℕ → List ℕ → Command
   -- say whether the proof confirms the file
   verify : Verification → Command
+  -- ask calendars to complete the proof
+  upgrade : Upgrading → Command
 
 -- ---- the words as clap reads them
 
--- An argument by its name: one that is given by its place, or an option, behind its name with two dashes. All but the
--- optional ones are required.
+-- An argument by its name: one that is given by its place, or an option, behind its name with two dashes. All but the optional ones are required.
 abbrev pub argument : List ℕ → Kind → Rule
 argument name Positional = record (new_rule name) { required = true; action = Some Set }
 argument name Required = record (new_rule name) { long = Some name; required = true; action = Some Set }
@@ -78,9 +86,11 @@ word_of Canon = codes "canon"
 word_of Merge = codes "merge"
 word_of Prune = codes "prune"
 word_of Verify = codes "verify"
+word_of Upgrade = codes "upgrade"
 
 -- info PROOF; canon IN OUT; merge A B OUT; prune IN OUT;
--- verify FILE PROOF HEADERS --from N, and perhaps --litecoin FILE --litecoin-from M
+-- verify FILE PROOF HEADERS --from N, and perhaps --litecoin FILE --litecoin-from M;
+-- upgrade --calendars LIST IN OUT
 abbrev pub arguments_of : Form → List Described
 arguments_of Info = (codes "proof", Positional) ∷ []
 arguments_of Canon = (codes "in", Positional) ∷ (codes "out", Positional) ∷ []
@@ -88,6 +98,7 @@ arguments_of Merge = (codes "a", Positional) ∷ (codes "b", Positional) ∷ (co
 arguments_of Prune = (codes "in", Positional) ∷ (codes "out", Positional) ∷ []
 arguments_of Verify = (codes "file", Positional) ∷ (codes "proof", Positional) ∷ (codes "headers", Positional)
     ∷ (codes "from", Required) ∷ (codes "litecoin", Optional) ∷ (codes "litecoin-from", Optional) ∷ []
+arguments_of Upgrade = (codes "in", Positional) ∷ (codes "out", Positional) ∷ (codes "calendars", Required) ∷ []
 
 abbrev pub form_of : List ℕ → Option Form
 form_of word =
@@ -96,6 +107,7 @@ form_of word =
     else if bytes_eq word (word_of Merge) then Some Merge
     else if bytes_eq word (word_of Prune) then Some Prune
     else if bytes_eq word (word_of Verify) then Some Verify
+    else if bytes_eq word (word_of Upgrade) then Some Upgrade
     else None
 
 -- a file's name is not empty
@@ -141,6 +153,13 @@ verification_in rows =
     (name_in rows (codes "proof")))
     (name_in rows (codes "file"))
 
+abbrev pub upgrading_in : List Row → Option Upgrading
+upgrading_in rows =
+    option_and_then (λ calendars. option_and_then (λ proof. option_map (λ to. record { calendars = calendars; proof = proof; to = to })
+    (name_in rows (codes "out")))
+    (name_in rows (codes "in")))
+    (first_of (codes "calendars") rows)
+
 -- the command with these values of its arguments
 abbrev pub command_in : Form → List Row → Option Command
 command_in Info rows = option_map info (name_in rows (codes "proof"))
@@ -148,6 +167,7 @@ command_in Canon rows = with_two canon (name_in rows (codes "in")) (name_in rows
 command_in Merge rows = option_and_then (λ a. with_two (merge a) (name_in rows (codes "b")) (name_in rows (codes "out"))) (name_in rows (codes "a"))
 command_in Prune rows = with_two prune (name_in rows (codes "in")) (name_in rows (codes "out"))
 command_in Verify rows = option_map verify (verification_in rows)
+command_in Upgrade rows = option_map upgrade (upgrading_in rows)
 
 unfoldable pub read_form : Form → List (List ℕ) → Option Command
 read_form form words =
@@ -171,12 +191,16 @@ read_verification v = record {
   litecoin = option_map read_header_file v.litecoin;
 }
 
+abbrev pub read_upgrading : ReadUpgrading → Upgrading
+read_upgrading u = record { calendars = u.calendars.now; proof = u.proof.now; to = u.to.now }
+
 abbrev pub read_as : Read → Command
 read_as (read.Info proof) = info proof.now
 read_as (read.Canon from to) = canon from.now to.now
 read_as (read.Merge first second to) = merge first.now second.now to.now
 read_as (read.Prune from to) = prune from.now to.now
 read_as (read.Verify v) = verify (read_verification v)
+read_as (read.Upgrade u) = upgrade (read_upgrading u)
 
 -- what these words ask for, each seen as its bytes
 abbrev pub asked : List (String Global) → Option Command

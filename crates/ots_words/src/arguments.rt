@@ -58,11 +58,11 @@ impl Argument {
         ensures local { result.global ≡ false }
     {
         let Argument(name, kind) = *self;
-        let argument = Arg::new(alloc, name).action(ArgAction::Set);
+        let argument = Arg::new(alloc, name);
         match kind {
-            Kind::Positional => argument.required(true),
-            Kind::Required => argument.long(name).required(true),
-            Kind::Optional => argument.long(name),
+            Kind::Positional => argument.action(ArgAction::Set).required(true),
+            Kind::Required => argument.action(ArgAction::Set).long(name).required(true),
+            Kind::Optional => argument.action(ArgAction::Set).long(name),
         }
     }
 }

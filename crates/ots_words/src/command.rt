@@ -14,6 +14,20 @@ pub enum Command<'a> {
     Prune(&'a str, &'a str),
     /// `verify FILE PROOF HEADERS --from N`: say whether the proof confirms the file.
     Verify(Verification<'a>),
+    /// `upgrade --calendars LIST IN OUT`: ask calendars to complete the proof under the first name,
+    /// and write that as the second.
+    Upgrade(Upgrading<'a>),
+}
+
+/// What `upgrade` is to do.
+#[derive(Clone, Copy)]
+pub struct Upgrading<'a> {
+    /// The list of calendar addresses, as it was given.
+    pub calendars: &'a str,
+    /// The file of the proof.
+    pub proof: &'a str,
+    /// The name under which the completed proof is written.
+    pub to: &'a str,
 }
 
 /// What `verify` is to check.

@@ -5,5 +5,5 @@ mod arguments;
 mod command;
 mod words;
 
-pub use command::{Command, HeaderFile, Verification};
+pub use command::{Command, HeaderFile, Upgrading, Verification};
 pub use words::{WordsError, read_words};

@@ -2,12 +2,12 @@
 ghost use Rattle.std.specs.Prelude.{◌≡◌, None, Some, map, string_bytes, MatchResult};
 ghost use Rattle.std.specs.Option.{option_map};
 ghost use Rattle.clap.specs.Words.{found_of, rows_of};
-ghost use Rattle.ots_words.specs.Words.{arguments_of, command_in, command_of, described, form_of, read_as, read_form, read_verification, verification_in, word_of};
+ghost use Rattle.ots_words.specs.Words.{arguments_of, command_in, command_of, described, form_of, read_as, read_form, read_verification, read_upgrading, upgrading_in, verification_in, word_of};
 
 use crate::arguments::{
     Argument, Kind, file_name, header_file, litecoin_file, read_arguments, value,
 };
-use crate::command::{Command, Verification};
+use crate::command::{Command, Upgrading, Verification};
 use clap::ArgMatches;
 use std::alloc::{AllocError, Global};
 
@@ -19,6 +19,7 @@ enum Form {
     Merge,
     Prune,
     Verify,
+    Upgrade,
 }
 
 /// Why words ask for nothing.
@@ -53,6 +54,17 @@ fn verification<'a>(matches: &ArgMatches<'a>) -> Option<Verification<'a>>
     })
 }
 
+/// What `upgrade` is to do, by the values of its arguments.
+fn upgrading<'a>(matches: &ArgMatches<'a>) -> Option<Upgrading<'a>>
+    ensures { option_map read_upgrading result ≡ upgrading_in (rows_of (found_of matches.now)) }
+{
+    Some(Upgrading {
+        calendars: value(matches, "calendars")?,
+        proof: file_name(matches, "in")?,
+        to: file_name(matches, "out")?,
+    })
+}
+
 /// The arguments of `info`.
 static INFO: [Argument; 1] = [Argument("proof", Kind::Positional)];
 
@@ -79,6 +91,13 @@ static VERIFY: [Argument; 6] = [
     Argument("litecoin-from", Kind::Optional),
 ];
 
+/// The arguments of `upgrade`.
+static UPGRADE: [Argument; 3] = [
+    Argument("in", Kind::Positional),
+    Argument("out", Kind::Positional),
+    Argument("calendars", Kind::Required),
+];
+
 impl Form {
     /// The command with this word.
     fn of(word: &str) -> Option<Form>
@@ -90,6 +109,7 @@ impl Form {
             "merge" => Some(Form::Merge),
             "prune" => Some(Form::Prune),
             "verify" => Some(Form::Verify),
+            "upgrade" => Some(Form::Upgrade),
             _ => None,
         }
     }
@@ -104,6 +124,7 @@ impl Form {
             Form::Merge => "merge",
             Form::Prune => "prune",
             Form::Verify => "verify",
+            Form::Upgrade => "upgrade",
         }
     }
 
@@ -116,6 +137,7 @@ impl Form {
             Form::Canon | Form::Prune => REWRITING.as_slice(),
             Form::Merge => MERGE.as_slice(),
             Form::Verify => VERIFY.as_slice(),
+            Form::Upgrade => UPGRADE.as_slice(),
         }
     }
 
@@ -124,23 +146,46 @@ impl Form {
         ensures { option_map read_as result ≡ command_in self (rows_of (found_of matches.now)) }
     {
         match self {
-            Form::Info => Some(Command::Info(file_name(matches, "proof")?)),
-            Form::Canon => Some(Command::Canon(
-                file_name(matches, "in")?,
-                file_name(matches, "out")?,
-            )),
-            Form::Merge => Some(Command::Merge(
-                file_name(matches, "a")?,
-                file_name(matches, "b")?,
-                file_name(matches, "out")?,
-            )),
-            Form::Prune => Some(Command::Prune(
-                file_name(matches, "in")?,
-                file_name(matches, "out")?,
-            )),
-            Form::Verify => Some(Command::Verify(verification(matches)?)),
+            Form::Info => info(matches),
+            Form::Canon => canon(matches),
+            Form::Merge => merge(matches),
+            Form::Prune => prune(matches),
+            Form::Verify => verification(matches).map(Command::Verify),
+            Form::Upgrade => upgrading(matches).map(Command::Upgrade),
         }
     }
+}
+
+/// `info` with the values of its argument.
+fn info<'a>(matches: &ArgMatches<'a>) -> Option<Command<'a>>
+    ensures { option_map read_as result ≡ command_in Form.Info (rows_of (found_of matches.now)) }
+{
+    Some(Command::Info(file_name(matches, "proof")?))
+}
+
+/// `canon` with the values of its arguments.
+fn canon<'a>(matches: &ArgMatches<'a>) -> Option<Command<'a>>
+    ensures { option_map read_as result ≡ command_in Form.Canon (rows_of (found_of matches.now)) }
+{
+    Some(Command::Canon(file_name(matches, "in")?, file_name(matches, "out")?))
+}
+
+/// `merge` with the values of its arguments.
+fn merge<'a>(matches: &ArgMatches<'a>) -> Option<Command<'a>>
+    ensures { option_map read_as result ≡ command_in Form.Merge (rows_of (found_of matches.now)) }
+{
+    Some(Command::Merge(
+        file_name(matches, "a")?,
+        file_name(matches, "b")?,
+        file_name(matches, "out")?,
+    ))
+}
+
+/// `prune` with the values of its arguments.
+fn prune<'a>(matches: &ArgMatches<'a>) -> Option<Command<'a>>
+    ensures { option_map read_as result ≡ command_in Form.Prune (rows_of (found_of matches.now)) }
+{
+    Some(Command::Prune(file_name(matches, "in")?, file_name(matches, "out")?))
 }
 
 /// What the words ask for, where they are of a command's form.
@@ -162,11 +207,10 @@ fn read_form<'a>(alloc: Global, form: Form, words: &'a [String]) -> Result<Comma
     ensures { MatchResult result (λ c. read_form form (map string_bytes words.entry.now) ≡ Some (read_as c))
         (λ e. e ≡ WordsError.Usage → read_form form (map string_bytes words.entry.now) ≡ None) }
 {
-    match read_arguments(alloc, form.word(), form.arguments(), words) {
-        Ok(matches) => match form.command_in(&matches) {
-            Some(command) => Ok(command),
-            None => Err(WordsError::Usage),
-        },
-        Err(error) => Err(error),
+    let matches = read_arguments(alloc, form.word(), form.arguments(), words)?;
+    let found = form.command_in(&matches);
+    match found {
+        Some(command) => Ok(command),
+        None => Err(WordsError::Usage),
     }
 }

@@ -7,30 +7,30 @@ use Rattle.ots_cli.proofs.Yes.{done_exactly}
 use Rattle.ots_cli.proofs.run.run_client.Goals as goal
 
 pub returns-in-Ok-clause-faults : goal.returns-in-Ok-clause-faults
-returns-in-Ok-clause-faults g c = run_faults _ _ _ _ _ _ _ _ _ _ _ _ _ c.in-Ok.ensures c.carry_out.ensures.ending
+returns-in-Ok-clause-faults g c = run_faults _ _ _ _ _ _ _ _ _ _ _ _ _ c.in-Ok.ensures.ends c.carry_out.ensures.ending
 
 pub returns-in-Ok-clause-ends : goal.returns-in-Ok-clause-ends
-returns-in-Ok-clause-ends g c = run_ends _ _ _ _ _ _ _ _ _ _ _ _ _ c.in-Ok.ensures c.carry_out.ensures.ending
+returns-in-Ok-clause-ends g c = run_ends _ _ _ _ _ _ _ _ _ _ _ _ _ c.in-Ok.ensures.ends c.carry_out.ensures.ending
 
 pub returns-in-Ok-clause-exact : goal.returns-in-Ok-clause-exact
-returns-in-Ok-clause-exact g c = λ names told e is.
-    one.exact names _ _ _ _ _ _ _ _ _ e (run_ends _ _ _ _ _ _ _ _ _ _ _ _ _ c.in-Ok.ensures c.carry_out.ensures.ending) told is
+returns-in-Ok-clause-exact g c = λ names told offline e is.
+    one.exact _ names _ _ _ _ _ _ _ _ _ e (run_ends _ _ _ _ _ _ _ _ _ _ _ _ _ c.in-Ok.ensures.ends c.carry_out.ensures.ending) told offline is
 
 pub returns-in-Ok-clause-leaves : goal.returns-in-Ok-clause-leaves
 returns-in-Ok-clause-leaves g c = λ names told.
-    leaves_others names _ _ _ _ _ _ _ _ _ told (run_ends _ _ _ _ _ _ _ _ _ _ _ _ _ c.in-Ok.ensures c.carry_out.ensures.ending)
+    leaves_others _ names _ _ _ _ _ _ _ _ _ told (run_ends _ _ _ _ _ _ _ _ _ _ _ _ _ c.in-Ok.ensures.ends c.carry_out.ensures.ending)
 
 pub returns-in-Ok-clause-takes : goal.returns-in-Ok-clause-takes
 returns-in-Ok-clause-takes g c = λ names command told asks.
-    are_taken names command _ _ _ _ _ _ _ _ _ told asks (run_ends _ _ _ _ _ _ _ _ _ _ _ _ _ c.in-Ok.ensures c.carry_out.ensures.ending)
+    are_taken _ names command _ _ _ _ _ _ _ _ _ told asks (run_ends _ _ _ _ _ _ _ _ _ _ _ _ _ c.in-Ok.ensures.ends c.carry_out.ensures.ending)
 
 pub returns-in-Ok-clause-yes : goal.returns-in-Ok-clause-yes
 returns-in-Ok-clause-yes g c = λ names v b l p target told asks has.
-    done_exactly names v b l p target has _ _ _ _ _ _ _ _ _ told asks (run_ends _ _ _ _ _ _ _ _ _ _ _ _ _ c.in-Ok.ensures c.carry_out.ensures.ending)
+    done_exactly _ names v b l p target has _ _ _ _ _ _ _ _ _ told asks (run_ends _ _ _ _ _ _ _ _ _ _ _ _ _ c.in-Ok.ensures.ends c.carry_out.ensures.ending)
 
 pub returns-in-Ok-clause-reads_back : goal.returns-in-Ok-clause-reads_back
 returns-in-Ok-clause-reads_back g c = λ names command to told asks out done.
-    reads_back names command to out _ _ _ _ _ _ _ _ _ told asks done (run_ends _ _ _ _ _ _ _ _ _ _ _ _ _ c.in-Ok.ensures c.carry_out.ensures.ending)
+    reads_back _ names command to out _ _ _ _ _ _ _ _ _ told asks done (run_ends _ _ _ _ _ _ _ _ _ _ _ _ _ c.in-Ok.ensures.ends c.carry_out.ensures.ending)
 
 pub returns-in-Err-clause-leaves : goal.returns-in-Err-clause-leaves
-returns-in-Err-clause-leaves g c = λ names told. (names, c.in-Err.ensures.names ∙ told, λ name other. refl)
+returns-in-Err-clause-leaves g c = λ names told. (names, c.in-Err.ensures.ends.names ∙ told, λ name other. refl)

@@ -1,0 +1,9 @@
+use Rattle.ots_printer.proofs.Pieces.{puts_as, puts_then}
+use Rattle.ots_lines.specs.Lines.{asked_line}
+use Rattle.ots_lines.proofs.More.{one_more}
+use Rattle.ots_lines.proofs.lines.put_asked.Goals as goal
+
+pub loop-at-preserved : goal.loop-at-preserved
+loop-at-preserved g c =
+    puts_as (one_more asked_line c.args.asked.now c.loop-at.at-index _ c.loop-at-test.true c.at-item.is)
+    (puts_then c.loop-at.invariant c.put_pair.ensures g.met.K.Sink.same_trans)

@@ -1,0 +1,6 @@
+//! The lines that are printed of conversations with calendars.
+#![tactic(auto)]
+
+mod lines;
+
+pub use lines::{put_asked, put_calendars};
