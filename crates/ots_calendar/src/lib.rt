@@ -29,7 +29,7 @@ mod values;
 pub use answer::Answer;
 pub use book::Book;
 pub use errors::{AnchorError, RefusedBook, TipError};
-pub use laws::{answers_stay, calls_grow, cycle};
+pub use laws::{answers_stay, calls_grow, cycle, one_ticket};
 pub use ots_outside::{DigestLength, Leaf};
 pub use ots_round::{BadKey, Key, Receipt, Ticket, hmac_sha256};
 pub use ots_tickets::{MAX_WAITING, PutError, Taken};
