@@ -14,7 +14,8 @@
 //!
 //! `tip` takes one hash for each 1 of the number of commitments that are not covered, written in
 //! base two, once the tree over them has caught up; after an anchor it is made anew. `ask` hashes
-//! all commitments that the anchor covers. `take` and `withdraw` walk over the tickets.
+//! all commitments that the anchor covers. `take` and `withdraw` search by the number, and walk over
+//! the tickets only for one that is not there.
 #![tactic(auto)]
 
 mod anchoring;
