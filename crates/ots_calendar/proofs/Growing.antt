@@ -17,10 +17,12 @@ use Rattle.ots_calendar.specs.Book.{BookTold, Grows}
 use Rattle.ots_calendar.specs.Rounds.{Closes}
 use Rattle.ots_calendar.specs.Tips.{TipAfter, AsksTip}
 
-stays : {D : Type 0} (old new : JournalTold D) → new ≡ old → Grows old new
+-- nothing changes
+pub stays : {D : Type 0} (old new : JournalTold D) → new ≡ old → Grows old new
 stays old new same = record { limit = ap (λ (j : JournalTold _). j.limit) same; more = []; entries = ap (λ (j : JournalTold _). j.entries) same ∙ sym (append-nil old.entries) }
 
-onward : {D : Type 0} (old mid new : JournalTold D) → Grows old mid → Grows mid new → Grows old new
+-- one call behind the other
+pub onward : {D : Type 0} (old mid new : JournalTold D) → Grows old mid → Grows mid new → Grows old new
 onward old mid new one two = record {
   limit = two.limit ∙ one.limit;
   more = one.more ++ two.more;
@@ -34,19 +36,19 @@ refreshed_at bytes old new false unsure r = elim (r.decided unsure) [
   | inr more ↦ record { limit = r.limit; more = old.flight; entries = more.0 }
 ]
 
-refreshed : {D : Type 0} (bytes : D → Option (List ℕ)) (old new : JournalTold D) → Refreshed bytes old new → Grows old new
+pub refreshed : {D : Type 0} (bytes : D → Option (List ℕ)) (old new : JournalTold D) → Refreshed bytes old new → Grows old new
 refreshed bytes old new r = refreshed_at bytes old new old.is_sure refl r
 
-unrefreshed : {D : Type 0} (bytes : D → Option (List ℕ)) (old new : JournalTold D) → Unrefreshed bytes old new → Grows old new
+pub unrefreshed : {D : Type 0} (bytes : D → Option (List ℕ)) (old new : JournalTold D) → Unrefreshed bytes old new → Grows old new
 unrefreshed bytes old new r = record { limit = ap (λ (j : JournalTold _). j.limit) r.same; more = []; entries = ap (λ (j : JournalTold _). j.entries) r.same ∙ sym (append-nil old.entries) }
 
-added : {D A : Type 0} (clock : D → ℕ) (since : D → ℕ → List ℕ → Type 0) (old new : JournalTold D) (group : List Entry) (result : Result A AppendError) → Added clock since old new group result → Grows old new
+pub added : {D A : Type 0} (clock : D → ℕ) (since : D → ℕ → List ℕ → Type 0) (old new : JournalTold D) (group : List Entry) (result : Result A AppendError) → Added clock since old new group result → Grows old new
 added clock since old new group (Ok x) a = record { limit = a.outcome.limit; more = group; entries = a.outcome.entries }
 added clock since old new group (Err DiskFault) a = record { limit = a.outcome.limit; more = []; entries = a.outcome.entries ∙ sym (append-nil old.entries) }
 added clock since old new group (Err (Full need limit)) a = stays old new a.outcome.0
 added clock since old new group (Err OutOfMemory) a = stays old new a.outcome
 
-adds : {D A : Type 0} (bytes : D → Option (List ℕ)) (clock : D → ℕ) (since : D → ℕ → List ℕ → Type 0) (old new : JournalTold D) (group : List Entry) (result : Result A AppendError) → Adds bytes clock since old new group result → Grows old new
+pub adds : {D A : Type 0} (bytes : D → Option (List ℕ)) (clock : D → ℕ) (since : D → ℕ → List ℕ → Type 0) (old new : JournalTold D) (group : List Entry) (result : Result A AppendError) → Adds bytes clock since old new group result → Grows old new
 adds bytes clock since old new group result (inl after) = onward old after.mid new (refreshed bytes old after.mid after.refreshed) (added clock since after.mid new group result after.added)
 adds bytes clock since old new group result (inr nothing) = unrefreshed bytes old new nothing.unrefreshed
 

@@ -22,7 +22,7 @@ use Rattle.ots_calendar.specs.Values.{IsTrue, IsTrueTip, IsTrueAnchor, AreTrue}
 use Rattle.ots_calendar.proofs.Spans.{over_more}
 use Rattle.ots_calendar.proofs.Truths.{true_push}
 
-commits_more : (xs ys : List Entry) → commits_of (records_of (xs ++ ys)) ≡ commits_of (records_of xs) ++ commits_of (records_of ys)
+pub commits_more : (xs ys : List Entry) → commits_of (records_of (xs ++ ys)) ≡ commits_of (records_of xs) ++ commits_of (records_of ys)
 commits_more xs ys = ap commits_of (map-append record_of xs ys) ∙ commits_append (records_of xs) (records_of ys)
 
 pub over_entries : (xs ys : List Entry) (t : TreeTold) → IsOver (commits_of (records_of xs)) t → IsOver (commits_of (records_of (xs ++ ys))) t

@@ -1,4 +1,4 @@
-mod Growing
+pub mod Growing
 mod WholeWay
 mod Closing
 mod AnchoringIn
@@ -8,6 +8,8 @@ mod Branches
 mod Climbing
 mod Keeping
 mod Looking
+mod OneTicket
 mod Spans
+mod Standing
 mod Tipping
 mod Truths

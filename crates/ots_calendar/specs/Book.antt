@@ -1,12 +1,21 @@
 -- What contracts see of a book, and what every book keeps.
-use Rattle.std.specs.Prelude.{◌≡◌, ℕ, false, List, ◌++◌, Option}
+use Rattle.std.specs.Prelude.{◌≡◌, ℕ, Bool, true, false, List, ◌++◌, Option, Some, slice_get}
+use Rattle.std.specs.List.{AllByRecursion}
 use Rattle.ots_disk.specs.Disk.{LeavesOnly}
 use Rattle.ots_journal.specs.declared.entry.Entry.{Entry}
 use Rattle.ots_journal.specs.Image.{Stands}
 use Rattle.ots_journal.specs.Journal.{JournalTold, StandsForEither, Refreshed, Unrefreshed}
+use Rattle.ots_round.specs.declared.ticket.Receipt.{Receipt}
+use Rattle.ots_round.specs.declared.ticket.Ticket.{Ticket}
 use Rattle.ots_store.specs.Order.{commits_of, records_of}
+use Rattle.ots_store.specs.Records.{Record}
 use Rattle.ots_store.specs.Store.{StoreTold, InRecords}
+use Rattle.ots_tickets.specs.Calls.{LeadsTo}
 use Rattle.ots_tickets.specs.Tickets.{TicketsTold}
+use Rattle.ots_tickets.specs.declared.settled.Settled.{Settled}
+use Rattle.ots_tickets.specs.declared.tickets.Taken.{Taken}
+use Rattle.ots_tickets.specs.declared.tickets.Taken.TheVariants as taken
+use Rattle.ots_tree.specs.declared.token.Token.{Token}
 use Rattle.ots_calendar.specs.Tree.{TreeTold, IsOver}
 use Rattle.ots_calendar.specs.Values.{AreTrue}
 
@@ -23,11 +32,42 @@ pub record StandsForBook (bytes : List ℕ) : Type 0 where
   pub records : InRecords entries
   pub are_true : AreTrue (records_of entries)
 
+-- The commitment of a receipt stands at its index.
+abbrev pub StandsAt : List (List ℕ) → Receipt → Type 0
+StandsAt commits receipt = slice_get commits receipt.index ≡ Some receipt.commitment
+
+abbrev pub AllStand : List (List ℕ) → List Settled → Type 0
+AllStand commits settled = AllByRecursion (λ (s : Settled). StandsAt commits s.receipt) settled
+
+-- What is given for a ticket whose round is closed: the commitment of the receipt stands at its index among those of the
+-- records, and the tree leads to it.
+pub record Gives (records : List Record) (ticket : Ticket) (uri : List ℕ) (tree : List Token) (receipt : Receipt) : Type 0 where
+  pub stands : StandsAt (commits_of records) receipt
+  pub leads : LeadsTo ticket uri tree receipt
+
+-- A ticket that was put is withdrawn: it is gone, and the others are as before.
+pub record IsGone (before after : TicketsTold) (answer : Bool) : Type 0 where
+  pub yes : answer ≡ true
+  pub waiting : after.waiting ≡ before.waiting
+  pub settled : after.settled ≡ before.settled
+
+-- A ticket whose round is closed is given.
+pub record IsTaken (before after : TicketsTold) (answer : Taken) : Type 0 where
+  pub tree : List Token
+  pub receipt : Receipt
+  pub waiting : after.waiting ≡ before.waiting
+  pub given : answer ≡ taken.Settled tree receipt
+
 -- The values of its records are right, and so are they with the group in flight.
 pub record Keeps {D : Type 0} (journal : JournalTold D) (tree : TreeTold) : Type 0 where
   pub are_true : AreTrue (records_of journal.entries)
   pub flying : journal.is_sure ≡ false → AreTrue (records_of (journal.entries ++ journal.flight))
   pub over : IsOver (commits_of (records_of journal.entries)) tree
+
+-- The commitment of each settled ticket's receipt stands at its index. That its way leads there, the tickets keep.
+pub record KeepsBook {D : Type 0} (journal : JournalTold D) (tree : TreeTold) (tickets : TicketsTold) : Type 0 where
+  pub records : Keeps journal tree
+  pub settled : AllStand (commits_of (records_of journal.entries)) tickets.settled
 
 -- ---- calls that may write
 

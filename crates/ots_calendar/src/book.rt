@@ -1,4 +1,5 @@
 ghost use Rattle.std.specs.Prelude.{◌≡◌, ◌⊎◌, ◌<◌, ◌≤◌, ◌^◌, ◌+◌, ◌++◌, ◌∷◌, [], List, ℕ, true, false, length, Some, Err, IfOk, IfErr, IsErrOf, IfSome, OnOk, OnErr, MatchOption};
+ghost use Rattle.std.specs.List.{AllByRecursion};
 ghost use Rattle.ots_base.specs.Cause.{HasCause, HasCauseWhere};
 ghost use Rattle.ots_disk.specs.Disk.{LeavesOnly};
 ghost use Rattle.ots_journal.specs.Image.{Stands};
@@ -6,9 +7,9 @@ ghost use Rattle.ots_journal.specs.Journal.{StandsForEither, Refreshed, Unrefres
 ghost use Rattle.ots_store.specs.Order.{commits_of, tips_of, covered_of, records_of, HasSpan, FollowsTip};
 ghost use Rattle.ots_store.specs.Opening.{IfBad};
 ghost use Rattle.ots_store.specs.Records.{AnchorRecord, CommitRecord, entry_of, FitsTip};
-ghost use Rattle.ots_store.specs.Store.{Added, Adds};
-ghost use Rattle.ots_tickets.specs.Calls.{Takes, Withdraws};
-ghost use Rattle.ots_tickets.specs.Tickets.{IsNew};
+ghost use Rattle.ots_store.specs.Store.{Added, Adds, StoreStands};
+ghost use Rattle.ots_tickets.specs.Calls.{IfSettled, Takes, Withdraws};
+ghost use Rattle.ots_tickets.specs.Tickets.{IsNew, Leads, settles};
 ghost use Rattle.ots_tickets.specs.declared.tickets.TheConstants.{MAX_WAITING};
 ghost use Rattle.ots_calendar.specs.Rounds.{Closes};
 ghost use Rattle.ots_block.specs.Block.{txids};
@@ -16,7 +17,7 @@ ghost use Rattle.ots_block.specs.declared.limits.TheConstants.{MAX_COMPACT};
 ghost use Rattle.ots_merkle.specs.BlockTree.{block_root};
 ghost use Rattle.ots_calendar.specs.Anchors.{AnchorsIn, AsksAnchor, FindsAnchor, FindsNone, MayStand};
 ghost use Rattle.ots_calendar.specs.Answer.{answer};
-ghost use Rattle.ots_calendar.specs.Book.{StandsForBook, Stops};
+ghost use Rattle.ots_calendar.specs.Book.{AllStand, Gives, Grows, StandsForBook, Stops};
 ghost use Rattle.ots_calendar.specs.Tips.{AllCovered, IsNextTip, StoresTip, TipAfter, AsksTip};
 ghost use Rattle.ots_calendar.specs.Values.{AreTrue, FirstUntrue};
 
@@ -49,13 +50,13 @@ pub struct Book<D: Disk> {
 }
 
 impl<D: Disk> Model for Book<D> {
-    ghost use Rattle.ots_calendar.specs.Book.{BookTold, Keeps};
+    ghost use Rattle.ots_calendar.specs.Book.{BookTold, KeepsBook};
 
     ghost Value = { BookTold D };
 
     ghost view = { λ b. record { store = b.store; tickets = b.tickets } };
 
-    ghost invariant = { λ b. Keeps b.store.journal b.tree };
+    ghost invariant = { λ b. KeepsBook b.store.journal b.tree b.tickets };
 }
 
 impl<D: Disk> Book<D> {
@@ -102,6 +103,19 @@ impl<D: Disk> Book<D> {
         ensures { result.now ≡ self.now.store }
     {
         &self.store
+    }
+
+    /// What every book keeps. It does nothing.
+    pub fn stands(&self)
+        ensures store { StoreStands D.bytes D.images self.now.store }
+        ensures are_true { AreTrue self.now.store.records }
+        ensures settled { AllStand (commits_of self.now.store.records) self.now.tickets.settled }
+        ensures leading { AllByRecursion Leads self.now.tickets.settled }
+        ensures few { length self.now.tickets.waiting ≤ MAX_WAITING }
+    {
+        self.store.stands();
+        self.tickets.stands();
+        let _ = &self.tree;
     }
 
     /// The place of the closed gate behind the acknowledged entries.
@@ -160,8 +174,10 @@ impl<D: Disk> Book<D> {
     pub fn take(&mut self, ticket: &Ticket, uri: &Uri) -> Result<Taken, OutOfMemory>
         ensures store { self.new.store ≡ self.old.store }
         ensures takes { IfOk result (Takes ticket.now uri.now self.old.tickets self.new.tickets) }
+        ensures gives { IfOk result (λ taken. IfSettled taken (Gives self.new.store.records ticket.now uri.now)) }
         ensures err { OnErr result (self.new.tickets ≡ self.old.tickets) }
     {
+        self.store.stands();
         self.tickets.take(ticket, uri)
     }
 
@@ -181,6 +197,10 @@ impl<D: Disk> Book<D> {
     /// disk.
     pub fn close(&mut self, second: u32, key: &Key) -> Result<Option<u64>, AppendError>
         ensures closes { Closes D.bytes D.clock D.images_since key.now second self.old self.new result }
+        ensures grows { Grows self.old.store.journal self.new.store.journal }
+        ensures waiting { IfOk result (λ _. self.new.tickets.waiting ≡ []) }
+        ensures settled { IfOk result (λ index. IfSome index (λ i. self.new.tickets.settled ≡ self.old.tickets.settled ++ settles key.now second i self.old.tickets.waiting)) }
+        ensures refused { OnErr result ((self.new.tickets.waiting ≡ self.old.tickets.waiting) × (self.new.tickets.settled ≡ self.old.tickets.settled)) }
         ensures index { IfOk result (λ index. IfSome index (λ i. i + 1 ≡ length (commits_of self.new.store.records))) }
         ensures records { self.new.store.records ≡ records_of self.new.store.journal.entries }
         ensures acknowledged { IfOk result (λ index. IfSome index (λ _. (c : List ℕ) → D.images self.new.store.journal.disk c → Stands c self.new.store.journal.entries)) }
@@ -197,6 +217,7 @@ impl<D: Disk> Book<D> {
     /// none over these commitments is. `NothingNew` comes exactly where every commitment is covered.
     pub fn tip(&mut self) -> Result<Tip, TipError>
         ensures asks { AsksTip D.bytes D.clock D.images_since self.old.store.journal self.new.store.journal result }
+        ensures grows { Grows self.old.store.journal self.new.store.journal }
         ensures tickets { self.new.tickets ≡ self.old.tickets }
         ensures records { self.new.store.records ≡ records_of self.new.store.journal.entries }
         ensures acknowledged { OnOk result ((c : List ℕ) → D.images self.new.store.journal.disk c → Stands c self.new.store.journal.entries) }
@@ -225,6 +246,7 @@ impl<D: Disk> Book<D> {
         requires some { 1 ≤ length block.now.transactions }
         requires most { length block.now.transactions ≤ MAX_COMPACT }
         ensures asks { AsksAnchor D.bytes D.clock D.images_since block.now height self.old.store.journal self.new.store.journal result }
+        ensures grows { Grows self.old.store.journal self.new.store.journal }
         ensures tickets { self.new.tickets ≡ self.old.tickets }
         ensures records { self.new.store.records ≡ records_of self.new.store.journal.entries }
         ensures acknowledged { OnOk result ((c : List ℕ) → D.images self.new.store.journal.disk c → Stands c self.new.store.journal.entries) }

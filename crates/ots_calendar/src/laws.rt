@@ -1,5 +1,5 @@
 //! What the definitions say of a calendar's answers, beside what each call says.
-ghost use Rattle.std.specs.Prelude.{◌≡◌, ◌≤◌, ◌<◌, ◌+◌, ◌^◌, ◌++◌, ℕ, List, [], Some, find, length, slice_get};
+ghost use Rattle.std.specs.Prelude.{◌≡◌, ◌≤◌, ◌<◌, ◌+◌, ◌^◌, ◌++◌, ◌∷◌, ℕ, Bool, List, [], Some, find, length, slice_get};
 ghost use Rattle.std.specs.Prelude.{Option, Result};
 ghost use Rattle.ots_block.specs.Block.{Contents};
 ghost use Rattle.ots_journal.specs.Journal.{JournalTold};
@@ -7,7 +7,7 @@ ghost use Rattle.ots_journal.specs.declared.entry.Entry.{Entry};
 ghost use Rattle.ots_journal.specs.declared.errors.AppendError.{AppendError};
 ghost use Rattle.ots_store.specs.declared.tip.Tip.{Tip};
 ghost use Rattle.ots_calendar.specs.Anchors.{AsksAnchor};
-ghost use Rattle.ots_calendar.specs.Book.{BookTold, Grows};
+ghost use Rattle.ots_calendar.specs.Book.{BookTold, Grows, IsGone, IsTaken};
 ghost use Rattle.ots_calendar.specs.Rounds.{Closes};
 ghost use Rattle.ots_calendar.specs.Tips.{AsksTip};
 ghost use Rattle.ots_calendar.specs.declared.errors.AnchorError.{AnchorError};
@@ -20,6 +20,10 @@ ghost use Rattle.ots_store.specs.Order.{anchors_of, commits_of, covers, records_
 ghost use Rattle.ots_store.specs.Records.{Record};
 ghost use Rattle.ots_store.specs.Store.{InRecords};
 ghost use Rattle.ots_store.specs.declared.anchor.Anchor.{Anchor};
+ghost use Rattle.ots_tickets.specs.Calls.{Takes, Withdraws};
+ghost use Rattle.ots_tickets.specs.Tickets.{IsNew, TicketsTold, settles};
+ghost use Rattle.ots_tickets.specs.declared.settled.Settled.{Settled};
+ghost use Rattle.ots_tickets.specs.declared.tickets.Taken.{Taken};
 ghost use Rattle.ots_tree.specs.declared.token.Token.{Token};
 ghost use Rattle.ots_calendar.specs.Answer.{answer, answer_at, way_in};
 ghost use Rattle.ots_calendar.specs.Values.{AreTrue};
@@ -62,4 +66,14 @@ pub fn calls_grow<D: Disk>()
     ensures tip { (old new : JournalTold D) (result : Result Tip TipError) → AsksTip D.bytes D.clock D.images_since old new result → Grows old new }
     ensures anchor { (block : Contents) (height : ℕ) (old new : JournalTold D) (result : Result Anchor AnchorError)
         → AsksAnchor D.bytes D.clock D.images_since block height old new result → Grows old new }
+{}
+
+/// What becomes of a ticket that is put. Withdrawn, it leaves those that waited before it. Where the
+/// round over all that wait is closed, as it was put last, it is then given.
+pub fn one_ticket()
+    ensures withdrawn { (old mid new : TicketsTold) (ticket : Ticket) → IsNew ticket.number old → mid.waiting ≡ old.waiting ++ ticket ∷ [] → mid.settled ≡ old.settled
+        → (answer : Bool) → Withdraws ticket mid new answer → IsGone old new answer }
+    ensures taken { (key : List ℕ) (second index : ℕ) (waited : List Ticket) (before : List Settled) (closed new : TicketsTold) (ticket : Ticket) (uri : List ℕ)
+        → closed.settled ≡ before ++ settles key second index (waited ++ ticket ∷ [])
+        → (answer : Taken) → Takes ticket uri closed new answer → IsTaken closed new answer }
 {}

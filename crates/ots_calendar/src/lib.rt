@@ -14,7 +14,8 @@
 //!
 //! `tip` takes one hash for each 1 of the number of commitments that are not covered, written in
 //! base two, once the tree over them has caught up; after an anchor it is made anew. `ask` hashes
-//! all commitments that the anchor covers. `take` and `withdraw` walk over the tickets.
+//! all commitments that the anchor covers. `take` and `withdraw` search by the number, and walk over
+//! the tickets only for one that is not there.
 #![tactic(auto)]
 
 mod anchoring;
@@ -29,7 +30,7 @@ mod values;
 pub use answer::Answer;
 pub use book::Book;
 pub use errors::{AnchorError, RefusedBook, TipError};
-pub use laws::{answers_stay, calls_grow, cycle};
+pub use laws::{answers_stay, calls_grow, cycle, one_ticket};
 pub use ots_outside::{DigestLength, Leaf};
 pub use ots_round::{BadKey, Key, Receipt, Ticket, hmac_sha256};
 pub use ots_tickets::{MAX_WAITING, PutError, Taken};

@@ -3,12 +3,17 @@ use Rattle.std.proofs.Common.{◌≡◌, ℕ, zero, suc, ◌+◌, ◌<◌, Bool,
 use Rattle.std.proofs.lemmas.List.{take_more, take_more_set, map-append, drop-set-lt, drop-drop}
 use Rattle.std.proofs.lemmas.Option.{get_or_from_slice_get, slice_get-get_or}
 use Rattle.std.specs.List.{AllByRecursion}
+use Rattle.std.specs.Prelude.{slice_get}
 use Rattle.ots_merkle.specs.CalendarTree.{path}
+use Rattle.ots_merkle.proofs.PathLaws.{path_leads}
 use Rattle.ots_round.specs.declared.ticket.Ticket.{Ticket}
+use Rattle.ots_round.specs.Round.{leaves, round_commitment}
+use Rattle.ots_round.proofs.Leading.{leads_in_round}
 use Rattle.ots_tickets.specs.declared.settled.Settled.{Settled}
 use Rattle.ots_tickets.specs.Ready.{at_index}
 use Rattle.ots_tickets.specs.Search.{IsPlace}
-use Rattle.ots_tickets.specs.Tickets.{NoneIs, TakesOne, OneIs, settles_from}
+use Rattle.ots_tickets.specs.Numbers.{Fits}
+use Rattle.ots_tickets.specs.Tickets.{Leads, NoneIs, TakesOne, OneIs, settles_from, settles}
 
 all_push : {A : Type 0} (P : A → Type 0) (xs : List A) (x : A) → AllByRecursion P xs → P x → AllByRecursion P (xs ++ x ∷ [])
 all_push P [] x all one = (one, tt)
@@ -113,3 +118,30 @@ all_either P false xs ys one two = one
 pub below_index : (next index : ℕ) (xs : List Settled) → AllByRecursion (λ (x : Settled). x.ticket.number < next) xs → AllByRecursion (λ (x : Settled). x.ticket.number < next) (map (at_index index) xs)
 below_index next index [] all = tt
 below_index next index (x ∷ xs) all = (all.0, below_index next index xs all.1)
+
+-- ---- where their ways lead
+
+later : (all : List Ticket) (s : ℕ) (t : Ticket) (tickets : List Ticket) → ((i : ℕ) → slice_get all (s + i) ≡ slice_get (t ∷ tickets) i) → (i : ℕ) → slice_get all (suc s + i) ≡ slice_get tickets i
+later all s t tickets at i = ap (slice_get all) (let e : suc s + i ≡ s + suc i = omega arith in e) ∙ at (suc i)
+
+leads_from : (index : ℕ) (key : List ℕ) (second : ℕ) (all : List Ticket) (s : ℕ) (tickets : List Ticket) → ((i : ℕ) → slice_get all (s + i) ≡ slice_get tickets i) → AllByRecursion Fits tickets
+    → AllByRecursion Leads (settles_from index (round_commitment key second all) (leaves all) s tickets)
+leads_from index key second all s [] at fit = tt
+leads_from index key second all s (t ∷ tickets) at fit = (
+  leads_in_round key second all s t path_leads (fit.0).leaf (fit.0).nonce (ap (slice_get all) (let e : s ≡ s + 0 = omega arith in e) ∙ at 0),
+  leads_from index key second all (suc s) tickets (later all s t tickets at) fit.1,
+)
+
+-- each ticket of a round has a way that leads to its commitment
+pub settles_lead : (index : ℕ) (key : List ℕ) (second : ℕ) (tickets : List Ticket) → AllByRecursion Fits tickets → AllByRecursion Leads (settles key second index tickets)
+settles_lead index key second tickets fit = leads_from index key second tickets 0 tickets (λ i. ap (slice_get tickets) (let e : 0 + i ≡ i = omega arith in e)) fit
+
+pub lead_index : (index : ℕ) (xs : List Settled) → AllByRecursion Leads xs → AllByRecursion Leads (map (at_index index) xs)
+lead_index index [] all = tt
+lead_index index (x ∷ xs) all = (all.0, lead_index index xs all.1)
+
+-- what holds of all holds of one
+pub all_at : {A : Type 0} (P : A → Type 0) (xs : List A) (i : ℕ) (d : A) → i < length xs → AllByRecursion P xs → P (get_or xs i d)
+all_at P [] i d less all = absurd (omega arith)
+all_at P (x ∷ xs) zero d less all = all.0
+all_at P (x ∷ xs) (suc i) d less all = all_at P xs i d (omega arith) all.1

@@ -1,6 +1,10 @@
 -- What the calls on tickets do.
-use Rattle.std.specs.Prelude.{◌≡◌, ◌⊎◌, ℕ, Bool, true, false, List}
+use Rattle.std.specs.Prelude.{◌≡◌, ◌⊎◌, ℕ, Bool, true, false, List, ◌∷◌, Some}
 use Rattle.ots_attest.specs.declared.attestation.Attestation.TheVariants.{Pending}
+use Rattle.ots_ops.specs.Value.{value}
+use Rattle.ots_ops.specs.declared.op.Op.{Op}
+use Rattle.ots_ops.specs.declared.op.Op.TheVariants.{Append, Sha256}
+use Rattle.ots_round.specs.declared.ticket.Receipt.{Receipt}
 use Rattle.ots_round.specs.declared.ticket.Ticket.{Ticket}
 use Rattle.ots_round.specs.Round.{way}
 use Rattle.ots_tree.specs.Made.{lone}
@@ -27,6 +31,20 @@ Takes ticket uri old new answer =
     TakesSettled ticket uri old new answer
     ⊎ ((NoneIs (IsSettled ticket) old.settled × OneIs (Waits ticket) old.waiting × (new ≡ old) × (answer ≡ taken.Waiting))
     ⊎ (NoneIs (IsSettled ticket) old.settled × NoneIs (Waits ticket) old.waiting × (new ≡ old) × (answer ≡ taken.Unknown)))
+
+-- What is answered, where the ticket's round is closed.
+abbrev pub IfSettled : Taken → (List Token → Receipt → Type 0) → Type 0
+IfSettled (taken.Settled tree receipt) P = P tree receipt
+IfSettled taken.Waiting P = Unit {0}
+IfSettled taken.Unknown P = Unit {0}
+
+-- The tree is that of one path, which puts the ticket's nonce behind its digest, hashes that, leads to the receipt's
+-- commitment, and ends in a pending attestation of this URI.
+pub record LeadsTo (ticket : Ticket) (uri : List ℕ) (tree : List Token) (receipt : Receipt) : Type 0 where
+  -- the operations behind the first two
+  pub rest : List Op
+  pub tree_is : tree ≡ pre (lone (Append ticket.nonce ∷ Sha256 ∷ rest) (Pending uri))
+  pub leads : value (Append ticket.nonce ∷ Sha256 ∷ rest) ticket.leaf ≡ Some receipt.commitment
 
 pub record WithdrawsSettled (ticket : Ticket) (old new : TicketsTold) : Type 0 where
   pub one : Settled

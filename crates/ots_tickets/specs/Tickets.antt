@@ -1,9 +1,10 @@
 -- Tickets that wait, and tickets whose round is closed.
-use Rattle.std.specs.Prelude.{◌≡◌, ◌≢◌, ℕ, suc, List, [], ◌∷◌, ◌++◌}
+use Rattle.std.specs.Prelude.{◌≡◌, ◌≢◌, ℕ, suc, List, [], ◌∷◌, ◌++◌, Some}
 use Rattle.std.specs.List.{AllByRecursion}
 use Rattle.ots_merkle.specs.CalendarTree.{path}
+use Rattle.ots_ops.specs.Value.{value}
 use Rattle.ots_round.specs.declared.ticket.Ticket.{Ticket}
-use Rattle.ots_round.specs.Round.{leaves, round_commitment}
+use Rattle.ots_round.specs.Round.{leaves, round_commitment, way}
 use Rattle.ots_tickets.specs.declared.settled.Settled.{Settled}
 
 pub record TicketsTold : Type 0 where
@@ -27,6 +28,10 @@ settles_from index commitment leaves i (ticket ∷ tickets) =
 -- All tickets of a round that is closed.
 abbrev pub settles : List ℕ → ℕ → ℕ → List Ticket → List Settled
 settles key second index tickets = settles_from index (round_commitment key second tickets) (leaves tickets) 0 tickets
+
+-- The way of a settled ticket leads from its digest to the commitment of its receipt.
+abbrev pub Leads : Settled → Type 0
+Leads s = value (way s.ticket.nonce s.path s.receipt.commitment) s.ticket.leaf ≡ Some s.receipt.commitment
 
 -- ---- one ticket
 

@@ -1,7 +1,8 @@
 //! Tickets that wait, and tickets whose round is closed.
 ghost use Rattle.std.specs.Prelude.{◌≡◌, ◌≤◌, ◌<◌, ◌^◌, ◌++◌, ◌∷◌, [], ℕ, List, Err, IfOk, IfErr, OnOk, OnErr, IfSome, MatchOption, length, map};
-ghost use Rattle.ots_tickets.specs.Tickets.{IsNew};
-ghost use Rattle.ots_tickets.specs.Calls.{tree_of, Takes, Withdraws};
+ghost use Rattle.std.specs.List.{AllByRecursion};
+ghost use Rattle.ots_tickets.specs.Tickets.{IsNew, Leads};
+ghost use Rattle.ots_tickets.specs.Calls.{tree_of, IfSettled, LeadsTo, Takes, Withdraws};
 ghost use Rattle.ots_tickets.specs.Ready.{at_index, IsReady};
 
 use crate::rounds::{Ready, round_over, stored_at};
@@ -78,6 +79,14 @@ impl Tickets {
         }
     }
 
+    /// What all tickets keep. It does nothing.
+    pub fn stands(&self)
+        ensures few { length self.now.waiting ≤ MAX_WAITING }
+        ensures leading { AllByRecursion Leads self.now.settled }
+    {
+        let _ = &self.waiting;
+    }
+
     /// How many tickets wait.
     pub fn waiting(&self) -> u64
         ensures { result ≡ length self.now.waiting }
@@ -99,6 +108,8 @@ impl Tickets {
         if self.waiting.len() >= MAX_WAITING {
             return Err(PutError::Busy);
         }
+        // It has 1 to 64 bytes.
+        let _ = leaf.bytes();
         // Numbers run out as memory does, after 2^64 tickets.
         let Some(next) = self.next.checked_add(1) else {
             return Err(PutError::OutOfMemory);
@@ -150,6 +161,7 @@ impl Tickets {
     /// tickets are as before.
     pub fn take(&mut self, ticket: &Ticket, uri: &Uri) -> Result<Taken, OutOfMemory>
         ensures takes { IfOk result (Takes ticket.now uri.now self.old self.new) }
+        ensures leads { IfOk result (λ taken. IfSettled taken (LeadsTo ticket.now uri.now)) }
         ensures err { OnErr result (self.new ≡ self.old) }
     {
         match place_of_settled(&self.settled, ticket) {

@@ -1,16 +1,23 @@
 use Rattle.std.proofs.Common.{arith}
+use Rattle.ots_calendar.proofs.Growing.{adds}
 use Rattle.ots_calendar.proofs.Keeping.{adds_keeps, adds_readable}
+use Rattle.ots_calendar.proofs.Standing.{stand_grows}
 use Rattle.ots_calendar.proofs.book.Book.add_commit.Goals as goal
 
 pub invariant_of-self : goal.invariant_of-self
 invariant_of-self g c =
-    adds_keeps g.D.Disk.bytes g.D.Disk.images g.D.Disk.clock g.D.Disk.images_since c.self.inside.store c.add_commit.new.self.journal c.self.inside.tree c.args.commitment.now c.self.invariant c.stands.ensures
-    c.add_commit.result c.add_commit.ensures.adds
+    let d = g.D.Disk in
+    let s = c.self.inside.store in
+    let new = c.add_commit.new.self.journal in
+    record {
+      records = adds_keeps d.bytes d.images d.clock d.images_since s new c.self.inside.tree c.args.commitment.now c.self.invariant.records c.stands.ensures c.add_commit.result c.add_commit.ensures.adds;
+      settled = stand_grows s.journal new c.self.inside.tickets.settled (adds d.bytes d.clock d.images_since s.journal new _ c.add_commit.result c.add_commit.ensures.adds) c.self.invariant.settled;
+    }
 
 pub returns-clause-adds : goal.returns-clause-adds
 returns-clause-adds g c = rw (← c.self.view_is) c.add_commit.ensures.adds
 
 pub returns-clause-readable : goal.returns-clause-readable
 returns-clause-readable g c =
-    rw (← c.self.view_is) (adds_readable g.D.Disk.bytes g.D.Disk.images g.D.Disk.clock g.D.Disk.images_since c.self.inside.store c.add_commit.new.self.journal c.self.inside.tree c.args.commitment.now c.self.invariant c.stands.ensures
+    rw (← c.self.view_is) (adds_readable g.D.Disk.bytes g.D.Disk.images g.D.Disk.clock g.D.Disk.images_since c.self.inside.store c.add_commit.new.self.journal c.self.inside.tree c.args.commitment.now c.self.invariant.records c.stands.ensures
     c.add_commit.result (omega arith) c.add_commit.ensures.adds)

@@ -1,6 +1,7 @@
 use Rattle.std.proofs.Common.{inl, sym, subst}
 use Rattle.ots_calendar.specs.Anchors.{AnchorsIn}
 use Rattle.ots_calendar.specs.Book.{BookTold}
+use Rattle.ots_calendar.proofs.Growing.{anchor_grows}
 use Rattle.ots_calendar.proofs.book.Book.anchor.Goals as goal
 
 pub returns-clause-asks : goal.returns-clause-asks
@@ -13,3 +14,8 @@ returns-clause-asks g c =
           (subst (λ (b : BookTold g.row.D.Denot). AnchorsIn d.bytes d.clock d.images_since c.args.block.now c.args.height b.store.journal c.anchor_in-anchored.new.self.store.journal result) c.start.ensures.same
           c.anchor_in-anchored.ensures.asks),
     )
+
+pub returns-clause-grows : goal.returns-clause-grows
+returns-clause-grows g c =
+    let d = g.D.Disk in
+    anchor_grows d.bytes d.clock d.images_since c.args.block.now c.args.height c.args.self.now.store.journal c.next_tip.new.self.store.journal c.anchor_in-anchored.result (returns-clause-asks g c)

@@ -3,8 +3,9 @@ use Rattle.std.specs.List.{AllByRecursion}
 use Rattle.ots_round.specs.declared.ticket.Ticket.{Ticket}
 use Rattle.ots_round.specs.Round.{leaves, round_commitment}
 use Rattle.ots_tickets.specs.declared.settled.Settled.{Settled}
-use Rattle.ots_tickets.specs.Tickets.{TicketsTold}
-use Rattle.ots_tickets.proofs.Places.{settles_below, below_index, all_either}
+use Rattle.ots_tickets.specs.Numbers.{Fits}
+use Rattle.ots_tickets.specs.Tickets.{Leads, TicketsTold}
+use Rattle.ots_tickets.proofs.Places.{settles_below, below_index, all_either, settles_lead, lead_index}
 use Rattle.ots_tickets.proofs.tickets.Tickets.settle.Goals as goal
 
 pub invariant_of-self : goal.invariant_of-self
@@ -18,8 +19,13 @@ invariant_of-self c =
     subst (AllByRecursion Below) (sym same.2.settled_are) (settles_below next 0 (round_commitment same.0 same.1 waiting) (leaves waiting) 0 waiting below) in
     let stored : AllByRecursion Below c.stored_at-settled.result.items =
     subst (AllByRecursion Below) (sym c.stored_at-settled.ensures.items) (below_index next c.args.index c.args.made.settled.items made) in
+    let fit : AllByRecursion Fits waiting = subst (λ (x : TicketsTold). AllByRecursion Fits x.waiting) c.self.view_is c.self.invariant.waiting_fit in
+    let lead : AllByRecursion Leads c.args.made.settled.items = subst (AllByRecursion Leads) (sym same.2.settled_are) (settles_lead 0 same.0 same.1 waiting fit) in
+    let stored_lead : AllByRecursion Leads c.stored_at-settled.result.items = subst (AllByRecursion Leads) (sym c.stored_at-settled.ensures.items) (lead_index c.args.index c.args.made.settled.items lead) in
     record {
       few = omega (arith, ap length c.clear.ensures.items);
+      waiting_fit = subst (AllByRecursion Fits) (sym c.clear.ensures.items) tt;
+      leading = subst (AllByRecursion Leads) (sym c.append.ensures.items) (all_either Leads _ c.self.inside.settled.items c.stored_at-settled.result.items c.self.invariant.leading stored_lead);
       waiting_below = subst (AllByRecursion (λ (t : Ticket). t.number < next)) (sym c.clear.ensures.items) tt;
       settled_below = subst (AllByRecursion Below) (sym c.append.ensures.items) (all_either Below _ c.self.inside.settled.items c.stored_at-settled.result.items c.self.invariant.settled_below stored);
     }
