@@ -1,0 +1,5 @@
+mod Opened
+mod Running
+mod Tipping
+mod Listing
+mod Anchoring

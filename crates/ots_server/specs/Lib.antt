@@ -1,0 +1,9 @@
+pub mod Anchor
+pub mod Answer
+pub mod Ending
+pub mod Found
+pub mod List
+pub mod Moments
+pub mod Printed
+pub mod Task
+pub mod Tip
