@@ -3,3 +3,4 @@ mod Running
 mod Tipping
 mod Listing
 mod Anchoring
+mod Inputs

@@ -2,6 +2,7 @@
 use Rattle.std.proofs.Common.{◌≡◌, ◌≤◌, inl, inr, ℕ, List, [], ◌∷◌, ◌++◌, length, Option, Some, None, refl, sym, ap, subst, ◌∙◌, arith}
 use Rattle.ots_base.specs.Cause.{Rose}
 use Rattle.ots_base.specs.Told.{IfTold}
+use Rattle.ots_block.specs.Block.{Contents}
 use Rattle.ots_disk.specs.Disk.{LeavesOnly}
 use Rattle.ots_disk.specs.Moments.{joined, started, weaker}
 use Rattle.ots_journal.specs.declared.entry.Entry.{Entry}
@@ -20,6 +21,9 @@ use Rattle.ots_server.specs.Task.{TaskAdds, TaskAnswers}
 use Rattle.ots_server.specs.Tip.{TipAnswers}
 use Rattle.ots_server.specs.Answer.{Answers, IsUsage, ListAnswers, MayAdd, WithBook, is_opened, is_refused as not_opened}
 use Rattle.ots_server.specs.Ending.{Comes, as_defined, not_read, disk_failed, no_memory, Ending, Ends, done, nowhere, refused}
+use Rattle.ots_outside.specs.Shelf.{Names, ShelfFaults, ShelfTold}
+use Rattle.ots_server.specs.Anchor.{AnchorAnswers}
+use Rattle.ots_server.specs.Files.{ReadsShelf, StopsAt, names_read}
 use Rattle.ots_server.specs.Found.{AreEntries, Closes, HasBook, MayClose, is_refused, disk_failed as failed, no_memory as no_room, OpensBook, RefusesBook}
 use Rattle.ots_server.specs.Moments.{IsOnlyImage, OpenedOrRan, StandsWith}
 use Rattle.ots_server.specs.Printed.{PrintsLast}
@@ -86,6 +90,12 @@ pub tip_within : (limit most gate : ℕ) (entries : List Entry) (disk : Type 0) 
     → Ends (Comes (TipAnswers limit gate entries) nowhere disk) images printing taken now r → Ends (Comes (TipAnswers most gate entries) nowhere disk) images printing taken now r
 tip_within limit most gate entries disk images printing taken now r is h = subst (λ (z : ℕ). Ends (Comes (TipAnswers z gate entries) nowhere disk) images printing taken now r) is h
 
+pub anchor_within : (limit most : ℕ) (block : Contents) (height gate : ℕ) (entries : List Entry) (disk : Type 0) (images : List ℕ → Type 0) (printing : Type 0) (taken now : Option (List ℕ)) (r : DaemonStatus) → limit ≡ most
+    → Ends (Comes (AnchorAnswers limit block height gate entries) nowhere disk) images printing taken now r
+    → Ends (Comes (AnchorAnswers most block height gate entries) nowhere disk) images printing taken now r
+anchor_within limit most block height gate entries disk images printing taken now r is h =
+    subst (λ (z : ℕ). Ends (Comes (AnchorAnswers z block height gate entries) nowhere disk) images printing taken now r) is h
+
 pub list_ends : (gate : ℕ) (entries listed : List Entry) (disk : Type 0) (images : List ℕ → Type 0) (printing : Type 0) (taken now : Option (List ℕ)) (r : DaemonStatus) → listed ≡ entries
     → ((c : List ℕ) → images c → Stands c entries) → PrintsLast printing Done (list_text (records_of listed)) taken now r
     → Ends (Comes (ListAnswers gate entries) nowhere disk) images printing taken now r
@@ -98,15 +108,25 @@ list_ends gate entries listed disk images printing taken now r is stand printed 
 
 -- ---- by what the words ask for
 
-module _ (told : Option (List ℕ)) (o p : Option Command) (is : o ≡ p) where
-  pub asked_ends : (disk : Type 0) (images : List ℕ → Type 0) (printing : Type 0) (taken now : Option (List ℕ)) (r : DaemonStatus)
-      → Ends (Comes (Answers told p) nowhere disk) images printing taken now r → Ends (Comes (Answers told o) nowhere disk) images printing taken now r
-  asked_ends disk images printing taken now r h = subst (λ (z : Option Command). Ends (Comes (Answers told z) nowhere disk) images printing taken now r) (sym is) h
+module _ (names : Option Names) (told : Option (List ℕ)) (o p : Option Command) (is : o ≡ p) where
+  pub asked_ends : (stops : List ℕ → Type 0) (disk : Type 0) (images : List ℕ → Type 0) (printing : Type 0) (taken now : Option (List ℕ)) (r : DaemonStatus)
+      → Ends (Comes (Answers names told p) stops disk) images printing taken now r → Ends (Comes (Answers names told o) stops disk) images printing taken now r
+  asked_ends stops disk images printing taken now r h = subst (λ (z : Option Command). Ends (Comes (Answers names told z) stops disk) images printing taken now r) (sym is) h
+
+  pub asked_reads : (old new : Option (List (List ℕ))) (before after : ShelfFaults) (disk : Type 0) (images : List ℕ → Type 0) (printing : Type 0) (taken now : Option (List ℕ)) (r : DaemonStatus)
+      → Ends (Comes (Answers names told p) (StopsAt (names_read p) old new before after) disk) images printing taken now r
+      → Ends (Comes (Answers names told o) (StopsAt (names_read o) old new before after) disk) images printing taken now r
+  asked_reads old new before after disk images printing taken now r h =
+      subst (λ (z : Option Command). Ends (Comes (Answers names told z) (StopsAt (names_read z) old new before after) disk) images printing taken now r) (sym is) h
 
   pub asked_moments : {D : Type 0} (clock : D → ℕ) (images_since : D → ℕ → List ℕ → Type 0) (images : List ℕ → Type 0) (old new : D)
-      → LeavesOnly clock images_since old new (OpenedOrRan told images (MayAdd p)) → LeavesOnly clock images_since old new (OpenedOrRan told images (MayAdd o))
+      → LeavesOnly clock images_since old new (OpenedOrRan told images (MayAdd names p)) → LeavesOnly clock images_since old new (OpenedOrRan told images (MayAdd names o))
   asked_moments clock images_since images old new h =
-      subst (λ (z : Option Command). LeavesOnly clock images_since old new (OpenedOrRan told images (MayAdd z))) (sym is) h
+      subst (λ (z : Option Command). LeavesOnly clock images_since old new (OpenedOrRan told images (MayAdd names z))) (sym is) h
+
+pub asked_shelf : (o p : Option Command) → o ≡ p → (old new : ShelfTold) (before after : ShelfFaults) (r : DaemonStatus)
+    → ReadsShelf (names_read p) old new before after r → ReadsShelf (names_read o) old new before after r
+asked_shelf o p is old new before after r h = subst (λ (z : Option Command). ReadsShelf (names_read z) old new before after r) (sym is) h
 
 -- the disk was not called
 pub idle_moments : {D : Type 0} (clock : D → ℕ) (images_since : D → ℕ → List ℕ → Type 0) (told : Option (List ℕ)) (images : List ℕ → Type 0) (adds : List Entry → List Entry → Type 0) (old new : D)

@@ -1,6 +1,7 @@
 pub mod Anchor
 pub mod Answer
 pub mod Ending
+pub mod Files
 pub mod Found
 pub mod List
 pub mod Moments

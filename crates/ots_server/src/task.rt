@@ -8,12 +8,14 @@ ghost use Rattle.ots_server.specs.Answer.{WithBook};
 ghost use Rattle.ots_server.specs.Ending.{Comes, Ends, nowhere};
 ghost use Rattle.ots_server.specs.Moments.{OpenedOrRan, StandsWith};
 ghost use Rattle.ots_server.specs.Printed.{SinkStays};
-ghost use Rattle.ots_server.specs.Task.{TaskAdds, TaskAnswers};
+ghost use Rattle.ots_server.specs.Task.{Fits, TaskAdds, TaskAnswers};
 
+use crate::anchor::anchor;
 use crate::list::list;
 use crate::opening::open_book;
 use crate::printing::refuse;
 use crate::tip::tip;
+use ots_block::Block;
 use ots_calendar::Book;
 use ots_disk::Disk;
 use ots_outside::Sink;
@@ -27,6 +29,8 @@ pub enum Task {
     Tip,
     /// The records are printed.
     List,
+    /// A tip is anchored in this block, at this height, and that is printed.
+    Anchor(Block, u64),
 }
 
 /// Opens the book on a disk, and does a task on it.
@@ -36,6 +40,7 @@ pub fn run_task<D: Disk, K: Sink>(
     disk: D,
     out: &mut K,
 ) -> (DaemonStatus, D)
+    requires { Fits task }
     ensures ends { Ends (Comes (WithBook (D.bytes disk) (TaskAnswers task)) nowhere (Rose (D.faults disk) (D.faults result.1)))
         (D.images result.1) (Rose (K.faults out.old) (K.faults out.new)) (K.taken out.old) (K.taken out.new) result.0 }
     ensures moments { LeavesOnly D.clock D.images_since disk result.1 (OpenedOrRan (D.bytes disk) (D.images disk) (TaskAdds task)) }
@@ -57,6 +62,7 @@ pub fn run_task<D: Disk, K: Sink>(
 
 /// Does a task on a sure book.
 fn do_task<D: Disk, K: Sink>(task: Task, book: &mut Book<D>, out: &mut K) -> DaemonStatus
+    requires fits { Fits task }
     requires sure { book.old.store.journal.is_sure ≡ true }
     requires limit { book.old.store.journal.limit ≡ MAX_JOURNAL }
     requires stands { (c : List ℕ) → D.images book.old.store.journal.disk c → Stands c book.old.store.journal.entries }
@@ -73,5 +79,6 @@ fn do_task<D: Disk, K: Sink>(task: Task, book: &mut Book<D>, out: &mut K) -> Dae
             let status = list(book.store(), out);
             status
         }
+        Task::Anchor(block, height) => anchor(&block, height, book, out),
     }
 }
