@@ -1,0 +1,6 @@
+mod Opened
+mod Running
+mod Tipping
+mod Listing
+mod Anchoring
+mod Inputs

@@ -1,0 +1,68 @@
+-- What opening the journal comes to.
+use Rattle.std.proofs.Common.{◌≡◌, ◌≤◌, true, inl, inr, ℕ, List, [], Option, refl, sym, subst, ◌∙◌}
+use Rattle.ots_base.specs.Cause.{Rose}
+use Rattle.ots_disk.specs.Disk.{LeavesOnly}
+use Rattle.ots_journal.specs.Image.{Stands}
+use Rattle.ots_journal.specs.Journal.{JournalTold}
+use Rattle.ots_store.specs.Records.{Record}
+use Rattle.ots_store.specs.Store.{InRecords}
+use Rattle.ots_base.specs.Told.{IfTold}
+use Rattle.ots_journal.specs.declared.entry.Entry.{Entry}
+use Rattle.ots_journal.specs.declared.errors.JournalError.{JournalError}
+use Rattle.ots_journal.specs.declared.errors.JournalError.TheVariants as why
+use Rattle.ots_journal.specs.declared.limits.TheConstants.{MAX_JOURNAL}
+use Rattle.ots_journal.specs.Opening.{OpenedFrom, Refuses}
+use Rattle.ots_store.specs.declared.errors.StoreError.{StoreError}
+use Rattle.ots_store.specs.declared.errors.StoreError.TheVariants as store
+use Rattle.ots_store.specs.Opening.{IfBad}
+use Rattle.ots_store.specs.Order.{FirstBad, records_of}
+use Rattle.ots_calendar.specs.Values.{FirstUntrue}
+use Rattle.ots_server_text.specs.declared.status.DaemonStatus.{DaemonStatus}
+use Rattle.ots_server.specs.Found.{AreEntries, Closes, Opens, HasRecords, MayClose, is_refused, disk_failed, no_memory, RefusesBook, RefusesStore, journal_status, store_status}
+
+module _ (told : Option (List ℕ)) (disk : Type 0) where
+  pub journal_closes : (e : JournalError) → IfTold told (λ bytes. Refuses MAX_JOURNAL bytes e) → (e ≡ why.DiskFault → disk) → MayClose (RefusesStore told) disk (journal_status e)
+  journal_closes why.DiskFault r rose = disk_failed (rose refl) refl
+  journal_closes (why.Full need limit) r rose = is_refused (inl (record { why = why.Full need limit; is_of_file = tt; refuses = r; status = refl }))
+  journal_closes why.OldVersion r rose = is_refused (inl (record { why = why.OldVersion; is_of_file = tt; refuses = r; status = refl }))
+  journal_closes why.NotAJournal r rose = is_refused (inl (record { why = why.NotAJournal; is_of_file = tt; refuses = r; status = refl }))
+  journal_closes (why.Damaged place) r rose = is_refused (inl (record { why = why.Damaged place; is_of_file = tt; refuses = r; status = refl }))
+  journal_closes why.OutOfMemory r rose = no_memory refl
+
+  pub store_closes : (entries : List Entry) (e : StoreError) → AreEntries told entries → IfBad e (FirstBad [] entries) → MayClose (RefusesStore told) disk (store_status e)
+  store_closes entries (store.BadRecord i) stand bad = is_refused (inr (record { entries = entries; stand = stand; index = i; bad = bad; status = refl }))
+  store_closes entries store.OutOfMemory stand bad = no_memory refl
+
+  pub book_closes : (entries : List Entry) (e : StoreError) → HasRecords told entries → IfBad e (FirstUntrue (records_of entries)) → MayClose (RefusesBook told) disk (store_status e)
+  book_closes entries (store.BadRecord i) has untrue = is_refused (inr (record { entries = entries; has = has; index = i; untrue = untrue; status = refl }))
+  book_closes entries store.OutOfMemory has untrue = no_memory refl
+
+  pub as_book : (s : DaemonStatus) → MayClose (RefusesStore told) disk s → MayClose (RefusesBook told) disk s
+  as_book s (is_refused r) = is_refused (inl r)
+  as_book s (disk_failed rose is) = disk_failed rose is
+  as_book s (no_memory is) = no_memory is
+
+module _ {D : Type 0} (bytes : D → Option (List ℕ)) (faults clock : D → ℕ) (images : D → List ℕ → Type 0) (images_since : D → ℕ → List ℕ → Type 0) (disk : D) where
+  -- the store of a journal that was opened
+  pub store_opened : (j k : JournalTold D) → k ≡ j → j.is_sure ≡ true → j.limit ≡ MAX_JOURNAL → AreEntries (bytes disk) j.entries
+      → ((c : List ℕ) → images j.disk c → Stands c j.entries) → LeavesOnly clock images_since disk j.disk (OpenedFrom (images disk)) → faults disk ≤ faults j.disk → InRecords j.entries
+      → Opens bytes faults clock images images_since disk k
+  store_opened j k same sure limit stand each moments later are = subst (Opens bytes faults clock images images_since disk) (sym same) (record {
+    sure = sure;
+    limit = limit;
+    has = record { stand = stand; records = are };
+    each = each;
+    moments = moments;
+    later = later;
+  })
+
+  -- a store that is no book
+  pub book_refused : (j : JournalTold D) (records : List Record) (e : StoreError) (new : D) (s : DaemonStatus) → Opens bytes faults clock images images_since disk j → records ≡ records_of j.entries
+      → IfBad e (FirstUntrue records) → new ≡ j.disk → s ≡ store_status e → Closes bytes faults clock images images_since RefusesBook disk new s
+  book_refused j records e new s opens are bad same is =
+      subst (λ (z : D). Closes bytes faults clock images images_since RefusesBook disk z s) (sym same)
+      (subst (λ (z : DaemonStatus). Closes bytes faults clock images images_since RefusesBook disk j.disk z) (sym is) (record {
+        why = book_closes (bytes disk) (Rose (faults disk) (faults j.disk)) j.entries e opens.has (subst (λ (z : List Record). IfBad e (FirstUntrue z)) are bad);
+        moments = opens.moments;
+        later = opens.later;
+      }))

@@ -1,0 +1,27 @@
+use Rattle.std.specs.Prelude.{Ok, Err}
+use Rattle.ots_server.proofs.Inputs.{block_given, block_moments, block_stops, reads_given, reads_refused}
+use Rattle.ots_server.proofs.Running.{idle_moments, uncalled}
+use Rattle.ots_server.proofs.run.run_anchor.Goals as goal
+
+pub run_task-requires : goal.run_task-requires
+run_task-requires g c =
+    let is = c.in-Ok.ensures.answer.2 in
+    (c.args.asked.height_small, is.some, is.transactions.most)
+
+pub returns-in-Ok-clause-ends : goal.returns-in-Ok-clause-ends
+returns-in-Ok-clause-ends g c = block_given _ _ _ _ _ _ _ _ _ _ c.in-Ok.block c.in-Ok.ensures.answer c.run_task.ensures.ends
+
+pub returns-in-Ok-clause-moments : goal.returns-in-Ok-clause-moments
+returns-in-Ok-clause-moments g c = block_moments g.D.Disk.clock g.D.Disk.images_since _ _ _ _ _ _ _ c.in-Ok.block c.in-Ok.ensures.answer c.run_task.ensures.moments
+
+pub returns-in-Ok-clause-shelf : goal.returns-in-Ok-clause-shelf
+returns-in-Ok-clause-shelf g c = reads_given c.in-Ok.block _ c.in-Ok.ensures
+
+pub returns-in-Err-clause-ends : goal.returns-in-Err-clause-ends
+returns-in-Err-clause-ends g c = block_stops _ _ _ _ _ _ _ _ _ _ _ _ _ c.in-Err.stop c.in-Err.ensures.answer c.refuse_input-status.ensures.printed
+
+pub returns-in-Err-clause-moments : goal.returns-in-Err-clause-moments
+returns-in-Err-clause-moments g c = idle_moments g.D.Disk.clock g.D.Disk.images_since _ _ _ _ _ (uncalled g.D.Disk.clock g.D.Disk.images g.D.Disk.images_since g.met.D.Disk.only_now c.args.disk)
+
+pub returns-in-Err-clause-shelf : goal.returns-in-Err-clause-shelf
+returns-in-Err-clause-shelf g c = reads_refused c.in-Err.stop _ c.refuse_input-status.ensures.memory c.in-Err.ensures

@@ -1,0 +1,10 @@
+pub mod Anchor
+pub mod Answer
+pub mod Ending
+pub mod Files
+pub mod Found
+pub mod List
+pub mod Moments
+pub mod Printed
+pub mod Task
+pub mod Tip

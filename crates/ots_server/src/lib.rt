@@ -1,0 +1,17 @@
+//! The calendar `otsd`: what its words, the files, the disk and the sink make it do, proved, so that
+//! the program only makes the real objects and calls it.
+//!
+//! [`run_calendar`] reads the words, then the files that they name, then opens the journal, and then
+//! the command asks the book and prints. What is refused before the journal is opened calls no disk.
+#![tactic(auto)]
+
+mod anchor;
+mod list;
+mod opening;
+mod printing;
+mod run;
+mod task;
+mod tip;
+
+pub use ots_server_text::DaemonStatus;
+pub use run::{Returned, run_calendar};

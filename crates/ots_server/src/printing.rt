@@ -1,0 +1,73 @@
+//! Printing, with which each run ends.
+ghost use Rattle.std.specs.Prelude.{◌≡◌, [], false, MatchResult};
+ghost use Rattle.ots_base.specs.Cause.{Rose};
+ghost use Rattle.ots_outside.specs.Streams.{Takes, TakesFront};
+ghost use Rattle.ots_printer.specs.Printing.{Puts};
+ghost use Rattle.ots_server_text.specs.Refusal.{refusal_text};
+ghost use Rattle.ots_server.specs.Printed.{PrintsLast, SinkStays, text_of};
+
+use ots_outside::{Failed, Sink};
+use ots_printer::Printer;
+use ots_server_text::{DaemonStatus, put_anchored, put_refusal, put_tip};
+use ots_store::Tip;
+
+/// A text with which a run ends, but for those that are long.
+#[derive(Clone, Copy)]
+pub enum Text<'a> {
+    /// The line of the run's status, a refusal over this name.
+    Refusal(&'a str),
+    /// The line of a tip.
+    Tip(Tip),
+    /// The line of an anchor that was stored: its first index, its count, and the block's height.
+    Anchored(u64, u64, u64),
+}
+
+/// Prints the line of a refusal over a name, with which a run ends.
+pub fn refuse<K: Sink>(name: &str, status: DaemonStatus, out: &mut K) -> DaemonStatus
+    ensures printed { PrintsLast (Rose (K.faults out.old) (K.faults out.new)) status (refusal_text name.now status) (K.taken out.old) (K.taken out.new) result }
+    ensures sink { SinkStays K.faults K.same out.old out.new }
+{
+    print(&Text::Refusal(name), status, out)
+}
+
+/// Prints a text, with which a run ends that has this status.
+pub fn print<K: Sink>(text: &Text<'_>, status: DaemonStatus, out: &mut K) -> DaemonStatus
+    ensures printed { PrintsLast (Rose (K.faults out.old) (K.faults out.new)) status (text_of status text.now) (K.taken out.old) (K.taken out.new) result }
+    ensures sink { SinkStays K.faults K.same out.old out.new }
+{
+    match put_whole(text, &status, &mut Printer::new(out)) {
+        Ok(()) => status,
+        Err(Failed) => DaemonStatus::WriteFault,
+    }
+}
+
+/// Puts a text on a new printer, and finishes it.
+fn put_whole<K: Sink>(
+    text: &Text<'_>,
+    status: &DaemonStatus,
+    out: &mut Printer<'_, K>,
+) -> Result<(), Failed>
+    requires empty { out.old.held ≡ [] }
+    requires good { out.old.failed ≡ false }
+    ensures loan { out.new.sink.ghost_name ≡ out.old.sink.ghost_name }
+    ensures printed { MatchResult result (λ _. Takes (K.taken out.old.sink.now) (K.taken out.new.sink.now) (text_of status.now text.now))
+        (λ _. Rose (K.faults out.old.sink.now) (K.faults out.new.sink.now) × TakesFront (K.taken out.old.sink.now) (K.taken out.new.sink.now) (text_of status.now text.now)) }
+    ensures sink { SinkStays K.faults K.same out.old.sink.now out.new.sink.now }
+{
+    put_text(text, status, out);
+    match out.finish() {
+        Ok(()) => Ok(()),
+        Err(Failed) => Err(Failed),
+    }
+}
+
+/// Puts a text.
+fn put_text<K: Sink>(text: &Text<'_>, status: &DaemonStatus, out: &mut Printer<'_, K>)
+    ensures { Puts K.taken K.faults K.same (text_of status.now text.now) out.old out.new }
+{
+    match text {
+        Text::Refusal(name) => put_refusal(name, status, out),
+        Text::Tip(tip) => put_tip(tip.first, tip.count, &tip.root, out),
+        Text::Anchored(first, count, height) => put_anchored(*first, *count, *height, out),
+    }
+}

@@ -1,0 +1,173 @@
+//! The top call.
+ghost use Rattle.std.specs.Prelude.{◌≡◌, ◌≤◌, ◌∷◌, List, ℕ, [], Some};
+ghost use Rattle.ots_base.specs.Cause.{Rose};
+ghost use Rattle.ots_base.specs.Told.{IfTold};
+ghost use Rattle.ots_disk.specs.Disk.{LeavesOnly};
+ghost use Rattle.ots_journal.specs.declared.entry.Entry.{Entry};
+ghost use Rattle.ots_journal.specs.Opening.{OpenedFrom};
+ghost use Rattle.ots_server_text.specs.Refusal.{refusal_text};
+ghost use Rattle.ots_server_words.specs.Words.{anchor, asked, read_anchoring, read_as};
+ghost use Rattle.ots_server.specs.Answer.{Answers, IsUsage, MayAdd};
+ghost use Rattle.ots_server.specs.Files.{ReadsShelf, StopsAt, names_read};
+ghost use Rattle.ots_server.specs.Ending.{Comes, Ends, nowhere};
+ghost use Rattle.ots_server.specs.Moments.{IsOnlyImage, OpenedOrRan, StandsWith};
+ghost use Rattle.ots_server.specs.Printed.{PrintsLast, SinkStays};
+
+use crate::printing::refuse;
+use crate::task::{Task, run_task};
+use ots_disk::Disk;
+use ots_outside::{Accepter, Clock, Nonces, Shelf, Sink};
+use ots_server_inputs::{Stop, read_block};
+use ots_server_text::DaemonStatus;
+use ots_server_words::{Anchoring, Command, WordsError, read_words};
+use std::alloc::Global;
+
+/// What is handed back where a run ends.
+#[derive(Drop)]
+pub struct Returned<D, A, N> {
+    pub disk: D,
+    pub accepter: A,
+    pub nonces: N,
+}
+
+/// Does what the words behind the program's name ask for, prints on the sink, and answers how it
+/// ended. [`DaemonStatus`] says when each status comes; where several of them could, the first in
+/// this order does: the words, the calendar's address, the files, the journal, the command. Each has
+/// one line, or the command's text, but want of memory and a sink that failed.
+///
+/// The first word names the journal, which is the disk that is handed in. A command that is refused
+/// before the journal is opened leaves the disk as it was.
+pub fn run_calendar<D: Disk, S: Shelf, K: Sink, A: Accepter, C: Clock + Drop, N: Nonces>(
+    alloc: Global,
+    words: &[String],
+    disk: D,
+    shelf: &mut S,
+    out: &mut K,
+    accepter: A,
+    clock: C,
+    nonces: N,
+) -> (DaemonStatus, Returned<D, A, N>)
+    requires { IfTold (A.returned accepter) (λ links. links ≡ []) }
+    ensures ends { Ends (Comes (Answers (S.told shelf.old).names (D.bytes disk) (asked words.now))
+        (StopsAt (names_read (asked words.now)) (S.told shelf.old).opened (S.told shelf.new).opened (S.faults shelf.old) (S.faults shelf.new)) (Rose (D.faults disk) (D.faults result.1.disk)))
+        (D.images result.1.disk) (Rose (K.faults out.old) (K.faults out.new)) (K.taken out.old) (K.taken out.new) result.0 }
+    ensures crash { (entries : List Entry) → IsOnlyImage (D.bytes disk) (D.images disk) entries
+        → LeavesOnly D.clock D.images_since disk result.1.disk (StandsWith (MayAdd (S.told shelf.old).names (asked words.now) entries) entries) }
+    ensures later { D.faults disk ≤ D.faults result.1.disk }
+    ensures shelf { ReadsShelf (names_read (asked words.now)) (S.told shelf.old) (S.told shelf.new) (S.faults shelf.old) (S.faults shelf.new) result.0 }
+    ensures accepter { result.1.accepter ≡ accepter }
+    ensures nonces { result.1.nonces ≡ nonces }
+    ensures out_faults { K.faults out.old ≤ K.faults out.new }
+    ensures same { K.same out.old out.new }
+{
+    let (status, disk) = run_words(alloc, words, disk, shelf, out);
+    (
+        status,
+        Returned {
+            disk,
+            accepter,
+            nonces,
+        },
+    )
+}
+
+/// Does what the words ask for.
+fn run_words<D: Disk, S: Shelf, K: Sink>(
+    alloc: Global,
+    words: &[String],
+    disk: D,
+    shelf: &mut S,
+    out: &mut K,
+) -> (DaemonStatus, D)
+    ensures ends { Ends (Comes (Answers (S.told shelf.old).names (D.bytes disk) (asked words.now))
+        (StopsAt (names_read (asked words.now)) (S.told shelf.old).opened (S.told shelf.new).opened (S.faults shelf.old) (S.faults shelf.new)) (Rose (D.faults disk) (D.faults result.1)))
+        (D.images result.1) (Rose (K.faults out.old) (K.faults out.new)) (K.taken out.old) (K.taken out.new) result.0 }
+    ensures moments { LeavesOnly D.clock D.images_since disk result.1 (OpenedOrRan (D.bytes disk) (D.images disk) (MayAdd (S.told shelf.old).names (asked words.now))) }
+    ensures later { D.faults disk ≤ D.faults result.1 }
+    ensures shelf { ReadsShelf (names_read (asked words.now)) (S.told shelf.old) (S.told shelf.new) (S.faults shelf.old) (S.faults shelf.new) result.0 }
+    ensures sink { SinkStays K.faults K.same out.old out.new }
+{
+    match read_words(alloc, words) {
+        Ok(command) => run_command(alloc, command, disk, shelf, out),
+        Err(WordsError::Usage) => refuse_words(disk, out),
+        Err(WordsError::OutOfMemory) => {
+            let status = refuse("", DaemonStatus::OutOfMemory, out);
+            (status, disk)
+        }
+    }
+}
+
+/// Does a command.
+fn run_command<D: Disk, S: Shelf, K: Sink>(
+    alloc: Global,
+    command: Command<'_>,
+    disk: D,
+    shelf: &mut S,
+    out: &mut K,
+) -> (DaemonStatus, D)
+    ensures ends { Ends (Comes (Answers (S.told shelf.old).names (D.bytes disk) (Some (read_as command.entry)))
+        (StopsAt (names_read (Some (read_as command.entry))) (S.told shelf.old).opened (S.told shelf.new).opened (S.faults shelf.old) (S.faults shelf.new)) (Rose (D.faults disk) (D.faults result.1)))
+        (D.images result.1) (Rose (K.faults out.old) (K.faults out.new)) (K.taken out.old) (K.taken out.new) result.0 }
+    ensures moments { LeavesOnly D.clock D.images_since disk result.1 (OpenedOrRan (D.bytes disk) (D.images disk) (MayAdd (S.told shelf.old).names (Some (read_as command.entry)))) }
+    ensures later { D.faults disk ≤ D.faults result.1 }
+    ensures shelf { ReadsShelf (names_read (Some (read_as command.entry))) (S.told shelf.old) (S.told shelf.new) (S.faults shelf.old) (S.faults shelf.new) result.0 }
+    ensures sink { SinkStays K.faults K.same out.old out.new }
+{
+    match command {
+        Command::Tip => run_task(alloc, Task::Tip, disk, out),
+        Command::List => run_task(alloc, Task::List, disk, out),
+        Command::Serve(_) => refuse_words(disk, out),
+        Command::Batch(_) => refuse_words(disk, out),
+        Command::Anchor(asked) => run_anchor(alloc, asked, disk, shelf, out),
+        Command::Migrate(_) => refuse_words(disk, out),
+    }
+}
+
+/// Reads a block and anchors a tip in it.
+fn run_anchor<D: Disk, S: Shelf, K: Sink>(
+    alloc: Global,
+    asked: Anchoring<'_>,
+    disk: D,
+    shelf: &mut S,
+    out: &mut K,
+) -> (DaemonStatus, D)
+    ensures ends { Ends (Comes (Answers (S.told shelf.old).names (D.bytes disk) (Some (anchor (read_anchoring asked.entry))))
+        (StopsAt (asked.entry.block.now ∷ []) (S.told shelf.old).opened (S.told shelf.new).opened (S.faults shelf.old) (S.faults shelf.new)) (Rose (D.faults disk) (D.faults result.1)))
+        (D.images result.1) (Rose (K.faults out.old) (K.faults out.new)) (K.taken out.old) (K.taken out.new) result.0 }
+    ensures moments { LeavesOnly D.clock D.images_since disk result.1 (OpenedOrRan (D.bytes disk) (D.images disk) (MayAdd (S.told shelf.old).names (Some (anchor (read_anchoring asked.entry))))) }
+    ensures later { D.faults disk ≤ D.faults result.1 }
+    ensures shelf { ReadsShelf (asked.entry.block.now ∷ []) (S.told shelf.old) (S.told shelf.new) (S.faults shelf.old) (S.faults shelf.new) result.0 }
+    ensures sink { SinkStays K.faults K.same out.old out.new }
+{
+    match read_block(alloc, asked.block, shelf) {
+        Ok(block) => run_task(alloc, Task::Anchor(block, asked.height), disk, out),
+        Err(stop) => {
+            let status = refuse_input(stop, out);
+            (status, disk)
+        }
+    }
+}
+
+/// Prints why a name gave no input, or nothing where memory ran out.
+fn refuse_input<K: Sink>(stop: Stop<'_>, out: &mut K) -> DaemonStatus
+    ensures printed { PrintsLast (Rose (K.faults out.old) (K.faults out.new)) stop.entry.why (refusal_text stop.entry.name.now stop.entry.why) (K.taken out.old) (K.taken out.new) result }
+    ensures memory { stop.entry.why ≡ DaemonStatus.OutOfMemory → result ≡ DaemonStatus.OutOfMemory }
+    ensures sink { SinkStays K.faults K.same out.old out.new }
+{
+    match stop.why {
+        DaemonStatus::OutOfMemory => DaemonStatus::OutOfMemory,
+        why => refuse(stop.name, why, out),
+    }
+}
+
+/// Refuses the words. The disk is not called.
+fn refuse_words<D: Disk, K: Sink>(disk: D, out: &mut K) -> (DaemonStatus, D)
+    ensures ends { Ends (Comes IsUsage nowhere (Rose (D.faults disk) (D.faults result.1)))
+        (D.images result.1) (Rose (K.faults out.old) (K.faults out.new)) (K.taken out.old) (K.taken out.new) result.0 }
+    ensures moments { LeavesOnly D.clock D.images_since disk result.1 (OpenedFrom (D.images disk)) }
+    ensures later { D.faults disk ≤ D.faults result.1 }
+    ensures sink { SinkStays K.faults K.same out.old out.new }
+{
+    let status = refuse("", DaemonStatus::Usage, out);
+    (status, disk)
+}

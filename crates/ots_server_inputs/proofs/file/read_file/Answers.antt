@@ -1,0 +1,15 @@
+use Rattle.std.proofs.Common.{rules}
+use Rattle.ots_server_inputs.proofs.Reading.{bytes_read, bytes_refused, error_is}
+use Rattle.ots_server_inputs.proofs.file.read_file.Goals as goal
+
+pub returns-in_err-read : goal.returns-in_err-read
+returns-in_err-read g c = record {
+  answer = error_is _ c.args.name.now _ c.from_residual-in_err-read.result _ c.from_residual-in_err-read.ensures.1
+      (bytes_refused _ _ _ _ _ c.in_ok-slot.ensures.not_there (rw (c.new.ensures.shelf, c.new.ensures.slot) c.in_ok-slot.ensures.ok.left) c.in_err-read.field-0.0 c.in_err-read.ensures.input);
+  opened = search rules;
+  names = search rules;
+  slots = search rules;
+  short = search rules;
+  later = search rules;
+  writing = search rules;
+}

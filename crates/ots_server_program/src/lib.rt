@@ -1,0 +1,59 @@
+//! What the program `otsd` does: it makes the real objects, calls `run_calendar`, and ends with its
+//! status's number. The programs over it are one line each, so that what one stored run shows of
+//! this body holds of the other too.
+#![tactic(auto)]
+
+use ots_disk::FileDisk;
+use ots_io::{DirShelf, RngNonces, StdSink, SystemClock, TcpAccepter};
+use ots_server::{DaemonStatus, run_calendar};
+use rand::rngs::SysRng;
+use std::alloc::{AllocError, Global};
+use std::io::ErrorKind;
+use std::process::ExitCode;
+use std::rt::Env;
+use std::{env, io};
+
+/// Runs the calendar on the words behind the program's name, over the file that the first of them
+/// names, the files, standard output, the system's sockets, clock and random source, and answers the
+/// number of its status as an exit code.
+pub fn run_program(rt: &HostRuntime) -> ExitCode {
+    let status = run(rt, rt.alloc()).unwrap_or(DaemonStatus::OutOfMemory);
+    ExitCode::from(status.number())
+}
+
+// Runs the calendar over the real objects.
+fn run(rt: &HostRuntime, alloc: Global) -> Result<DaemonStatus, AllocError> {
+    let words = read_words(rt, alloc)?;
+    let disk = FileDisk::new(rt, journal_name(alloc, &words)?);
+    let mut shelf = DirShelf::new(rt, alloc);
+    let mut out = StdSink::new(io::writer(rt));
+    let (status, _returned) = run_calendar(
+        alloc,
+        &words,
+        disk,
+        &mut shelf,
+        &mut out,
+        TcpAccepter::new(rt),
+        SystemClock::new(rt),
+        RngNonces::new(SysRng::new(rt)),
+    );
+    Ok(status)
+}
+
+// The name of the journal's file: the first word, or the empty name.
+fn journal_name(alloc: Global, words: &[String]) -> Result<String, AllocError> {
+    match words.first() {
+        Some(word) => String::from_str(alloc, word),
+        None => Ok(String::new(alloc)),
+    }
+}
+
+// The words after the program's name. Where one of them is not UTF-8 there are none, which is a
+// faulty command line too.
+fn read_words(rt: &(impl Env + AllocGlobal), alloc: Global) -> Result<Vec<String>, AllocError> {
+    match env::args(rt) {
+        Ok(words) => words.skip(1).collect(alloc),
+        Err(error) if error.kind() == ErrorKind::OutOfMemory => Err(AllocError),
+        Err(_) => Ok(Vec::new(alloc)),
+    }
+}

@@ -1,0 +1,9 @@
+//! The calendar `otsd`.
+#![tactic(auto)]
+
+use ots_server_program::run_program;
+use std::process::ExitCode;
+
+fn main(rt: HostRuntime) -> ExitCode {
+    run_program(&rt)
+}
