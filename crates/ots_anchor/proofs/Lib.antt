@@ -1,3 +1,4 @@
 pub mod Marks
-pub mod Looks
+pub mod Standings
+mod Looks
 pub mod Paths

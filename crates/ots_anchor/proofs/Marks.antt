@@ -7,7 +7,7 @@ use Rattle.ots_anchor.specs.Find.{root_of}
 use Rattle.ots_anchor.specs.Mark.{IsMark, IsFirstAmong, IsMarkAmong, better}
 
 -- a root that is not found stands nowhere
-nowhere : (form root : List ℕ) → FindsNeedle form root 0 None → (p : ℕ) → OccursAt form root p → ⊥
+pub nowhere : (form root : List ℕ) → FindsNeedle form root 0 None → (p : ℕ) → OccursAt form root p → ⊥
 nowhere form root finds p occurs = let fits = occurs.fits in finds p (omega arith) (omega arith) occurs
 
 before : (form root : List ℕ) (k p : ℕ) → FindsNeedle form root 0 (Some k) → p < k → OccursAt form root p → ⊥

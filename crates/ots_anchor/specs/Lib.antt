@@ -1,4 +1,5 @@
 pub mod Find
 pub mod Mark
 pub mod Look
+pub mod Standing
 pub mod Path

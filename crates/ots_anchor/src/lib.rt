@@ -4,6 +4,7 @@
 
 mod mark;
 mod search;
+mod standing;
 mod way;
 
 pub use search::{FindError, Found, find};

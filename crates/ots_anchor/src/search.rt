@@ -3,8 +3,10 @@ ghost use Rattle.std.specs.Prelude.{◌≡◌, ◌<◌, ℕ, Ok, Err, IfOk, IfEr
 ghost use Rattle.ots_base.specs.Memory.{UnlessOutOfMemory};
 ghost use Rattle.ots_anchor.specs.Find.{IsFound, IsFindError, HasNoTip, IsTooLong};
 ghost use Rattle.ots_anchor.specs.Look.{IsLook, long_after};
+ghost use Rattle.ots_anchor.specs.Standing.{AreStanding};
 
 use crate::mark::{Mark, first_mark};
+use crate::standing::standing_in;
 use memchr::memmem::Finder;
 use ots_base::{MAX_MESSAGE, OutOfMemory};
 use ots_block::Block;
@@ -61,8 +63,11 @@ impl<T: Drop> From<AllocFailed<T>> for FindError {
 /// result has at most so many bytes, so no path leads through a longer one.
 ///
 /// `NoTip` comes exactly where no transaction holds a root, and `TransactionTooLong` exactly where
-/// only longer ones do. It takes memory of `alloc` for a finder a root, and for one transaction at
-/// a time.
+/// only longer ones do.
+///
+/// All transactions without their witness are put side by side first, and a root that stands nowhere
+/// there is not looked for in each of them. So it takes memory of `alloc` for a finder a root and as
+/// much as the block has, and mostly the time of one search of the block a root.
 pub fn find(alloc: Global, block: &Block, roots: &[[u8; 32]]) -> Result<Found, FindError>
     ensures ok { IfOk result (λ found. IsFound block.now roots.now found) }
     ensures err { IfErr result (λ e. IsFindError block.now roots.now e) }
@@ -71,7 +76,8 @@ pub fn find(alloc: Global, block: &Block, roots: &[[u8; 32]]) -> Result<Found, F
     ensures too_long { (n : ℕ) → IsTooLong block.now roots.now n → UnlessOutOfMemory FindError.OutOfMemory result (Err (FindError.TransactionTooLong n)) }
 {
     let finders = finders_of(alloc, roots)?;
-    find_by(block, &finders)
+    let standing = standing_in(alloc, block, &finders)?;
+    find_by(block, &finders, &standing)
 }
 
 /// A finder of each root.
@@ -86,13 +92,14 @@ fn finders_of<'a>(alloc: Global, roots: &'a [[u8; 32]]) -> Result<Vec<Finder<'a>
 }
 
 /// Where the block holds one of the roots of these finders.
-fn find_by(block: &Block, finders: &[Finder]) -> Result<Found, FindError>
+fn find_by(block: &Block, finders: &[Finder], standing: &[bool]) -> Result<Found, FindError>
+    requires { AreStanding block.now finders.now standing.now }
     ensures ok { IfOk result (λ found. IsFound block.now finders.now found) }
     ensures err { IfErr result (λ e. IsFindError block.now finders.now e) }
 {
     let mut long = None;
     for transaction in 0..block.count() {
-        match look_at(block, finders, transaction)? {
+        match look_at(block, finders, standing, transaction)? {
             Look::Short(mark) => {
                 return Ok(Found {
                     which: mark.which,
@@ -131,12 +138,18 @@ enum Look {
 }
 
 /// What the transaction with this index holds of the roots of these finders.
-fn look_at(block: &Block, finders: &[Finder], transaction: usize) -> Result<Look, OutOfMemory>
-    requires { transaction < length block.now.transactions }
+fn look_at(
+    block: &Block,
+    finders: &[Finder],
+    standing: &[bool],
+    transaction: usize,
+) -> Result<Look, OutOfMemory>
+    requires inside { transaction < length block.now.transactions }
+    requires standing { AreStanding block.now finders.now standing.now }
     ensures { IfOk result (λ look. IsLook block.now finders.now transaction look) }
 {
     let form = block.stripped(transaction)?;
-    Ok(match first_mark(&form, finders) {
+    Ok(match first_mark(&form, finders, standing) {
         None => Look::Nothing,
         Some(mark) if form.len() <= MAX_MESSAGE => Look::Short(mark),
         Some(_) => Look::Long(form.len() as u64),
