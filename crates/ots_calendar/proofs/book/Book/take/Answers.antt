@@ -1,4 +1,4 @@
-use Rattle.std.proofs.Common.{List, [], sym, subst}
+use Rattle.std.proofs.Common.{List, sym, subst}
 use Rattle.ots_store.specs.Order.{commits_of, records_of}
 use Rattle.ots_store.specs.Records.{Record}
 use Rattle.ots_calendar.specs.Book.{AllStand}

@@ -1,7 +1,5 @@
-use Rattle.std.proofs.Common.{List, [], sym, subst}
+use Rattle.std.proofs.Common.{[]}
 use Rattle.ots_store.specs.Order.{commits_of, records_of}
-use Rattle.ots_store.specs.Records.{Record}
-use Rattle.ots_calendar.specs.Book.{AllStand}
 use Rattle.ots_calendar.proofs.Standing.{withdraw_stands}
 use Rattle.ots_calendar.proofs.book.Book.withdraw.Goals as goal
 
