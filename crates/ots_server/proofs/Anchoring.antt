@@ -1,5 +1,5 @@
 -- The command `anchor`, by what the book answers.
-use Rattle.std.proofs.Common.{◌≡◌, ◌<◌, ◌≤◌, ◌⊎◌, inl, inr, ℕ, List, [], ◌∷◌, ◌++◌, true, false, Option, Some, None, refl, sym, ap, subst, ◌∙◌, arith}
+use Rattle.std.proofs.Common.{◌≡◌, ◌<◌, ◌⊎◌, inl, inr, ℕ, List, [], true, false, Option, Some, None, refl, sym, ap, subst, ◌∙◌, arith}
 use Rattle.std.specs.Prelude.{Result, Ok, Err, OnOk}
 use Rattle.ots_anchor.specs.declared.search.FindError.{FindError}
 use Rattle.ots_anchor.specs.declared.search.FindError.TheVariants as find
@@ -18,7 +18,7 @@ use Rattle.ots_store.specs.Order.{records_of}
 use Rattle.ots_store.specs.Store.{Added}
 use Rattle.ots_calendar.specs.declared.errors.AnchorError.{AnchorError}
 use Rattle.ots_calendar.specs.declared.errors.AnchorError.TheVariants as why
-use Rattle.ots_calendar.specs.Anchors.{AnchorsIn, AsksAnchor, FindsAnchor, FindsNone, GivesAnchor, GivesNone, HasBadRoot, anchor_answer, find_error, open_tips, roots}
+use Rattle.ots_calendar.specs.Anchors.{AsksAnchor, FindsAnchor, GivesAnchor, GivesNone, HasBadRoot, anchor_answer, find_error, open_tips, roots}
 use Rattle.ots_server_text.specs.Refusal.{refusal_text}
 use Rattle.ots_server_text.specs.declared.status.DaemonStatus.{DaemonStatus}
 use Rattle.ots_server_text.specs.declared.status.DaemonStatus.TheVariants.{Full}

@@ -1,12 +1,12 @@
 -- The lines of records, one after another.
-use Rattle.std.proofs.Common.{◌≡◌, ◌<◌, ◌≤◌, ℕ, ◌+◌, Bool, true, false, eqb-true, zero, suc, List, [], ◌∷◌, ◌++◌, length, take, drop, get_or, Some, subst, refl, sym, ap, ◌∙◌, append_assoc, append-nil, length-append, arith}
-use Rattle.std.specs.Prelude.{map, slice_get, ◌==◌, if◌then◌else◌}
+use Rattle.std.proofs.Common.{◌≡◌, ◌≤◌, ℕ, ◌+◌, Bool, true, false, eqb-true, zero, suc, List, [], ◌∷◌, ◌++◌, length, take, drop, Some, subst, refl, sym, ap, ◌∙◌, append_assoc, append-nil, length-append, arith}
+use Rattle.std.specs.Prelude.{slice_get, ◌==◌}
 use Rattle.std.proofs.lemmas.List.{take_more, map-append}
 use Rattle.std.proofs.lemmas.Option.{slice_get_within, get_or_from_slice_get}
 use Rattle.ots_journal.specs.declared.entry.Entry.{Entry}
 use Rattle.ots_store.specs.Order.{commit_in, commits_of, records_of}
 use Rattle.std.specs.List.{AllByRecursion}
-use Rattle.ots_store.specs.Records.{Record, CommitRecord, TipRecord, AnchorRecord, IsRecord, HasForm, anchor_at, anchor_payload, anchor_rest, entry_of, number, record_of}
+use Rattle.ots_store.specs.Records.{Record, AnchorRecord, IsRecord, HasForm, anchor_at, anchor_payload, anchor_rest, entry_of, number, record_of}
 use Rattle.ots_server_text.specs.Lines.{anchor_line}
 use Rattle.ots_server.specs.List.{lines_from, list_text, record_line}
 

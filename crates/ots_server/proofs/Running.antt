@@ -1,12 +1,11 @@
 -- A task on the book of a disk, from opening it on; and a whole run.
-use Rattle.std.proofs.Common.{◌≡◌, ◌≤◌, inl, inr, ℕ, List, [], ◌∷◌, ◌++◌, length, Option, Some, None, refl, sym, ap, subst, ◌∙◌, arith}
+use Rattle.std.proofs.Common.{◌≡◌, ◌≤◌, inl, inr, ℕ, List, [], length, Option, refl, sym, ap, subst, arith}
 use Rattle.ots_base.specs.Cause.{Rose}
-use Rattle.ots_base.specs.Told.{IfTold}
 use Rattle.ots_block.specs.Block.{Contents}
 use Rattle.ots_disk.specs.Disk.{LeavesOnly}
 use Rattle.ots_disk.specs.Moments.{joined, started, weaker}
 use Rattle.ots_journal.specs.declared.entry.Entry.{Entry}
-use Rattle.ots_journal.specs.Image.{Stands, StandsLong}
+use Rattle.ots_journal.specs.Image.{Stands}
 use Rattle.ots_journal.specs.Journal.{JournalTold}
 use Rattle.ots_journal.specs.Opening.{OpenedFrom}
 use Rattle.ots_journal.proofs.Unique.{stands_once}
@@ -24,7 +23,7 @@ use Rattle.ots_server.specs.Ending.{Comes, as_defined, not_read, disk_failed, no
 use Rattle.ots_outside.specs.Shelf.{Names, ShelfFaults, ShelfTold}
 use Rattle.ots_server.specs.Anchor.{AnchorAnswers}
 use Rattle.ots_server.specs.Files.{ReadsShelf, StopsAt, names_read}
-use Rattle.ots_server.specs.Found.{AreEntries, Closes, HasBook, MayClose, is_refused, disk_failed as failed, no_memory as no_room, OpensBook, RefusesBook}
+use Rattle.ots_server.specs.Found.{AreEntries, Closes, MayClose, is_refused, disk_failed as failed, no_memory as no_room, OpensBook, RefusesBook}
 use Rattle.ots_server.specs.Moments.{IsOnlyImage, OpenedOrRan, StandsWith}
 use Rattle.ots_server.specs.Printed.{PrintsLast}
 

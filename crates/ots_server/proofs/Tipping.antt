@@ -1,5 +1,5 @@
 -- The command `tip`, by what the book answers.
-use Rattle.std.proofs.Common.{◌≡◌, ◌<◌, ◌≤◌, inl, inr, ℕ, List, [], ◌∷◌, ◌++◌, length, true, false, Option, Some, None, refl, sym, ap, subst, ◌∙◌, arith}
+use Rattle.std.proofs.Common.{◌≡◌, ◌<◌, inl, inr, ℕ, List, [], true, false, Option, Some, None, refl, sym, ap, subst, ◌∙◌, arith}
 use Rattle.std.specs.Prelude.{Result, Ok, Err, OnOk}
 use Rattle.ots_disk.specs.Disk.{LeavesOnly}
 use Rattle.ots_disk.specs.Moments.{started, weaker}
@@ -7,17 +7,17 @@ use Rattle.ots_journal.specs.declared.entry.Entry.{Entry}
 use Rattle.ots_journal.specs.declared.errors.AppendError.{AppendError}
 use Rattle.ots_journal.specs.declared.errors.AppendError.TheVariants as append
 use Rattle.ots_journal.specs.Image.{Stands}
-use Rattle.ots_journal.specs.Journal.{JournalTold, StandsForEither, size_with}
+use Rattle.ots_journal.specs.Journal.{JournalTold, size_with}
 use Rattle.ots_store.specs.declared.tip.Tip.{Tip}
 use Rattle.ots_store.specs.Order.{records_of}
 use Rattle.ots_store.specs.Store.{Added}
 use Rattle.ots_calendar.specs.declared.errors.TipError.{TipError}
 use Rattle.ots_calendar.specs.declared.errors.TipError.TheVariants as why
-use Rattle.ots_calendar.specs.Tips.{AsksTip, GivesTip, IsNextTip, StoresTip, TipAfter, tip_answer}
+use Rattle.ots_calendar.specs.Tips.{AsksTip, IsNextTip, StoresTip, TipAfter, tip_answer}
 use Rattle.ots_server_text.specs.Lines.{tip_line}
 use Rattle.ots_server_text.specs.Refusal.{refusal_text}
 use Rattle.ots_server_text.specs.declared.status.DaemonStatus.{DaemonStatus}
-use Rattle.ots_server_text.specs.declared.status.DaemonStatus.TheVariants.{Done, NothingNew, Full}
+use Rattle.ots_server_text.specs.declared.status.DaemonStatus.TheVariants.{NothingNew, Full}
 use Rattle.ots_server.specs.Ending.{AllStand, Comes, as_defined, disk_failed, no_memory, Ending, Ends, declined, done, nowhere}
 use Rattle.ots_server.specs.Moments.{StandsWith}
 use Rattle.ots_server.specs.Printed.{PrintsLast}

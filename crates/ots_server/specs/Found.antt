@@ -1,5 +1,5 @@
 -- What is found where the journal is opened.
-use Rattle.std.specs.Prelude.{◌≡◌, ◌≤◌, ◌⊎◌, ℕ, true, List, [], Option}
+use Rattle.std.specs.Prelude.{◌≡◌, ◌<◌, ◌≤◌, ◌⊎◌, ℕ, true, List, [], length, Option}
 use Rattle.ots_base.specs.Cause.{Rose}
 use Rattle.ots_base.specs.Told.{IfTold}
 use Rattle.ots_disk.specs.Disk.{LeavesOnly}
@@ -9,7 +9,7 @@ use Rattle.ots_journal.specs.declared.errors.JournalError.TheVariants as why
 use Rattle.ots_journal.specs.declared.limits.TheConstants.{MAX_JOURNAL}
 use Rattle.ots_journal.specs.Image.{Stands}
 use Rattle.ots_journal.specs.Journal.{JournalTold}
-use Rattle.ots_journal.specs.Opening.{OpenedFrom, Refuses}
+use Rattle.ots_journal.specs.Opening.{IsFullOrCause, OpenedFrom, Refuses}
 use Rattle.ots_store.specs.declared.errors.StoreError.{StoreError}
 use Rattle.ots_store.specs.declared.errors.StoreError.TheVariants as store
 use Rattle.ots_store.specs.Order.{FirstBad, records_of}
@@ -36,8 +36,13 @@ store_status store.OutOfMemory = OutOfMemory
 abbrev pub AreEntries : Option (List ℕ) → List Entry → Type 0
 AreEntries told entries = IfTold told (λ bytes. Stands bytes entries)
 
+-- There are no more of them than a journal may have.
+abbrev pub AreWithin : Option (List ℕ) → Type 0
+AreWithin told = IfTold told (λ bytes. length bytes ≤ MAX_JOURNAL)
+
 -- They stand for entries that spell records in order.
 pub record HasRecords (told : Option (List ℕ)) (entries : List Entry) : Type 0 where
+  pub within : AreWithin told
   pub stand : AreEntries told entries
   pub records : InRecords entries
 
@@ -55,16 +60,18 @@ IsOfFile why.NotAJournal = Unit {0}
 IsOfFile (why.Damaged place) = Unit {0}
 IsOfFile why.OutOfMemory = ⊥
 
--- They are no journal, or one that is too long.
+-- They are no journal, or there are too many of them, which comes first.
 pub record RefusesFile (told : Option (List ℕ)) (s : DaemonStatus) : Type 0 where
   pub why : JournalError
   pub is_of_file : IsOfFile why
+  pub full_first : IfTold told (λ bytes. MAX_JOURNAL < length bytes → IsFullOrCause why)
   pub refuses : IfTold told (λ bytes. Refuses MAX_JOURNAL bytes why)
   pub status : s ≡ journal_status why
 
 -- They stand for entries of which this is the first that is no record, or may not stand there.
 pub record HasBadForm (told : Option (List ℕ)) (s : DaemonStatus) : Type 0 where
   pub entries : List Entry
+  pub within : AreWithin told
   pub stand : AreEntries told entries
   pub index : ℕ
   pub bad : FirstBad [] entries index

@@ -1,4 +1,3 @@
-use Rattle.std.specs.Prelude.{Ok, Err}
 use Rattle.ots_server.proofs.Inputs.{block_given, block_moments, block_stops, reads_given, reads_refused}
 use Rattle.ots_server.proofs.Running.{idle_moments, uncalled}
 use Rattle.ots_server.proofs.run.run_anchor.Goals as goal

@@ -1,4 +1,3 @@
-use Rattle.std.proofs.Common.{refl}
 use Rattle.ots_server.proofs.Inputs.{reads_nothing, unread_ends}
 use Rattle.ots_server.proofs.Running.{asked_ends, asked_moments, asked_reads, asked_shelf, idle_moments, memory_ends}
 use Rattle.ots_server.proofs.run.run_words.Goals as goal

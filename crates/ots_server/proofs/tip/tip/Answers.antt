@@ -1,4 +1,3 @@
-use Rattle.std.proofs.Common.{refl}
 use Rattle.std.specs.Prelude.{Ok, Err}
 use Rattle.ots_server.proofs.Running.{refused_as}
 use Rattle.ots_server.proofs.Tipping.{tip_ends, tip_printed}
