@@ -82,7 +82,7 @@ one_standing bytes roots standing k place inside finds h =
             let same : i ≡ k = omega (arith, after) in
             let here : get_or (standing ++ is_some place ∷ []) k false ≡ is_some place = last_of standing (is_some place) k (omega (arith, before, count)) in
             let none : place ≡ None =
-                none_place place (sym here ∙ ap (λ (n : ℕ). get_or (standing ++ is_some place ∷ []) n false) (sym same) ∙ no) in
+            none_place place (sym here ∙ ap (λ (n : ℕ). get_or (standing ++ is_some place ∷ []) n false) (sym same) ∙ no) in
             nowhere bytes (root_of roots k) (subst (λ (o : Option ℕ). FindsNeedle bytes (root_of roots k) 0 o) none finds) p
             (subst (λ (r : List ℕ). OccursAt bytes r p) (get_or-take (k + 1) roots i [] (omega arith) ∙ ap (λ (n : ℕ). get_or roots n []) same) occurs)
       ];

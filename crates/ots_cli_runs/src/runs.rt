@@ -70,11 +70,7 @@ pub fn run_on(
 
 /// A shelf that holds these files, and has room for one more and four slots. The calls that are listed
 /// fail.
-fn shelf_with(
-    alloc: Global,
-    files: &[(&str, &[u8])],
-    failing: &[u64],
-) -> Result<MapShelf, Fail> {
+fn shelf_with(alloc: Global, files: &[(&str, &[u8])], failing: &[u64]) -> Result<MapShelf, Fail> {
     let mut longest = 256;
     for (_, bytes) in files {
         longest = bytes.len().max(longest);

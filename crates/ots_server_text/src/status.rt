@@ -40,7 +40,10 @@ pub enum DaemonStatus {
     /// of a command but `migrate` also where its values are not right.
     BadRecord(u64),
     /// The journal's file would have `need` bytes, more than the limit; or it has so many.
-    Full { need: u64, limit: u64 },
+    Full {
+        need: u64,
+        limit: u64,
+    },
     /// The disk counted a fault.
     DiskFault,
     /// `anchor`: no transaction of the block has the root of a tip in it.
@@ -54,7 +57,10 @@ pub enum DaemonStatus {
     /// its witness, more than 4096, and so has each other one.
     TransactionTooLong(u64),
     /// The block file is no block: where and why.
-    BadBlock { place: u64, reason: BlockReason },
+    BadBlock {
+        place: u64,
+        reason: BlockReason,
+    },
     /// The key file has so many bytes: none, or 65 where it has more than 64.
     BadKey(u64),
     /// The first line of the file of digests that is not of its form, counted from 1.
