@@ -11,7 +11,7 @@ use Rattle.ots_server_words.specs.Words.{Command, serve, batch, tip, anchor, lis
 abbrev pub names_read : Option Command → List (List ℕ)
 names_read None = []
 names_read (Some (serve asked)) = []
-names_read (Some (batch asked)) = []
+names_read (Some (batch asked)) = asked.key ∷ asked.digests ∷ []
 names_read (Some tip) = []
 names_read (Some (anchor asked)) = asked.block ∷ []
 names_read (Some list) = []

@@ -6,12 +6,15 @@
 #![tactic(auto)]
 
 mod anchor;
+mod batch;
 mod list;
 mod opening;
 mod printing;
+mod reading;
 mod run;
 mod task;
 mod tip;
+mod trees;
 
 pub use ots_server_text::DaemonStatus;
 pub use run::{Returned, run_calendar};
