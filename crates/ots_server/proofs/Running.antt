@@ -1,5 +1,5 @@
 -- A task on the book of a disk, from opening it on; and a whole run.
-use Rattle.std.proofs.Common.{◌≡◌, ◌≤◌, inl, inr, ℕ, List, [], length, Option, refl, sym, ap, subst, arith}
+use Rattle.std.proofs.Common.{◌≡◌, ◌⊎◌, ◌≤◌, inl, inr, ℕ, List, [], length, Option, refl, sym, ap, subst, arith}
 use Rattle.ots_base.specs.Cause.{Rose}
 use Rattle.ots_block.specs.Block.{Contents}
 use Rattle.ots_disk.specs.Disk.{LeavesOnly}
@@ -18,7 +18,8 @@ use Rattle.ots_server.specs.declared.task.Task.{Task}
 use Rattle.ots_server.specs.List.{list_text}
 use Rattle.ots_server.specs.Task.{TaskAdds, TaskAnswers}
 use Rattle.ots_server.specs.Tip.{TipAnswers}
-use Rattle.ots_server.specs.Answer.{Answers, IsUsage, ListAnswers, MayAdd, WithBook, is_opened, is_refused as not_opened}
+use Rattle.ots_server.specs.Answer.{Answers, IsUsage, ListAnswers, MayAdd, MayDraw, WithBook, is_opened, is_refused as not_opened}
+use Rattle.ots_server.specs.Batch.{Outside, RoundAnswers}
 use Rattle.ots_server.specs.Ending.{Comes, as_defined, not_read, disk_failed, no_memory, Ending, Ends, done, nowhere, refused}
 use Rattle.ots_outside.specs.Shelf.{Names, ShelfFaults, ShelfTold}
 use Rattle.ots_server.specs.Anchor.{AnchorAnswers}
@@ -107,21 +108,24 @@ list_ends gate entries listed disk images printing taken now r is stand printed 
 
 -- ---- by what the words ask for
 
-module _ (names : Option Names) (told : Option (List ℕ)) (o p : Option Command) (is : o ≡ p) where
+module _ (happens : Outside → Type 0) (faulted : Type 0) (names : Option Names) (told : Option (List ℕ)) (o p : Option Command) (is : o ≡ p) where
   pub asked_ends : (stops : List ℕ → Type 0) (disk : Type 0) (images : List ℕ → Type 0) (printing : Type 0) (taken now : Option (List ℕ)) (r : DaemonStatus)
-      → Ends (Comes (Answers names told p) stops disk) images printing taken now r → Ends (Comes (Answers names told o) stops disk) images printing taken now r
-  asked_ends stops disk images printing taken now r h = subst (λ (z : Option Command). Ends (Comes (Answers names told z) stops disk) images printing taken now r) (sym is) h
+      → Ends (Comes (Answers happens faulted names told p) stops disk) images printing taken now r → Ends (Comes (Answers happens faulted names told o) stops disk) images printing taken now r
+  asked_ends stops disk images printing taken now r h = subst (λ (z : Option Command). Ends (Comes (Answers happens faulted names told z) stops disk) images printing taken now r) (sym is) h
 
   pub asked_reads : (old new : Option (List (List ℕ))) (before after : ShelfFaults) (disk : Type 0) (images : List ℕ → Type 0) (printing : Type 0) (taken now : Option (List ℕ)) (r : DaemonStatus)
-      → Ends (Comes (Answers names told p) (StopsAt (names_read p) old new before after) disk) images printing taken now r
-      → Ends (Comes (Answers names told o) (StopsAt (names_read o) old new before after) disk) images printing taken now r
+      → Ends (Comes (Answers happens faulted names told p) (StopsAt (names_read p) old new before after) disk) images printing taken now r
+      → Ends (Comes (Answers happens faulted names told o) (StopsAt (names_read o) old new before after) disk) images printing taken now r
   asked_reads old new before after disk images printing taken now r h =
-      subst (λ (z : Option Command). Ends (Comes (Answers names told z) (StopsAt (names_read z) old new before after) disk) images printing taken now r) (sym is) h
+      subst (λ (z : Option Command). Ends (Comes (Answers happens faulted names told z) (StopsAt (names_read z) old new before after) disk) images printing taken now r) (sym is) h
 
   pub asked_moments : {D : Type 0} (clock : D → ℕ) (images_since : D → ℕ → List ℕ → Type 0) (images : List ℕ → Type 0) (old new : D)
-      → LeavesOnly clock images_since old new (OpenedOrRan told images (MayAdd names p)) → LeavesOnly clock images_since old new (OpenedOrRan told images (MayAdd names o))
+      → LeavesOnly clock images_since old new (OpenedOrRan told images (MayAdd happens names p)) → LeavesOnly clock images_since old new (OpenedOrRan told images (MayAdd happens names o))
   asked_moments clock images_since images old new h =
-      subst (λ (z : Option Command). LeavesOnly clock images_since old new (OpenedOrRan told images (MayAdd names z))) (sym is) h
+      subst (λ (z : Option Command). LeavesOnly clock images_since old new (OpenedOrRan told images (MayAdd happens names z))) (sym is) h
+
+  pub asked_nonces : (same : Type 0) → same ⊎ MayDraw happens names p → same ⊎ MayDraw happens names o
+  asked_nonces same h = subst (λ (z : Option Command). same ⊎ MayDraw happens names z) (sym is) h
 
 pub asked_shelf : (o p : Option Command) → o ≡ p → (old new : ShelfTold) (before after : ShelfFaults) (r : DaemonStatus)
     → ReadsShelf (names_read p) old new before after r → ReadsShelf (names_read o) old new before after r
@@ -162,3 +166,11 @@ crash_leaves told images adds entries one c (inl (inr (short, (d, image, also)))
 crash_leaves told images adds entries one c (inr (found, are, stands)) =
     let stand : Stands one.bytes found = subst (λ (z : Option (List ℕ)). AreEntries z found) one.is_told are in
     subst (λ (z : List Entry). StandsWith (adds z) z c) (stands_once one.bytes found entries stand one.stand) stands
+
+-- ---- a round, by the journal's limit
+
+pub round_within : (happens : Outside → Type 0) (faulted : Type 0) (limit most : ℕ) (key uri : List ℕ) (digests : List (List ℕ)) (gate : ℕ) (entries : List Entry) (disk : Type 0) (images : List ℕ → Type 0) (printing : Type 0)
+    (taken now : Option (List ℕ)) (r : DaemonStatus) → limit ≡ most → Ends (Comes (RoundAnswers happens faulted limit key uri digests gate entries) nowhere disk) images printing taken now r
+    → Ends (Comes (RoundAnswers happens faulted most key uri digests gate entries) nowhere disk) images printing taken now r
+round_within happens faulted limit most key uri digests gate entries disk images printing taken now r is h =
+    subst (λ (z : ℕ). Ends (Comes (RoundAnswers happens faulted z key uri digests gate entries) nowhere disk) images printing taken now r) is h

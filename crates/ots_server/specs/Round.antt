@@ -1,5 +1,5 @@
 -- Making a round, step by step. It serves the code of `batch`.
-use Rattle.std.specs.Prelude.{◌≡◌, ◌≢◌, ◌⊎◌, ◌<◌, ◌≤◌, ◌^◌, ℕ, List, [], ◌∷◌, ◌++◌, length, map, Option, Some, None, Result, Ok, Err, MatchResult, Vec}
+use Rattle.std.specs.Prelude.{◌≡◌, ◌≢◌, ◌⊎◌, ◌<◌, ◌≤◌, ◌^◌, ℕ, List, [], ◌∷◌, ◌++◌, length, map, Option, Some, None, Result, Ok, Err, Vec}
 use Rattle.std.specs.List.{AllByRecursion}
 use Rattle.std.specs.declared.alloc.Global.{Global}
 use Rattle.ots_base.specs.Told.{IfTold}
@@ -43,10 +43,9 @@ pub record IsRound (digests : List (List ℕ)) : Type 0 where
   pub most : length digests ≤ MAX_WAITING
 
 -- the clock's second, or its refusal
-pub record SecondOf (coming : Option ℕ) (r : Result ℕ BatchError) : Type 0 where
-  pub second : ℕ
-  pub told : IfTold coming (λ s. second ≡ s)
-  pub answer : MatchResult r (λ n. (n ≡ second) × (n < 2 ^ 32)) (λ e. (e ≡ BadSecond second) × (2 ^ 32 ≤ second))
+abbrev pub SecondOf : Option ℕ → Result ℕ BatchError → Type 0
+SecondOf coming (Ok second) = (second < 2 ^ 32) × IfTold coming (λ s. second ≡ s)
+SecondOf coming (Err e) = (second : ℕ) × (e ≡ BadSecond second) × (2 ^ 32 ≤ second) × IfTold coming (λ s. second ≡ s)
 
 -- ---- putting
 

@@ -48,7 +48,7 @@ module _ (front tail digits digest after : List ℕ) (is : IsDigest digits diges
       let within = none.high in
       let not_less : length digits < place → ⊥ = λ less. none.before (length digits) (omega arith) less (end_at_front (omega arith)) in
       let not_more : place < length digits → ⊥ = λ more. no_end digits digest is place more
-          (sym (get_or_append_left digits (10 ∷ after) 0 place more) ∙ sym (at_front place within) ∙ eqb-true _ 10 passes) in
+      (sym (get_or_append_left digits (10 ∷ after) 0 place more) ∙ sym (at_front place within) ∙ eqb-true _ 10 passes) in
       let same : length digits ≡ place = omega (arith, not_less, not_more) in
       sym (take_at digits (10 ∷ after) place same) ∙ ap (take place) (sym whole) ∙ take-append-le place front tail (omega arith)
 

@@ -12,11 +12,7 @@ use std::alloc::Global;
 
 /// The key that a file is: 1 to 64 bytes. At most 65 bytes are read, so that each longer file is
 /// refused as one of 65.
-pub fn read_key<'a, S: Shelf>(
-    alloc: Global,
-    name: &'a str,
-    shelf: &mut S,
-) -> Result<Key, Stop<'a>>
+pub fn read_key<'a, S: Shelf>(alloc: Global, name: &'a str, shelf: &mut S) -> Result<Key, Stop<'a>>
     ensures { ReadsInput GivesKey RefusesKey name.entry.now (S.told shelf.old) (S.told shelf.new) (S.faults shelf.old) (S.faults shelf.new) result }
 {
     let read = read_file(alloc, name, MAX_KEY as u64, shelf);
