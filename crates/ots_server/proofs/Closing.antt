@@ -1,8 +1,7 @@
 -- A round, from the clock's second to its trees.
-use Rattle.std.proofs.Common.{◌≡◌, ◌<◌, ◌≤◌, ◌^◌, inl, inr, ℕ, List, [], length, map, Option, refl, sym, ap, subst, ◌∙◌, arith}
+use Rattle.std.proofs.Common.{◌≡◌, ◌<◌, ◌≤◌, inl, inr, ℕ, List, [], length, map, Option, refl, sym, ap, subst, ◌∙◌, arith}
 use Rattle.std.specs.Prelude.{Result, Ok, Err, Vec}
 use Rattle.std.specs.declared.alloc.Global.{Global}
-use Rattle.ots_base.specs.Told.{IfTold}
 use Rattle.ots_journal.specs.declared.errors.AppendError.{AppendError}
 use Rattle.ots_journal.specs.Image.{Stands}
 use Rattle.ots_journal.specs.Journal.{JournalTold}
@@ -12,12 +11,11 @@ use Rattle.ots_store.specs.Store.{StoreTold}
 use Rattle.ots_tickets.specs.Calls.{tree_of}
 use Rattle.ots_tickets.specs.Tickets.{settles}
 use Rattle.ots_tickets.specs.declared.settled.Settled.{Settled}
-use Rattle.ots_tree.specs.declared.token.Token.{Token}
 use Rattle.ots_calendar.specs.Book.{BookTold}
 use Rattle.ots_server.specs.declared.batch.BatchError.{BatchError}
 use Rattle.ots_server.specs.declared.batch.BatchError.TheVariants.{BadSecond, NonceFault, NotStored, OutOfMemory}
 use Rattle.ots_server.specs.declared.trees.Trees.{Trees}
-use Rattle.ots_server.specs.Batch.{AreTickets, DrawsFor, Happens, Outside, next_index, trees_text}
+use Rattle.ots_server.specs.Batch.{AreTickets, DrawsFor, Happens, Outside, trees_text}
 use Rattle.ots_server.specs.Round.{AreSettled, ClosesTo, PutsAll, PutsOutcome, RoundEnds, SecondOf, TakesAll}
 use Rattle.ots_server.specs.Trees.{trees_lines}
 use Rattle.ots_server.proofs.Putting.{many_tickets}

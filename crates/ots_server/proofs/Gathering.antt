@@ -1,22 +1,20 @@
 -- What a batch names is read.
 use Rattle.std.proofs.Common.{◌≡◌, inl, inr, ℕ, List, [], ◌∷◌, Option, None, refl, sym, ap, subst}
-use Rattle.std.specs.Prelude.{Result, Ok, Err, Vec, MatchResult}
+use Rattle.std.specs.Prelude.{Result, Ok, Err, Vec}
 use Rattle.std.specs.declared.alloc.Global.{Global}
 use Rattle.ots_outside.specs.Shelf.{Names, ShelfFaults, ShelfTold}
 use Rattle.ots_server_inputs.specs.Address.{IsOneAddress, MayRefuseAddress}
 use Rattle.ots_server_inputs.specs.Digests.{IsDigests, IsDigestsOf, RefusesDigests}
 use Rattle.ots_server_inputs.specs.File.{HasUnder, IsUnder}
-use Rattle.ots_server_inputs.specs.Input.{RanOut, ReadsInput}
+use Rattle.ots_server_inputs.specs.Input.{ReadsInput}
 use Rattle.ots_server_inputs.specs.Key.{GivesKey, RefusesKey}
 use Rattle.ots_server_inputs.specs.declared.stop.Stop.{Stop}
-use Rattle.ots_server_text.specs.declared.status.DaemonStatus.{DaemonStatus}
-use Rattle.ots_server_text.specs.declared.status.DaemonStatus.TheVariants.{OutOfMemory}
 use Rattle.ots_server_words.specs.Words.{BatchAsked}
 use Rattle.ots_server.specs.declared.batch.Round.{Round}
-use Rattle.ots_server.specs.Answer.{WithFiles, WithInput, is_given, no_file, refuses, WithRound, WithUri, is_uri, no_uri}
+use Rattle.ots_server.specs.Answer.{WithFiles, WithInput, is_given, no_file, refuses, WithRound, is_uri, no_uri}
 use Rattle.ots_server.specs.Ending.{Comes, as_defined, no_memory, Ending, refused}
-use Rattle.ots_server.specs.Files.{ReadsShelf, StopsAt}
-use Rattle.ots_server.specs.Reading.{HasFiles, KeepsShelf, ReadsFiles, ReadsRound, no_round, nothing}
+use Rattle.ots_server.specs.Files.{StopsAt}
+use Rattle.ots_server.specs.Reading.{HasFiles, ReadsFiles, ReadsRound, no_round, nothing}
 use Rattle.ots_server.specs.Round.{IsRound}
 use Rattle.ots_server.proofs.Inputs.{comes_map, input_comes, reads_given, reads_nothing, reads_refused}
 use Rattle.ots_server.proofs.Shelves.{shelf_front, shelf_then, stops_before, stops_later}

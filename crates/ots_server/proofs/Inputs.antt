@@ -1,17 +1,16 @@
 -- A run that reads files before it opens the journal.
-use Rattle.std.proofs.Common.{◌≡◌, inl, inr, ℕ, List, [], ◌∷◌, Option, Some, None, refl, sym, ap, subst, arith}
-use Rattle.std.specs.Prelude.{Result, Ok, Err}
+use Rattle.std.proofs.Common.{◌≡◌, inl, inr, ℕ, List, [], ◌∷◌, Option, refl, sym, ap, subst, arith}
+use Rattle.std.specs.Prelude.{Ok, Err}
 use Rattle.ots_disk.specs.Disk.{LeavesOnly}
 use Rattle.ots_disk.specs.Moments.{weaker}
 use Rattle.ots_journal.specs.declared.entry.Entry.{Entry}
 use Rattle.ots_outside.specs.Shelf.{Names, ShelfFaults, ShelfTold}
-use Rattle.ots_server_inputs.specs.File.{HasUnder}
 use Rattle.ots_server_inputs.specs.Input.{FaultAt, InputAnswer, MayStop, not_there, is_refused, not_read as unread, no_memory as no_room, ReadsInput, OpensInput}
 use Rattle.ots_server_inputs.specs.declared.stop.Stop.{Stop}
 use Rattle.ots_server_text.specs.Refusal.{refusal_text}
 use Rattle.ots_server_text.specs.declared.status.DaemonStatus.{DaemonStatus}
 use Rattle.ots_server_text.specs.declared.status.DaemonStatus.TheVariants.{OutOfMemory}
-use Rattle.ots_server.specs.Answer.{WithInput, is_given, no_file, refuses}
+use Rattle.ots_server.specs.Answer.{WithInput, no_file, refuses}
 use Rattle.ots_server.specs.Ending.{Comes, as_defined, not_read, disk_failed, no_memory, Ending, Ends, nowhere, refused}
 use Rattle.ots_server.specs.Files.{OpensFront, ReadsShelf, StopsAt, not_opened, opened_last}
 use Rattle.ots_server.specs.Moments.{OpenedOrRan}

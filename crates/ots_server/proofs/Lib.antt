@@ -11,3 +11,5 @@ mod Gathering
 mod Inputs
 mod TreeLines
 mod Closing
+mod Carrying
+mod Migrating

@@ -5,14 +5,13 @@ use Rattle.std.specs.List.{AllByRecursion}
 use Rattle.std.specs.declared.alloc.Global.{Global}
 use Rattle.std.proofs.lemmas.List.{take_all, take_more}
 use Rattle.std.proofs.lemmas.List.Concat.{flat_map-append}
-use Rattle.ots_base.specs.Cause.{Rose}
 use Rattle.ots_outside.specs.Streams.{Gives, Gives-nothing, Gives-trans}
 use Rattle.ots_round.specs.declared.ticket.Ticket.{Ticket}
-use Rattle.ots_tickets.specs.Tickets.{IsNew, TicketsTold}
+use Rattle.ots_tickets.specs.Tickets.{TicketsTold}
 use Rattle.ots_server.specs.declared.batch.BatchError.{BatchError}
-use Rattle.ots_server.specs.declared.batch.BatchError.TheVariants.{BadSecond, NonceFault, NotStored, OutOfMemory}
+use Rattle.ots_server.specs.declared.batch.BatchError.TheVariants.{OutOfMemory}
 use Rattle.ots_server.specs.Batch.{AreTickets, joined}
-use Rattle.ots_server.specs.Round.{AreDistinct, IsDrawn, IsPut, PutTo, PutsAll, PutsOne}
+use Rattle.ots_server.specs.Round.{AreDistinct, IsPut, PutTo, PutsAll, PutsOne}
 
 abbrev Long : List ℕ → Type 0
 Long nonce = length nonce ≡ 16

@@ -1,8 +1,7 @@
 -- What a round comes to.
-use Rattle.std.proofs.Common.{◌≡◌, ◌<◌, ◌≤◌, ◌^◌, inl, inr, ℕ, ◌+◌, List, [], ◌∷◌, ◌++◌, length, true, false, Option, None, Some, refl, sym, ap, subst, ◌∙◌, arith, append-nil, length-append}
-use Rattle.std.specs.Prelude.{Result, Ok, Err, IsErrAnd, OnOk}
+use Rattle.std.proofs.Common.{◌≡◌, ◌<◌, ◌≤◌, ◌^◌, inl, inr, ℕ, ◌+◌, List, [], ◌∷◌, ◌++◌, length, true, false, Option, None, Some, refl, sym, ap, subst, ◌∙◌, arith, length-append}
+use Rattle.std.specs.Prelude.{Result, Ok, Err, IsErrAnd}
 use Rattle.std.proofs.lemmas.List.{map-append}
-use Rattle.ots_base.specs.Told.{IfTold}
 use Rattle.ots_disk.specs.Disk.{LeavesOnly}
 use Rattle.ots_disk.specs.Moments.{started, weaker}
 use Rattle.ots_journal.specs.declared.entry.Entry.{Entry}
@@ -10,23 +9,22 @@ use Rattle.ots_journal.specs.declared.errors.AppendError.{AppendError}
 use Rattle.ots_journal.specs.declared.errors.AppendError.TheVariants as append
 use Rattle.ots_journal.specs.Image.{Stands}
 use Rattle.ots_journal.specs.Journal.{JournalTold, size_with}
-use Rattle.ots_outside.specs.Streams.{Gives, Gives-nothing}
 use Rattle.ots_round.specs.declared.ticket.Ticket.{Ticket}
 use Rattle.ots_round.specs.Round.{round_commitment}
-use Rattle.ots_store.specs.Order.{commit_in, commits_of, records_of}
-use Rattle.ots_store.specs.Records.{CommitRecord, Record, entry_of, record_of}
+use Rattle.ots_store.specs.Order.{commits_of, records_of}
+use Rattle.ots_store.specs.Records.{CommitRecord, Record, record_of}
 use Rattle.ots_store.specs.Store.{Added, Adds, StoreTold}
 use Rattle.ots_tickets.specs.Tickets.{settles}
 use Rattle.ots_tickets.specs.declared.settled.Settled.{Settled}
 use Rattle.ots_calendar.specs.Book.{BookTold}
-use Rattle.ots_calendar.specs.Rounds.{Closes, ClosesRound, RoundLeaves, round_answer}
+use Rattle.ots_calendar.specs.Rounds.{Closes, RoundLeaves, round_answer}
 use Rattle.ots_server_text.specs.declared.status.DaemonStatus.{DaemonStatus}
 use Rattle.ots_server_text.specs.declared.status.DaemonStatus.TheVariants.{Full}
 use Rattle.ots_server.specs.declared.batch.BatchError.{BatchError}
 use Rattle.ots_server.specs.declared.batch.BatchError.TheVariants.{BadSecond, NonceFault, NotStored, OutOfMemory}
 use Rattle.ots_server.specs.declared.trees.Trees.{Trees}
-use Rattle.ots_server.specs.Batch.{AddsRound, AreTickets, BatchAnswers, bad_second, not_drawn, added, full, DrawsFor, Happens, Outside, RoundAnswers, next_index, round_entries, trees_text}
-use Rattle.ots_server.specs.Ending.{Comes, as_defined, disk_failed, no_memory, Ending, Ends, declined, done, nowhere}
+use Rattle.ots_server.specs.Batch.{AddsRound, AreTickets, bad_second, not_drawn, added, full, Outside, RoundAnswers, next_index, round_entries, trees_text}
+use Rattle.ots_server.specs.Ending.{Comes, as_defined, disk_failed, no_memory, Ends, declined, done, nowhere}
 use Rattle.ots_server.specs.Moments.{StandsWith}
 use Rattle.ots_server.specs.Printed.{PrintsLast}
 use Rattle.ots_server.specs.Round.{ClosesTo, RoundEnds, RoundRefused, RoundStored, round_ending}

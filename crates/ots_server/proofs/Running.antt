@@ -18,13 +18,13 @@ use Rattle.ots_server.specs.declared.task.Task.{Task}
 use Rattle.ots_server.specs.List.{list_text}
 use Rattle.ots_server.specs.Task.{TaskAdds, TaskAnswers}
 use Rattle.ots_server.specs.Tip.{TipAnswers}
-use Rattle.ots_server.specs.Answer.{Answers, IsUsage, ListAnswers, MayAdd, MayDraw, WithBook, is_opened, is_refused as not_opened}
+use Rattle.ots_server.specs.Answer.{Answers, IsUsage, ListAnswers, MayAdd, MayDraw, WithBook, WithJournal, is_opened, is_refused as not_opened}
 use Rattle.ots_server.specs.Batch.{Outside, RoundAnswers}
 use Rattle.ots_server.specs.Ending.{Comes, as_defined, not_read, disk_failed, no_memory, Ending, Ends, done, nowhere, refused}
 use Rattle.ots_outside.specs.Shelf.{Names, ShelfFaults, ShelfTold}
 use Rattle.ots_server.specs.Anchor.{AnchorAnswers}
 use Rattle.ots_server.specs.Files.{ReadsShelf, StopsAt, names_read}
-use Rattle.ots_server.specs.Found.{AreEntries, Closes, MayClose, is_refused, disk_failed as failed, no_memory as no_room, OpensBook, RefusesBook}
+use Rattle.ots_server.specs.Found.{AreEntries, Closes, MayClose, is_refused, disk_failed as failed, no_memory as no_room, HasBook, Opens, OpensBook, RefusesBook}
 use Rattle.ots_server.specs.Moments.{IsOnlyImage, OpenedOrRan, StandsWith}
 use Rattle.ots_server.specs.Printed.{PrintsLast}
 
@@ -38,42 +38,54 @@ comes_as e p rose (not_read name at is) = not_read name at is
 comes_as e p rose (disk_failed fault is) = disk_failed (rose fault) is
 comes_as e p rose (no_memory is) = no_memory is
 
--- ---- a task on a book
+-- ---- what is done on a journal that was opened
 
 module _ {D : Type 0} (bytes : D → Option (List ℕ)) (faults clock : D → ℕ) (images : D → List ℕ → Type 0) (images_since : D → ℕ → List ℕ → Type 0) where
+  module _ (Has : Option (List ℕ) → List Entry → Type 0) (Refuses : Option (List ℕ) → DaemonStatus → Type 0) (answers : ℕ → List Entry → Ending → Type 0) (printing : Type 0) (taken now : Option (List ℕ)) (r : DaemonStatus) where
+    pub journal_ends : (disk : D) (j : JournalTold D) (last new : D) → new ≡ last → Opens bytes faults clock images images_since disk j → Has (bytes disk) j.entries
+        → Ends (Comes (answers j.gate j.entries) nowhere (Rose (faults j.disk) (faults last))) (images last) printing taken now r
+        → Ends (Comes (WithJournal Has Refuses (bytes disk) answers) nowhere (Rose (faults disk) (faults new))) (images new) printing taken now r
+    journal_ends disk j last new same opens has h =
+        subst (λ (z : D). Ends (Comes (WithJournal Has Refuses (bytes disk) answers) nowhere (Rose (faults disk) (faults z))) (images z) printing taken now r) (sym same) (record {
+          ending = h.ending;
+          comes = comes_as h.ending (λ a. is_opened j.gate j.entries has opens.gate a) (rose_later (faults disk) (faults j.disk) (faults last) opens.later) h.comes;
+          stand = h.stand;
+          printed = h.printed;
+        })
+
+    pub no_journal : (disk new : D) (s : DaemonStatus) → Closes bytes faults clock images images_since Refuses disk new s
+        → PrintsLast printing s (refusal_text [] s) taken now r
+        → Ends (Comes (WithJournal Has Refuses (bytes disk) answers) nowhere (Rose (faults disk) (faults new))) (images new) printing taken now r
+    no_journal disk new s closes printed = record { ending = refused [] s; comes = by closes.why; stand = tt; printed = printed }
+      where
+        by : MayClose (Refuses (bytes disk)) (Rose (faults disk) (faults new)) s → Comes (WithJournal Has Refuses (bytes disk) answers) nowhere (Rose (faults disk) (faults new)) (refused [] s)
+        by (is_refused h) = as_defined (not_opened s h refl)
+        by (failed rose is) = disk_failed rose (ap (refused []) is)
+        by (no_room is) = no_memory (ap (refused []) is)
+
   module _ (answers : ℕ → List Entry → Ending → Type 0) (printing : Type 0) (taken now : Option (List ℕ)) (r : DaemonStatus) where
     pub opened_ends : (disk : D) (j : JournalTold D) (last new : D) → new ≡ last → OpensBook bytes faults clock images images_since disk j
         → Ends (Comes (answers j.gate j.entries) nowhere (Rose (faults j.disk) (faults last))) (images last) printing taken now r
         → Ends (Comes (WithBook (bytes disk) answers) nowhere (Rose (faults disk) (faults new))) (images new) printing taken now r
     opened_ends disk j last new same opens h =
-        subst (λ (z : D). Ends (Comes (WithBook (bytes disk) answers) nowhere (Rose (faults disk) (faults z))) (images z) printing taken now r) (sym same) (record {
-          ending = h.ending;
-          comes = comes_as h.ending (λ a. is_opened j.gate j.entries (record { store = opens.store.has; are_true = opens.are_true }) a)
-              (rose_later (faults disk) (faults j.disk) (faults last) opens.store.later) h.comes;
-          stand = h.stand;
-          printed = h.printed;
-        })
+        journal_ends HasBook RefusesBook answers printing taken now r disk j last new same opens.store (record { store = opens.store.has; are_true = opens.are_true }) h
 
     pub closed_ends : (disk new : D) (s : DaemonStatus) → Closes bytes faults clock images images_since RefusesBook disk new s
         → PrintsLast printing s (refusal_text [] s) taken now r
         → Ends (Comes (WithBook (bytes disk) answers) nowhere (Rose (faults disk) (faults new))) (images new) printing taken now r
-    closed_ends disk new s closes printed = record { ending = refused [] s; comes = by closes.why; stand = tt; printed = printed }
-      where
-        by : MayClose (RefusesBook (bytes disk)) (Rose (faults disk) (faults new)) s → Comes (WithBook (bytes disk) answers) nowhere (Rose (faults disk) (faults new)) (refused [] s)
-        by (is_refused h) = as_defined (not_opened s h refl)
-        by (failed rose is) = disk_failed rose (ap (refused []) is)
-        by (no_room is) = no_memory (ap (refused []) is)
+    closed_ends disk new s closes printed = no_journal HasBook RefusesBook answers printing taken now r disk new s closes printed
+
+  pub journal_moments : (adds : List Entry → List Entry → Type 0) (disk : D) (j : JournalTold D) (last new : D) → new ≡ last → Opens bytes faults clock images images_since disk j
+      → LeavesOnly clock images_since j.disk last (StandsWith (adds j.entries) j.entries)
+      → LeavesOnly clock images_since disk new (OpenedOrRan (bytes disk) (images disk) adds)
+  journal_moments adds disk j last new same opens ran =
+      subst (λ (z : D). LeavesOnly clock images_since disk z (OpenedOrRan (bytes disk) (images disk) adds)) (sym same)
+      (joined clock images_since disk j.disk last _ _ _ opens.moments ran (λ c h. inl h) (λ c h. inr (j.entries, opens.has.stand, h)))
 
   pub opened_moments : (adds : List Entry → List Entry → Type 0) (disk : D) (j : JournalTold D) (last new : D) → new ≡ last → OpensBook bytes faults clock images images_since disk j
       → LeavesOnly clock images_since j.disk last (StandsWith (adds j.entries) j.entries)
       → LeavesOnly clock images_since disk new (OpenedOrRan (bytes disk) (images disk) adds)
-  opened_moments adds disk j last new same opens ran =
-      subst (λ (z : D). LeavesOnly clock images_since disk z (OpenedOrRan (bytes disk) (images disk) adds)) (sym same)
-      (joined clock images_since disk j.disk last _ _ _ opens.store.moments ran (λ c h. inl h) (λ c h. inr (j.entries, opens.store.has.stand, h)))
-
-  pub closed_moments : (adds : List Entry → List Entry → Type 0) (disk new : D) (s : DaemonStatus) → Closes bytes faults clock images images_since RefusesBook disk new s
-      → LeavesOnly clock images_since disk new (OpenedOrRan (bytes disk) (images disk) adds)
-  closed_moments adds disk new s closes = weaker clock images_since disk new _ _ closes.moments (λ c h. inl h)
+  opened_moments adds disk j last new same opens ran = journal_moments adds disk j last new same opens.store ran
 
 -- ---- a task on a sure book
 

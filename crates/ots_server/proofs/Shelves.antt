@@ -1,5 +1,5 @@
 -- Which names were opened, read after read.
-use Rattle.std.proofs.Common.{◌≡◌, ◌≤◌, ℕ, List, [], ◌∷◌, ◌++◌, length, take, zero, suc, ◌+◌, Option, Some, None, option_map, refl, sym, ap, ◌∙◌, inl, inr, append-nil, append_assoc, arith}
+use Rattle.std.proofs.Common.{◌≡◌, ◌≤◌, ℕ, List, [], ◌∷◌, ◌++◌, length, take, zero, suc, ◌+◌, Option, Some, None, option_map, refl, sym, ap, ◌∙◌, append-nil, append_assoc, arith}
 use Rattle.std.proofs.Math.Seq.{take-append-add}
 use Rattle.ots_base.specs.Cause.{Rose}
 use Rattle.ots_outside.specs.Shelf.{NeverFalls, ShelfFaults, ShelfTold}

@@ -18,15 +18,25 @@ use Rattle.ots_server_inputs.specs.File.{HasUnder, IsUnder}
 use Rattle.ots_server.specs.Anchor.{AddsAnchor, AnchorAnswers}
 use Rattle.ots_server.specs.Batch.{AddsRound, DrawsFor, Outside, RoundAnswers}
 use Rattle.ots_server.specs.Ending.{Ending, done, refused}
-use Rattle.ots_server.specs.Found.{HasBook, RefusesBook}
+use Rattle.ots_server.specs.Found.{HasBook, HasGate, HasRecords, RefusesBook, RefusesStore}
 use Rattle.ots_server.specs.List.{list_text}
+use Rattle.ots_server.specs.Migrate.{AddsFront, MigrateAnswers}
 use Rattle.ots_server.specs.Tip.{AddsTip, TipAnswers}
 
--- The journal is opened as a book: it is refused, or the command goes on with its entries and the place of its closed
--- gate.
-pub data WithBook (told : Option (List ℕ)) (goes_on : ℕ → List Entry → Ending → Type 0) (e : Ending) : Type 0 where
-  is_opened : (gate : ℕ) (entries : List Entry) → HasBook told entries → goes_on gate entries e → WithBook told goes_on e
-  is_refused : (s : DaemonStatus) → RefusesBook told s → e ≡ refused [] s → WithBook told goes_on e
+-- The journal is opened, as what is asked of its entries: it is refused, or the command goes on with them and the place of
+-- its closed gate.
+pub data WithJournal (Has : Option (List ℕ) → List Entry → Type 0) (Refuses : Option (List ℕ) → DaemonStatus → Type 0) (told : Option (List ℕ))
+    (goes_on : ℕ → List Entry → Ending → Type 0) (e : Ending) : Type 0 where
+  is_opened : (gate : ℕ) (entries : List Entry) → Has told entries → HasGate told gate → goes_on gate entries e → WithJournal Has Refuses told goes_on e
+  is_refused : (s : DaemonStatus) → Refuses told s → e ≡ refused [] s → WithJournal Has Refuses told goes_on e
+
+-- as a book
+abbrev pub WithBook : Option (List ℕ) → (ℕ → List Entry → Ending → Type 0) → Ending → Type 0
+WithBook = WithJournal HasBook RefusesBook
+
+-- as records whose values are not looked at
+abbrev pub WithStore : Option (List ℕ) → (ℕ → List Entry → Ending → Type 0) → Ending → Type 0
+WithStore = WithJournal HasRecords RefusesStore
 
 -- The bytes under a name give something, and the command goes on with it; or there is no such name, or they are refused.
 pub data WithInput {A : Type 0} (names : Option Names) (name : List ℕ) (Gives : List ℕ → A → Type 0) (Refuses : List ℕ → DaemonStatus → Type 0)
@@ -74,7 +84,7 @@ Answers happens failed names told (Some (batch asked)) e =
 Answers happens failed names told (Some tip) e = WithBook told (TipAnswers MAX_JOURNAL) e
 Answers happens failed names told (Some (anchor asked)) e = WithBlock names asked.block (λ block. WithBook told (AnchorAnswers MAX_JOURNAL block asked.height)) e
 Answers happens failed names told (Some list) e = WithBook told ListAnswers e
-Answers happens failed names told (Some (migrate old)) e = IsUsage e
+Answers happens failed names told (Some (migrate old)) e = WithOld names old (λ entries. WithStore told (MigrateAnswers MAX_JOURNAL entries)) e
 
 -- No command but these adds anything.
 abbrev pub AddsNothing : List Entry → List Entry → Type 0
@@ -94,6 +104,12 @@ pub record AddsFound (names : Option Names) (asked : AnchoringAsked) (entries ad
   pub has_block : HasUnder names asked.block (λ bytes. IsBlock bytes block)
   pub adds : AddsAnchor block asked.height entries added
 
+-- Entries of the old journal under its name.
+pub record AddsOld (names : Option Names) (name : List ℕ) (entries added : List Entry) : Type 0 where
+  pub old : List Entry
+  pub has_old : HasUnder names name (λ bytes. Stands1 bytes old)
+  pub adds : AddsFront old entries added
+
 -- What the command may add to these entries.
 abbrev pub MayAdd : (Outside → Type 0) → Option Names → Option Command → List Entry → List Entry → Type 0
 MayAdd happens names None entries added = AddsNothing entries added
@@ -102,7 +118,7 @@ MayAdd happens names (Some (batch asked)) entries added = AddsBatch happens name
 MayAdd happens names (Some tip) entries added = AddsTip entries added
 MayAdd happens names (Some (anchor asked)) entries added = AddsFound names asked entries added
 MayAdd happens names (Some list) entries added = AddsNothing entries added
-MayAdd happens names (Some (migrate old)) entries added = AddsNothing entries added
+MayAdd happens names (Some (migrate old)) entries added = AddsOld names old entries added
 
 -- Nonces were drawn, at most one for each of the digests under their name, by a clock whose second a commitment can hold.
 pub record DrawsBatch (happens : Outside → Type 0) (names : Option Names) (asked : BatchAsked) : Type 0 where

@@ -14,7 +14,6 @@ use Rattle.ots_server.specs.declared.batch.Round.{Round}
 use Rattle.ots_server.specs.Answer.{WithFiles, WithRound}
 use Rattle.ots_server.specs.Ending.{Comes, Ending, refused}
 use Rattle.ots_server.specs.Files.{ReadsShelf, StopsAt}
-use Rattle.ots_server.specs.Round.{IsRound}
 
 -- the names that a batch reads
 abbrev pub names_of : BatchAsked → List (List ℕ)

@@ -8,6 +8,7 @@
 mod anchor;
 mod batch;
 mod list;
+mod migrate;
 mod opening;
 mod printing;
 mod reading;

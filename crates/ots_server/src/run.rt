@@ -9,20 +9,21 @@ ghost use Rattle.ots_journal.specs.Opening.{OpenedFrom};
 ghost use Rattle.ots_server_text.specs.Refusal.{refusal_text};
 ghost use Rattle.ots_server_words.specs.Words.{asked, read_anchoring, read_as, read_batch};
 ghost use Rattle.ots_server.specs.Anchor.{AnchorAnswers};
-ghost use Rattle.ots_server.specs.Answer.{AddsBatch, AddsFound, Answers, DrawsBatch, IsUsage, MayAdd, MayDraw, WithBlock, WithBook, WithRound};
+ghost use Rattle.ots_server.specs.Answer.{AddsBatch, AddsFound, AddsOld, Answers, DrawsBatch, IsUsage, MayAdd, MayDraw, WithBlock, WithBook, WithOld, WithRound, WithStore};
 ghost use Rattle.ots_server.specs.Batch.{Happens, RoundAnswers};
 ghost use Rattle.ots_server.specs.Files.{ReadsShelf, StopsAt, names_read};
 ghost use Rattle.ots_server.specs.Ending.{Comes, Ends, nowhere};
+ghost use Rattle.ots_server.specs.Migrate.{MigrateAnswers};
 ghost use Rattle.ots_server.specs.Moments.{IsOnlyImage, OpenedOrRan, StandsWith};
 ghost use Rattle.ots_server.specs.Printed.{PrintsLast, SinkStays};
 ghost use Rattle.ots_server.specs.Reading.{names_of};
 
 use crate::printing::refuse;
 use crate::reading::read_round;
-use crate::task::{Task, run_round, run_task};
+use crate::task::{Task, run_carry, run_round, run_task};
 use ots_disk::Disk;
 use ots_outside::{Accepter, Clock, Nonces, Shelf, Sink};
-use ots_server_inputs::{Stop, read_block};
+use ots_server_inputs::{Stop, read_block, read_old};
 use ots_server_text::DaemonStatus;
 use ots_server_words::{Anchoring, Batch, Command, WordsError, read_words};
 use std::alloc::Global;
@@ -135,7 +136,7 @@ fn run_command<D: Disk, S: Shelf, K: Sink, C: Clock, N: Nonces>(
         Command::Serve(_) => refuse_words(disk, out),
         Command::Batch(asked) => run_batch(alloc, asked, disk, shelf, out, clock, nonces),
         Command::Anchor(asked) => run_anchor(alloc, asked, disk, shelf, out),
-        Command::Migrate(_) => refuse_words(disk, out),
+        Command::Migrate(old) => run_migrate(alloc, old, disk, shelf, out),
     }
 }
 
@@ -188,6 +189,31 @@ fn run_batch<D: Disk, S: Shelf, K: Sink, C: Clock, N: Nonces>(
 {
     match read_round(alloc, asked, shelf) {
         Ok(round) => run_round(alloc, &round, disk, out, clock, nonces),
+        Err(stop) => {
+            let status = refuse_input(stop, out);
+            (status, disk)
+        }
+    }
+}
+
+/// Reads an old journal, and carries it over.
+fn run_migrate<D: Disk, S: Shelf, K: Sink>(
+    alloc: Global,
+    name: &str,
+    disk: D,
+    shelf: &mut S,
+    out: &mut K,
+) -> (DaemonStatus, D)
+    ensures ends { Ends (Comes (WithOld (S.told shelf.old).names name.now (λ entries. WithStore (D.bytes disk) (MigrateAnswers MAX_JOURNAL entries)))
+        (StopsAt (name.now ∷ []) (S.told shelf.old).opened (S.told shelf.new).opened (S.faults shelf.old) (S.faults shelf.new)) (Rose (D.faults disk) (D.faults result.1)))
+        (D.images result.1) (Rose (K.faults out.old) (K.faults out.new)) (K.taken out.old) (K.taken out.new) result.0 }
+    ensures moments { LeavesOnly D.clock D.images_since disk result.1 (OpenedOrRan (D.bytes disk) (D.images disk) (AddsOld (S.told shelf.old).names name.now)) }
+    ensures later { D.faults disk ≤ D.faults result.1 }
+    ensures shelf { ReadsShelf (name.now ∷ []) (S.told shelf.old) (S.told shelf.new) (S.faults shelf.old) (S.faults shelf.new) result.0 }
+    ensures sink { SinkStays K.faults K.same out.old out.new }
+{
+    match read_old(alloc, name, shelf) {
+        Ok(old) => run_carry(alloc, &old, disk, out),
         Err(stop) => {
             let status = refuse_input(stop, out);
             (status, disk)

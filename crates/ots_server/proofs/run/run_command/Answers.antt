@@ -46,13 +46,13 @@ pub returns-in-Batch-clause-nonces : goal.returns-in-Batch-clause-nonces
 returns-in-Batch-clause-nonces g c = asked_nonces _ (Unit {0}) _ (None) _ _ (ap (λ (z : Read). Some (read_as z)) c.in-Batch.is) _ c.run_batch.ensures.nonces
 
 pub returns-in-Migrate-clause-ends : goal.returns-in-Migrate-clause-ends
-returns-in-Migrate-clause-ends g c = asked_ends _ _ _ _ _ _ (ap (λ (z : Read). Some (read_as z)) c.in-Migrate.is) _ _ _ _ _ _ _ (unread_ends _ _ _ _ _ _ _ _ c.refuse_words-in-Migrate.ensures.ends)
-
-pub returns-in-Migrate-clause-shelf : goal.returns-in-Migrate-clause-shelf
-returns-in-Migrate-clause-shelf g c = reads_nothing _ _ _ _
+returns-in-Migrate-clause-ends g c = asked_reads _ _ _ _ _ _ (ap (λ (z : Read). Some (read_as z)) c.in-Migrate.is) _ _ _ _ _ _ _ _ _ _ c.run_migrate.ensures.ends
 
 pub returns-in-Migrate-clause-moments : goal.returns-in-Migrate-clause-moments
-returns-in-Migrate-clause-moments g c = idle_moments g.D.Disk.clock g.D.Disk.images_since _ _ _ _ _ c.refuse_words-in-Migrate.ensures.moments
+returns-in-Migrate-clause-moments g c = asked_moments _ (Unit {0}) _ _ _ _ (ap (λ (z : Read). Some (read_as z)) c.in-Migrate.is) g.D.Disk.clock g.D.Disk.images_since _ _ _ c.run_migrate.ensures.moments
+
+pub returns-in-Migrate-clause-shelf : goal.returns-in-Migrate-clause-shelf
+returns-in-Migrate-clause-shelf g c = asked_shelf _ _ (ap (λ (z : Read). Some (read_as z)) c.in-Migrate.is) _ _ _ _ _ c.run_migrate.ensures.shelf
 
 pub returns-in-Anchor-clause-ends : goal.returns-in-Anchor-clause-ends
 returns-in-Anchor-clause-ends g c = asked_reads _ _ _ _ _ _ (ap (λ (z : Read). Some (read_as z)) c.in-Anchor.is) _ _ _ _ _ _ _ _ _ _ c.run_anchor.ensures.ends
