@@ -1,5 +1,5 @@
 -- A task on the book of a disk, from opening it on; and a whole run.
-use Rattle.std.proofs.Common.{◌≡◌, ◌⊎◌, ◌≤◌, inl, inr, ℕ, List, [], length, Option, refl, sym, ap, subst, arith}
+use Rattle.std.proofs.Common.{◌≡◌, ◌⊎◌, ◌≤◌, inl, inr, ℕ, List, [], length, Option, refl, sym, ap, subst, ◌∙◌, arith}
 use Rattle.ots_base.specs.Cause.{Rose}
 use Rattle.ots_block.specs.Block.{Contents}
 use Rattle.ots_disk.specs.Disk.{LeavesOnly}
@@ -18,12 +18,12 @@ use Rattle.ots_server.specs.declared.task.Task.{Task}
 use Rattle.ots_server.specs.List.{list_text}
 use Rattle.ots_server.specs.Task.{TaskAdds, TaskAnswers}
 use Rattle.ots_server.specs.Tip.{TipAnswers}
-use Rattle.ots_server.specs.Answer.{Answers, IsUsage, ListAnswers, MayAdd, MayDraw, WithBook, WithJournal, is_opened, is_refused as not_opened}
+use Rattle.ots_server.specs.Answer.{Answers, IsReady, IsUsage, ListAnswers, MayAdd, MayDraw, WithBook, WithJournal, is_opened, is_refused as not_opened}
 use Rattle.ots_server.specs.Batch.{Outside, RoundAnswers}
-use Rattle.ots_server.specs.Ending.{Comes, as_defined, not_read, disk_failed, no_memory, Ending, Ends, done, nowhere, refused}
+use Rattle.ots_server.specs.Ending.{Comes, as_defined, not_read, disk_failed, no_memory, Completes, Ending, Ends, NoFaults, done, nowhere, refused}
 use Rattle.ots_outside.specs.Shelf.{Names, ShelfFaults, ShelfTold}
 use Rattle.ots_server.specs.Anchor.{AnchorAnswers}
-use Rattle.ots_server.specs.Files.{ReadsShelf, StopsAt, names_read}
+use Rattle.ots_server.specs.Files.{ReadsShelf, StopsAt, not_opened, opened_last, names_read}
 use Rattle.ots_server.specs.Found.{AreEntries, Closes, MayClose, is_refused, disk_failed as failed, no_memory as no_room, HasBook, Opens, OpensBook, RefusesBook}
 use Rattle.ots_server.specs.Moments.{IsOnlyImage, OpenedOrRan, StandsWith}
 use Rattle.ots_server.specs.Printed.{PrintsLast}
@@ -139,6 +139,9 @@ module _ (happens : Outside → Type 0) (faulted : Type 0) (names : Option Names
   pub asked_nonces : (same : Type 0) → same ⊎ MayDraw happens names p → same ⊎ MayDraw happens names o
   asked_nonces same h = subst (λ (z : Option Command). same ⊎ MayDraw happens names z) (sym is) h
 
+pub asked_ready : (names : Option Names) (o p : Option Command) → o ≡ p → (same : Type 0) → same ⊎ IsReady names p → same ⊎ IsReady names o
+asked_ready names o p is same h = subst (λ (z : Option Command). same ⊎ IsReady names z) (sym is) h
+
 pub asked_shelf : (o p : Option Command) → o ≡ p → (old new : ShelfTold) (before after : ShelfFaults) (r : DaemonStatus)
     → ReadsShelf (names_read p) old new before after r → ReadsShelf (names_read o) old new before after r
 asked_shelf o p is old new before after r h = subst (λ (z : Option Command). ReadsShelf (names_read z) old new before after r) (sym is) h
@@ -186,3 +189,23 @@ pub round_within : (happens : Outside → Type 0) (faulted : Type 0) (limit most
     → Ends (Comes (RoundAnswers happens faulted most key uri digests gate entries) nowhere disk) images printing taken now r
 round_within happens faulted limit most key uri digests gate entries disk images printing taken now r is h =
     subst (λ (z : ℕ). Ends (Comes (RoundAnswers happens faulted z key uri digests gate entries) nowhere disk) images printing taken now r) is h
+
+-- ---- where nothing failed
+
+still_read : (names : List (List ℕ)) (old new : Option (List (List ℕ))) (before now : ShelfFaults) (name : List ℕ) (disk out : Type 0) → NoFaults before now disk out → StopsAt names old new before now name → ⊥
+still_read names old new before now name disk out well (not_opened earlier later is opened rose) = well.opening rose
+still_read names old new before now name disk out well (opened_last earlier later is opened rose) = well.reading rose
+
+pub completes : (answers : Ending → Type 0) (names : List (List ℕ)) (old new : Option (List (List ℕ))) (before after : ShelfFaults) (disk : Type 0) (images : List ℕ → Type 0) (printing : Type 0)
+    (taken now : Option (List ℕ)) (r : DaemonStatus) → Ends (Comes answers (StopsAt names old new before after) disk) images printing taken now r → NoFaults before after disk printing → Completes answers r
+completes answers names old new before after disk images printing taken now r h well = by h.comes (status h.printed)
+  where
+    status : PrintsLast printing h.ending.status h.ending.text taken now r → r ≡ h.ending.status
+    status (inl whole) = whole.1
+    status (inr part) = absurd (well.out_well part.0)
+
+    by : Comes answers (StopsAt names old new before after) disk h.ending → r ≡ h.ending.status → Completes answers r
+    by (as_defined a) is = inr (h.ending, a, is)
+    by (not_read name at ended) is = absurd (still_read names old new before after name disk printing well at)
+    by (disk_failed fault ended) is = absurd (well.disk_well fault)
+    by (no_memory ended) is = inl (is ∙ ap (λ (z : Ending). z.status) ended)

@@ -135,3 +135,22 @@ MayDraw happens names (Some tip) = ⊥
 MayDraw happens names (Some (anchor asked)) = ⊥
 MayDraw happens names (Some list) = ⊥
 MayDraw happens names (Some (migrate old)) = ⊥
+
+-- What a batch names is in order.
+pub record HasRound (names : Option Names) (asked : BatchAsked) : Type 0 where
+  pub uri : List ℕ
+  pub one : IsOneAddress asked.uri uri
+  pub key : List ℕ
+  pub has_key : HasUnder names asked.key (λ bytes. GivesKey bytes key)
+  pub digests : List (List ℕ)
+  pub has_digests : HasUnder names asked.digests (λ bytes. IsDigests bytes digests)
+
+-- All that the words name is in order, so that the journal is opened.
+abbrev pub IsReady : Option Names → Option Command → Type 0
+IsReady names None = ⊥
+IsReady names (Some (serve asked)) = ⊥
+IsReady names (Some (batch asked)) = HasRound names asked
+IsReady names (Some tip) = Unit {0}
+IsReady names (Some (anchor asked)) = (block : Contents) × HasUnder names asked.block (λ bytes. IsBlock bytes block)
+IsReady names (Some list) = Unit {0}
+IsReady names (Some (migrate old)) = (entries : List Entry) × HasUnder names old (λ bytes. Stands1 bytes entries)

@@ -7,12 +7,12 @@ ghost use Rattle.ots_journal.specs.declared.entry.Entry.{Entry};
 ghost use Rattle.ots_journal.specs.declared.limits.TheConstants.{MAX_JOURNAL};
 ghost use Rattle.ots_journal.specs.Opening.{OpenedFrom};
 ghost use Rattle.ots_server_text.specs.Refusal.{refusal_text};
-ghost use Rattle.ots_server_words.specs.Words.{asked, read_anchoring, read_as, read_batch};
+ghost use Rattle.ots_server_words.specs.Words.{anchor, asked, batch, migrate, read_anchoring, read_as, read_batch};
 ghost use Rattle.ots_server.specs.Anchor.{AnchorAnswers};
-ghost use Rattle.ots_server.specs.Answer.{AddsBatch, AddsFound, AddsOld, Answers, DrawsBatch, IsUsage, MayAdd, MayDraw, WithBlock, WithBook, WithOld, WithRound, WithStore};
+ghost use Rattle.ots_server.specs.Answer.{AddsBatch, AddsFound, AddsOld, Answers, DrawsBatch, IsReady, IsUsage, MayAdd, MayDraw, WithBlock, WithBook, WithOld, WithRound, WithStore};
 ghost use Rattle.ots_server.specs.Batch.{Happens, RoundAnswers};
 ghost use Rattle.ots_server.specs.Files.{ReadsShelf, StopsAt, names_read};
-ghost use Rattle.ots_server.specs.Ending.{Comes, Ends, nowhere};
+ghost use Rattle.ots_server.specs.Ending.{Comes, Completes, Ends, NoFaults, nowhere};
 ghost use Rattle.ots_server.specs.Migrate.{MigrateAnswers};
 ghost use Rattle.ots_server.specs.Moments.{IsOnlyImage, OpenedOrRan, StandsWith};
 ghost use Rattle.ots_server.specs.Printed.{PrintsLast, SinkStays};
@@ -42,7 +42,8 @@ pub struct Returned<D, A, N> {
 /// one line, or the command's text, but want of memory and a sink that failed.
 ///
 /// The first word names the journal, which is the disk that is handed in. A command that is refused
-/// before the journal is opened leaves the disk as it was.
+/// before the journal is opened calls no disk. Where no call of the outside fails, the status is the
+/// defined one, or memory ran out.
 pub fn run_calendar<D: Disk, S: Shelf, K: Sink, A: Accepter, C: Clock + Drop, N: Nonces>(
     alloc: Global,
     words: &[String],
@@ -61,6 +62,9 @@ pub fn run_calendar<D: Disk, S: Shelf, K: Sink, A: Accepter, C: Clock + Drop, N:
         → LeavesOnly D.clock D.images_since disk result.1.disk (StandsWith (MayAdd (Happens (C.coming clock) (N.left nonces) (N.left result.1.nonces)) (S.told shelf.old).names (asked words.now) entries) entries) }
     ensures later { D.faults disk ≤ D.faults result.1.disk }
     ensures shelf { ReadsShelf (names_read (asked words.now)) (S.told shelf.old) (S.told shelf.new) (S.faults shelf.old) (S.faults shelf.new) result.0 }
+    ensures complete { NoFaults (S.faults shelf.old) (S.faults shelf.new) (Rose (D.faults disk) (D.faults result.1.disk)) (Rose (K.faults out.old) (K.faults out.new))
+        → Completes (Answers (Happens (C.coming clock) (N.left nonces) (N.left result.1.nonces)) (Rose (N.faults nonces) (N.faults result.1.nonces)) (S.told shelf.old).names (D.bytes disk) (asked words.now)) result.0 }
+    ensures untouched { (result.1.disk ≡ disk) ⊎ IsReady (S.told shelf.old).names (asked words.now) }
     ensures accepter { result.1.accepter ≡ accepter }
     ensures nonces { (result.1.nonces ≡ nonces) ⊎ MayDraw (Happens (C.coming clock) (N.left nonces) (N.left result.1.nonces)) (S.told shelf.old).names (asked words.now) }
     ensures nonce_faults { N.faults nonces ≤ N.faults result.1.nonces }
@@ -94,6 +98,7 @@ fn run_words<D: Disk, S: Shelf, K: Sink, C: Clock, N: Nonces>(
         (StopsAt (names_read (asked words.now)) (S.told shelf.old).opened (S.told shelf.new).opened (S.faults shelf.old) (S.faults shelf.new)) (Rose (D.faults disk) (D.faults result.1)))
         (D.images result.1) (Rose (K.faults out.old) (K.faults out.new)) (K.taken out.old) (K.taken out.new) result.0 }
     ensures moments { LeavesOnly D.clock D.images_since disk result.1 (OpenedOrRan (D.bytes disk) (D.images disk) (MayAdd (Happens (C.coming clock.old) (N.left nonces.old) (N.left nonces.new)) (S.told shelf.old).names (asked words.now))) }
+    ensures untouched { (result.1 ≡ disk) ⊎ IsReady (S.told shelf.old).names (asked words.now) }
     ensures later { D.faults disk ≤ D.faults result.1 }
     ensures shelf { ReadsShelf (names_read (asked words.now)) (S.told shelf.old) (S.told shelf.new) (S.faults shelf.old) (S.faults shelf.new) result.0 }
     ensures nonces { (nonces.new ≡ nonces.old) ⊎ MayDraw (Happens (C.coming clock.old) (N.left nonces.old) (N.left nonces.new)) (S.told shelf.old).names (asked words.now) }
@@ -124,6 +129,7 @@ fn run_command<D: Disk, S: Shelf, K: Sink, C: Clock, N: Nonces>(
         (StopsAt (names_read (Some (read_as command.entry))) (S.told shelf.old).opened (S.told shelf.new).opened (S.faults shelf.old) (S.faults shelf.new)) (Rose (D.faults disk) (D.faults result.1)))
         (D.images result.1) (Rose (K.faults out.old) (K.faults out.new)) (K.taken out.old) (K.taken out.new) result.0 }
     ensures moments { LeavesOnly D.clock D.images_since disk result.1 (OpenedOrRan (D.bytes disk) (D.images disk) (MayAdd (Happens (C.coming clock.old) (N.left nonces.old) (N.left nonces.new)) (S.told shelf.old).names (Some (read_as command.entry)))) }
+    ensures untouched { (result.1 ≡ disk) ⊎ IsReady (S.told shelf.old).names (Some (read_as command.entry)) }
     ensures later { D.faults disk ≤ D.faults result.1 }
     ensures shelf { ReadsShelf (names_read (Some (read_as command.entry))) (S.told shelf.old) (S.told shelf.new) (S.faults shelf.old) (S.faults shelf.new) result.0 }
     ensures nonces { (nonces.new ≡ nonces.old) ⊎ MayDraw (Happens (C.coming clock.old) (N.left nonces.old) (N.left nonces.new)) (S.told shelf.old).names (Some (read_as command.entry)) }
@@ -152,6 +158,7 @@ fn run_anchor<D: Disk, S: Shelf, K: Sink>(
         (StopsAt (asked.entry.block.now ∷ []) (S.told shelf.old).opened (S.told shelf.new).opened (S.faults shelf.old) (S.faults shelf.new)) (Rose (D.faults disk) (D.faults result.1)))
         (D.images result.1) (Rose (K.faults out.old) (K.faults out.new)) (K.taken out.old) (K.taken out.new) result.0 }
     ensures moments { LeavesOnly D.clock D.images_since disk result.1 (OpenedOrRan (D.bytes disk) (D.images disk) (AddsFound (S.told shelf.old).names (read_anchoring asked.entry))) }
+    ensures untouched { (result.1 ≡ disk) ⊎ IsReady (S.told shelf.old).names (Some (anchor (read_anchoring asked.entry))) }
     ensures later { D.faults disk ≤ D.faults result.1 }
     ensures shelf { ReadsShelf (asked.entry.block.now ∷ []) (S.told shelf.old) (S.told shelf.new) (S.faults shelf.old) (S.faults shelf.new) result.0 }
     ensures sink { SinkStays K.faults K.same out.old out.new }
@@ -181,6 +188,7 @@ fn run_batch<D: Disk, S: Shelf, K: Sink, C: Clock, N: Nonces>(
         (D.images result.1) (Rose (K.faults out.old) (K.faults out.new)) (K.taken out.old) (K.taken out.new) result.0 }
     ensures moments { LeavesOnly D.clock D.images_since disk result.1 (OpenedOrRan (D.bytes disk) (D.images disk)
         (AddsBatch (Happens (C.coming clock.old) (N.left nonces.old) (N.left nonces.new)) (S.told shelf.old).names (read_batch asked.entry))) }
+    ensures untouched { (result.1 ≡ disk) ⊎ IsReady (S.told shelf.old).names (Some (batch (read_batch asked.entry))) }
     ensures later { D.faults disk ≤ D.faults result.1 }
     ensures shelf { ReadsShelf (names_of (read_batch asked.entry)) (S.told shelf.old) (S.told shelf.new) (S.faults shelf.old) (S.faults shelf.new) result.0 }
     ensures nonces { (nonces.new ≡ nonces.old) ⊎ DrawsBatch (Happens (C.coming clock.old) (N.left nonces.old) (N.left nonces.new)) (S.told shelf.old).names (read_batch asked.entry) }
@@ -208,6 +216,7 @@ fn run_migrate<D: Disk, S: Shelf, K: Sink>(
         (StopsAt (name.now ∷ []) (S.told shelf.old).opened (S.told shelf.new).opened (S.faults shelf.old) (S.faults shelf.new)) (Rose (D.faults disk) (D.faults result.1)))
         (D.images result.1) (Rose (K.faults out.old) (K.faults out.new)) (K.taken out.old) (K.taken out.new) result.0 }
     ensures moments { LeavesOnly D.clock D.images_since disk result.1 (OpenedOrRan (D.bytes disk) (D.images disk) (AddsOld (S.told shelf.old).names name.now)) }
+    ensures untouched { (result.1 ≡ disk) ⊎ IsReady (S.told shelf.old).names (Some (migrate name.now)) }
     ensures later { D.faults disk ≤ D.faults result.1 }
     ensures shelf { ReadsShelf (name.now ∷ []) (S.told shelf.old) (S.told shelf.new) (S.faults shelf.old) (S.faults shelf.new) result.0 }
     ensures sink { SinkStays K.faults K.same out.old out.new }
@@ -238,6 +247,7 @@ fn refuse_words<D: Disk, K: Sink>(disk: D, out: &mut K) -> (DaemonStatus, D)
     ensures ends { Ends (Comes IsUsage nowhere (Rose (D.faults disk) (D.faults result.1)))
         (D.images result.1) (Rose (K.faults out.old) (K.faults out.new)) (K.taken out.old) (K.taken out.new) result.0 }
     ensures moments { LeavesOnly D.clock D.images_since disk result.1 (OpenedFrom (D.images disk)) }
+    ensures untouched { result.1 ≡ disk }
     ensures later { D.faults disk ≤ D.faults result.1 }
     ensures sink { SinkStays K.faults K.same out.old out.new }
 {

@@ -1,3 +1,4 @@
+use Rattle.std.proofs.Common.{inr}
 use Rattle.ots_block.specs.Block.{IsBlock}
 use Rattle.ots_server_inputs.specs.Block.{RefusesBlock}
 use Rattle.ots_server.specs.Answer.{is_given}
@@ -28,3 +29,6 @@ returns-in-Err-clause-moments g c = idle_moments g.D.Disk.clock g.D.Disk.images_
 
 pub returns-in-Err-clause-shelf : goal.returns-in-Err-clause-shelf
 returns-in-Err-clause-shelf g c = reads_refused c.in-Err.stop _ c.refuse_input-status.ensures.memory c.in-Err.ensures
+
+pub returns-in-Ok-clause-untouched : goal.returns-in-Ok-clause-untouched
+returns-in-Ok-clause-untouched g c = inr (c.in-Ok.block, c.in-Ok.ensures.answer)

@@ -1,3 +1,4 @@
+use Rattle.std.proofs.Common.{inr}
 use Rattle.ots_server.specs.Answer.{is_given, is_uri}
 use Rattle.ots_server.proofs.Gathering.{round_stops}
 use Rattle.ots_server.proofs.Inputs.{comes_map, given_ends, given_moments, stop_ends}
@@ -20,3 +21,13 @@ returns-in-Err-clause-ends g c = stop_ends _ _ _ _ _ _ _ _ c.in-Err.stop
 
 pub returns-in-Err-clause-shelf : goal.returns-in-Err-clause-shelf
 returns-in-Err-clause-shelf g c = c.in-Err.ensures.shelf _ c.refuse_input-status.ensures.memory
+
+pub returns-in-Ok-clause-untouched : goal.returns-in-Ok-clause-untouched
+returns-in-Ok-clause-untouched g c = inr (record {
+  uri = c.in-Ok.round.uri;
+  one = c.in-Ok.ensures.answer.1;
+  key = c.in-Ok.round.key;
+  has_key = c.in-Ok.ensures.answer.0.has_key;
+  digests = c.in-Ok.round.digests.items;
+  has_digests = c.in-Ok.ensures.answer.0.has_digests;
+})

@@ -1,9 +1,9 @@
-use Rattle.std.proofs.Common.{ap}
+use Rattle.std.proofs.Common.{ap, inr}
 use Rattle.std.specs.Prelude.{None, Some}
 use Rattle.ots_server_words.specs.Words.{read_as}
 use Rattle.ots_server_words.specs.declared.command.Command.{Command as Read}
 use Rattle.ots_server.proofs.Inputs.{reads_nothing, unread_ends}
-use Rattle.ots_server.proofs.Running.{asked_ends, asked_moments, asked_nonces, asked_reads, asked_shelf, idle_moments}
+use Rattle.ots_server.proofs.Running.{asked_ends, asked_moments, asked_nonces, asked_reads, asked_ready, asked_shelf, idle_moments}
 use Rattle.ots_server.proofs.run.run_command.Goals as goal
 
 pub returns-in-Tip-clause-ends : goal.returns-in-Tip-clause-ends
@@ -62,3 +62,18 @@ returns-in-Anchor-clause-moments g c = asked_moments _ (Unit {0}) _ _ _ _ (ap (�
 
 pub returns-in-Anchor-clause-shelf : goal.returns-in-Anchor-clause-shelf
 returns-in-Anchor-clause-shelf g c = asked_shelf _ _ (ap (λ (z : Read). Some (read_as z)) c.in-Anchor.is) _ _ _ _ _ c.run_anchor.ensures.shelf
+
+pub returns-in-Tip-clause-untouched : goal.returns-in-Tip-clause-untouched
+returns-in-Tip-clause-untouched g c = asked_ready _ _ _ (ap (λ (z : Read). Some (read_as z)) c.in-Tip.is) _ (inr tt)
+
+pub returns-in-List-clause-untouched : goal.returns-in-List-clause-untouched
+returns-in-List-clause-untouched g c = asked_ready _ _ _ (ap (λ (z : Read). Some (read_as z)) c.in-List.is) _ (inr tt)
+
+pub returns-in-Batch-clause-untouched : goal.returns-in-Batch-clause-untouched
+returns-in-Batch-clause-untouched g c = asked_ready _ _ _ (ap (λ (z : Read). Some (read_as z)) c.in-Batch.is) _ c.run_batch.ensures.untouched
+
+pub returns-in-Anchor-clause-untouched : goal.returns-in-Anchor-clause-untouched
+returns-in-Anchor-clause-untouched g c = asked_ready _ _ _ (ap (λ (z : Read). Some (read_as z)) c.in-Anchor.is) _ c.run_anchor.ensures.untouched
+
+pub returns-in-Migrate-clause-untouched : goal.returns-in-Migrate-clause-untouched
+returns-in-Migrate-clause-untouched g c = asked_ready _ _ _ (ap (λ (z : Read). Some (read_as z)) c.in-Migrate.is) _ c.run_migrate.ensures.untouched

@@ -1,3 +1,4 @@
+use Rattle.std.proofs.Common.{inr}
 use Rattle.std.specs.Prelude.{Vec}
 use Rattle.ots_journal.specs.declared.entry.Entry.{Entry}
 use Rattle.std.specs.declared.alloc.Global.{Global}
@@ -23,3 +24,6 @@ returns-in-Err-clause-ends g c = stop_ends _ _ _ _ _ _ _ _ c.in-Err.stop
 
 pub returns-in-Err-clause-shelf : goal.returns-in-Err-clause-shelf
 returns-in-Err-clause-shelf g c = reads_refused c.in-Err.stop _ c.refuse_input-status.ensures.memory c.in-Err.ensures
+
+pub returns-in-Ok-clause-untouched : goal.returns-in-Ok-clause-untouched
+returns-in-Ok-clause-untouched g c = inr (c.in-Ok.old.items, c.in-Ok.ensures.answer)

@@ -1,6 +1,6 @@
 use Rattle.std.specs.Prelude.{None}
 use Rattle.ots_server.proofs.Inputs.{reads_nothing, unread_ends}
-use Rattle.ots_server.proofs.Running.{asked_ends, asked_moments, asked_nonces, asked_reads, asked_shelf, idle_moments, memory_ends}
+use Rattle.ots_server.proofs.Running.{asked_ends, asked_moments, asked_nonces, asked_reads, asked_ready, asked_shelf, idle_moments, memory_ends}
 use Rattle.ots_server.proofs.run.run_words.Goals as goal
 
 pub returns-in-Ok-clause-ends : goal.returns-in-Ok-clause-ends
@@ -29,3 +29,6 @@ returns-in-Err-OutOfMemory-clause-shelf g c = reads_nothing _ _ _ _
 
 pub returns-in-Ok-clause-nonces : goal.returns-in-Ok-clause-nonces
 returns-in-Ok-clause-nonces g c = asked_nonces _ (Unit {0}) _ None _ _ c.in-Ok.ensures _ c.run_command.ensures.nonces
+
+pub returns-in-Ok-clause-untouched : goal.returns-in-Ok-clause-untouched
+returns-in-Ok-clause-untouched g c = asked_ready _ _ _ c.in-Ok.ensures _ c.run_command.ensures.untouched
