@@ -18,22 +18,28 @@ fn each_call_of_the_disk_fails_under_batch(rt: HostRuntime) -> Result<(), Fail> 
     Ok(())
 }
 
+// Whether a migration ends with a disk fault where this call fails, and is whole when run again.
+fn resumes(rt: &HostRuntime, old: &[u8], call: u64) -> Result<bool, Fail> {
+    let failing = [call];
+    let ended = run_on(rt.alloc(), &MIGRATE, &On::migrating(&[], old, &failing))?;
+    let later = run_on(
+        rt.alloc(),
+        &MIGRATE,
+        &On::migrating(ended.disk.bytes(), old, &[]),
+    )?;
+    let whole = bytes_of(rt.alloc(), MIGRATED)?;
+    let stands = later.disk.bytes() == whole.as_slice();
+    Ok(stands && ends(&ended, 25, "disk fault\n") && ends(&later, 0, "migrated 3\n"))
+}
+
 #[test]
 fn each_call_of_the_disk_fails_under_migrate(rt: HostRuntime) -> Result<(), Fail> {
     let old = bytes_of(rt.alloc(), OLD)?;
-    let on = On::new(&[], &old, &[]);
-    let calls = run_on(rt.alloc(), &MIGRATE, &on)?.disk.calls().len() as u64;
+    let well = run_on(rt.alloc(), &MIGRATE, &On::new(&[], &old, &[]))?;
+    let calls = well.disk.calls().len() as u64;
     assert!(rt; calls > 4);
     for call in 1..calls + 1 {
-        let failing = [call];
-        let mut on = on;
-        on.disk = &failing;
-        let ended = run_on(rt.alloc(), &MIGRATE, &on)?;
-        assert!(rt; ends(&ended, 25, "disk fault\n"));
-        let again = On::new(ended.disk.bytes(), &old, &[]);
-        let later = run_on(rt.alloc(), &MIGRATE, &again)?;
-        assert!(rt; ends(&later, 0, "migrated 3\n"));
-        assert!(rt; later.disk.bytes() == bytes_of(rt.alloc(), MIGRATED)?.as_slice());
+        assert!(rt; resumes(&rt, &old, call)?);
     }
     Ok(())
 }

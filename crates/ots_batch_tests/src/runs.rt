@@ -57,6 +57,21 @@ impl<'a> On<'a> {
             sink: &[],
         }
     }
+
+    /// A migration of this file, where these calls of the disk fail.
+    pub fn migrating(journal: &'a [u8], file: &'a [u8], disk: &'a [u64]) -> On<'a> {
+        On {
+            journal,
+            key: &[b'k'; 64],
+            file,
+            nonces: &[],
+            second: 1_700_000_000,
+            disk,
+            shelf: &[],
+            draws: &[],
+            sink: &[],
+        }
+    }
 }
 
 /// How a run ended, what was printed, and the disk.
