@@ -10,3 +10,9 @@ mod Taken
 mod Yes
 mod ReadsBack
 mod Asked
+mod Hashed
+mod Drawing
+mod Acts
+mod Counting
+mod OneStamp
+mod Submitted

@@ -22,11 +22,12 @@ use Rattle.ots_canon.specs.Join.{IsMergeOf}
 use Rattle.ots_canon.proofs.Lawful.{one_form, one_join, one_prune}
 use Rattle.ots_cli.specs.Found.{HasUnder, IsHashOf, RefusesProof, too_big, bad_proof, RefusesTable, cut, too_many, RefusesTarget}
 use Rattle.ots_cli.specs.Text.{verdict_status, verdict_text}
-use Rattle.ots_words.specs.Words.{Command, HeaderFile, Verification, info, canon, merge, prune, verify, upgrade}
+use Rattle.ots_words.specs.Words.{Command, HeaderFile, Verification, info, canon, merge, prune, verify, stamp, upgrade}
 use Rattle.ots_cli.specs.Asking.{IsOffline, Outside, alone}
 use Rattle.ots_cli.specs.Answer.{Answers, AnswersAs, Comes, as_defined, not_read, PrintsInfo, UnlessFailed, PrintsVerdict, RefusesInput, no_file, refuses, WithInput, is_given, is_refused, WithProof, WithTable, WithPerhapsTable, WithTarget, VerifiesTarget, VerifiesProof, VerifiesBy, Verifies, Writes, too_long, is_made, WritesOf, Merges, differ, joined}
 use Rattle.ots_cli.specs.CarriedOut.{Ends, carried_out, no_memory, status_over}
 use Rattle.ots_cli.proofs.Outcome.{carried_status, only_prints, over_names}
+use Rattle.ots_cli.proofs.ReadsBack.{offline_plain}
 use Rattle.ots_info.specs.Listing.{file_line, item_line}
 use Rattle.ots_tree.proofs.Determined.{same_pre}
 use Rattle.ots_tree.specs.Listed.{listed}
@@ -194,6 +195,7 @@ one_answer o q names (Some (merge first second to)) d e alone f g =
     (λ p. with_proof names second (Merges to p) d e (λ q. merges to p q d e)) f g
 one_answer o q names (Some (prune from to)) d e alone f g = rewrites names Prune from to d e f g
 one_answer o q names (Some (verify v)) d e alone f g = verifies names v d e f g
+one_answer o q names (Some (stamp s)) d e alone f g = absurd alone
 one_answer o q names (Some (upgrade u)) d e alone f g = absurd alone
 
 -- ---- the status that is answered
@@ -208,7 +210,7 @@ exact happens names old new command stops_at writing lost taken now r e h told o
       of_names (no_memory ran same kept) = subst (UnlessFailed (status_over names e.status e.acts)) (sym ran) tt
       of_names (carried_out d (as_defined (o, heard, a)) c) =
           subst (λ (z : Ending). UnlessFailed (status_over names z.status z.acts) r) (one_answer o alone names command d e offline a is)
-          (over_names writing lost d.status d.acts names new taken now r c)
+          (over_names writing lost d.status d.acts names new taken now r (offline_plain o (Some names) command d offline a) c)
       of_names (carried_out d (not_read name stops at) c) = elim (carried_status writing lost d.status d.acts (Some names) new taken now r c) [
         | inl may ↦ subst (UnlessFailed (status_over names e.status e.acts)) (sym (only_prints d r ReadFault _ at may)) tt
         | inr (inl fault) ↦ subst (UnlessFailed (status_over names e.status e.acts)) (sym fault) tt

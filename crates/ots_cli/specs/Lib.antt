@@ -9,6 +9,8 @@ pub mod Ending
 pub mod Decided
 pub mod Answer
 pub mod Asking
+pub mod Drawing
+pub mod Stamping
 pub mod Yes
 pub mod Taken
 pub mod CarriedOut

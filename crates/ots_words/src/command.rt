@@ -32,6 +32,7 @@ pub struct Stamping<'a> {
     pub least: u32,
     /// The files, at least one and at most [`MAX_STAMPED`](crate::MAX_STAMPED).
     pub files: Vec<&'a str>,
+    pub ghost wanted: { 1 ≤ least },
     pub ghost some: { 1 ≤ length files.items },
     pub ghost most: { length files.items ≤ MAX_STAMPED },
 }
