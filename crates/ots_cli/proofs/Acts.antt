@@ -1,11 +1,11 @@
 -- The proofs of stamped files, made one after the other.
-use Rattle.std.proofs.Common.{◌≡◌, ◌<◌, ◌≤◌, ℕ, zero, suc, ◌+◌, List, [], ◌∷◌, ◌++◌, length, take, drop, get_or, Option, refl, sym, ap, subst, ◌∙◌, add-one, append-nil, arith}
+use Rattle.std.proofs.Common.{◌≡◌, ◌<◌, ◌≤◌, ℕ, suc, ◌+◌, List, [], ◌∷◌, ◌++◌, length, take, drop, Option, refl, sym, ap, subst, ◌∙◌, add-one, append-nil, arith}
 use Rattle.std.specs.Prelude.{slice_index_or}
 use Rattle.std.proofs.Math.Seq.{take-suc}
 use Rattle.std.proofs.lemmas.List.{drop_more, length-take-le, take-append-drop, take_all}
 use Rattle.std.specs.Prelude.{Ok, Err}
 use Rattle.ots_base.specs.Cause.{Rose}
-use Rattle.ots_outside.specs.Shelf.{Names, OnlyWriting, OnlyWriting-trans, ShelfFaults, ShelfTold}
+use Rattle.ots_outside.specs.Shelf.{OnlyWriting, OnlyWriting-trans, ShelfFaults, ShelfTold}
 use Rattle.ots_upgrade.specs.Stamped.{good_trees}
 use Rattle.ots_cli.specs.CarriedOut.{Carries, CarriesOn, CarriesOut, Does}
 use Rattle.ots_cli.specs.Decided.{acts_at, acts_of_stamped}
@@ -42,7 +42,7 @@ module _ (targets : List Target) (trees : List (List Token)) where
       ≡ stamp_acts targets trees 0 (take i files) ++ (stamp_acts targets trees i (slice_index_or files i [] ∷ []) ++ stamp_acts targets trees (suc i) (drop (i + 1) files))
   all_acts files i less =
       let whole : files ≡ take i files ++ slice_index_or files i [] ∷ drop (i + 1) files =
-          sym (take-append-drop i files) ∙ ap (λ (z : List (List ℕ)). take i files ++ z) (drop_more files i [] less) in
+      sym (take-append-drop i files) ∙ ap (λ (z : List (List ℕ)). take i files ++ z) (drop_more files i [] less) in
       ap (stamp_acts targets trees 0) whole ∙ behind files (slice_index_or files i [] ∷ drop (i + 1) files) i less
 
 -- ---- the loop that makes them

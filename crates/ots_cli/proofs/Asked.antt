@@ -20,7 +20,7 @@ use Rattle.ots_outside.specs.Shelf.{Names}
 use Rattle.ots_tree.specs.declared.detached.Detached.{Detached}
 use Rattle.ots_address.specs.Address.{AddressParts}
 use Rattle.ots_upgrade.specs.Conversation.{Converse, ConverseUpTo, KeepsTold, Question}
-use Rattle.ots_upgrade.specs.Upgrading.{AsksFor, Upgrades, UpgradesUpTo, outcomes, questions}
+use Rattle.ots_upgrade.specs.Upgrading.{Upgrades, UpgradesUpTo, outcomes, questions}
 use Rattle.ots_upgrade.specs.declared.outcome.Outcome.{Outcome}
 use Rattle.ots_upgrade.specs.declared.upgrading.Upgraded.{Upgraded}
 use Rattle.ots_cli.specs.Asking.{Asks, AsksUpTo, DrawsFor, Happens, Hears, Outside, StampsUpTo, alone}

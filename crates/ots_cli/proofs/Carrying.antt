@@ -11,7 +11,7 @@ use Rattle.ots_cli.specs.declared.ending.Ending.{Ending as Decided}
 use Rattle.ots_cli.specs.declared.ending.Text.{Text}
 use Rattle.ots_cli.specs.declared.status.Status.{Status}
 use Rattle.ots_cli.specs.Answer.{Comes, as_defined, not_read}
-use Rattle.ots_cli.specs.CarriedOut.{Carries, CarriesOut, CarriesOutEnding, Ends, carried_out, Does, DoesOrEnds, CarriesOn, Makes, MakesThen, Outputs, PrintsBoth, PrintsLast}
+use Rattle.ots_cli.specs.CarriedOut.{Carries, CarriesOut, CarriesOutEnding, Ends, carried_out, Does, Makes, MakesThen, Outputs, PrintsBoth, PrintsLast}
 use Rattle.ots_cli.specs.declared.output.OutputError.{OutputError}
 use Rattle.ots_cli.specs.Decided.{AreActsOf, IsTextOf}
 use Rattle.ots_cli.specs.Ending.{Act, Ending, makes, makes_stamp, prints}

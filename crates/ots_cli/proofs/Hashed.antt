@@ -1,6 +1,6 @@
 -- Files that are hashed one after the other.
 use Rattle.std.proofs.Common.{◌≡◌, ◌<◌, ℕ, zero, suc, ◌+◌, List, [], ◌∷◌, ◌++◌, Bor, length, take, drop, get_or, Option, refl, sym, ap, subst, ◌∙◌, add-one, arith}
-use Rattle.std.specs.Prelude.{Result, Ok, Err, IsErrAnd, map, slice_index_or}
+use Rattle.std.specs.Prelude.{Result, Ok, Err, IsErrAnd, slice_index_or}
 use Rattle.std.proofs.Math.Seq.{take-suc}
 use Rattle.std.proofs.lemmas.List.{drop_more, map-append, take-append-drop}
 use Rattle.ots_outside.specs.Shelf.{Names, ShelfFaults, ShelfTold}
@@ -10,7 +10,6 @@ use Rattle.ots_cli.specs.declared.input.InputError.{InputError}
 use Rattle.ots_cli.specs.declared.input.InputError.TheVariants.{OutOfMemory}
 use Rattle.ots_cli.specs.declared.input.Stop.{Stop}
 use Rattle.ots_cli.specs.Answer.{RefusesInput, RefusesOne}
-use Rattle.ots_cli.specs.Ending.{Ending}
 use Rattle.ots_cli.specs.Found.{AreHashed, HasUnder, IsHashOf, RefusesTarget}
 use Rattle.ots_cli.specs.Gathered.{Reads, ReadsName, StopsFor}
 use Rattle.ots_cli.specs.Opened.{StopsAt}
@@ -51,16 +50,16 @@ module _ {old mid new : ShelfTold} {before between now : ShelfFaults} where
     given = tt;
     stopped = stops_as (RefusesInput mid.names name RefusesTarget) (RefusesOne old.names (names ++ name ∷ later)) (StopsAt (name ∷ []) mid.opened new.opened between now)
         (StopsAt (names ++ name ∷ later) old.opened new.opened before now) stop.name.now stop.cause (λ e refused. record {
-      earlier = names;
-      name = name;
-      later = later;
-      split = refl;
-      digests = digests;
-      hashed = first.given;
-      refused = subst (λ (z : Option Names). RefusesInput z name RefusesTarget e) first.names refused;
-    })
-    (λ n at. stops_later names (name ∷ later) old.opened mid.opened new.opened before between now n first.opened first.later
-    (stops_before (name ∷ []) later mid.opened new.opened between now n at)) next.stopped;
+          earlier = names;
+          name = name;
+          later = later;
+          split = refl;
+          digests = digests;
+          hashed = first.given;
+          refused = subst (λ (z : Option Names). RefusesInput z name RefusesTarget e) first.names refused;
+        })
+        (λ n at. stops_later names (name ∷ later) old.opened mid.opened new.opened before between now n first.opened first.later
+        (stops_before (name ∷ []) later mid.opened new.opened between now n at)) next.stopped;
     opened = tt;
     front = then_opened names (name ∷ later) old.opened mid.opened new.opened first.opened (front_of_more (name ∷ []) later mid.opened new.opened next.front);
     names = next.names ∙ first.names;

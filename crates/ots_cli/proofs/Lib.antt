@@ -16,3 +16,4 @@ mod Acts
 mod Counting
 mod OneStamp
 mod Submitted
+mod Completeness

@@ -6,6 +6,7 @@ use Rattle.ots_tree.specs.declared.detached.Detached.{Detached}
 use Rattle.ots_reader.specs.declared.fault.Fault.{Fault}
 use Rattle.ots_detached.specs.File.{IsFileOf}
 use Rattle.ots_ops.specs.declared.hash_op.HashOp.{HashOp}
+use Rattle.ots_ops.specs.declared.hash_op.HashOp.TheVariants as hash
 use Rattle.ots_bitcoin.specs.HeaderTable.{Table}
 use Rattle.ots_bitcoin.specs.TableRead.{IsTableOf}
 use Rattle.ots_bitcoin.proofs.TableBytes.{length_of_table, one_table_lem}
@@ -128,6 +129,16 @@ target_refusal b s t f g = f.1 ∙ sym g.1
 
 target_or_not : (hash : HashOp) (b x : List ℕ) (s : Status) → IsHashOf hash b x → RefusesTarget b s → ⊥
 target_or_not hash b x s f g = let fits = f.0 in let long = g.0 in omega arith
+
+-- what is there is not refused
+pub not_a_proof : (names : Names) (name : List ℕ) (p : Detached) (e : Ending) → HasUnder (Some names) name (λ b. IsFileOf b p)
+    → RefusesInput (Some names) name RefusesProof e → ⊥
+not_a_proof names name p e has = not_refused names name IsFileOf RefusesProof (λ b x y f g. one_file b x y f g) proof_refusal proof_or_not has.0 p e has.1 has.2
+
+pub not_hashed : (names : Names) (name d : List ℕ) (e : Ending) → HasUnder (Some names) name (λ b. IsHashOf hash.Sha256 b d)
+    → RefusesInput (Some names) name RefusesTarget e → ⊥
+not_hashed names name d e has =
+    not_refused names name (IsHashOf hash.Sha256) RefusesTarget (λ b x y f g. f.1 ∙ sym g.1) target_refusal (target_or_not hash.Sha256) has.0 d e has.1 has.2
 
 pub given_target : (names : Names) (name : List ℕ) (hash : HashOp) (P : List ℕ → Ending → Type 0) (d : List ℕ) (e : Ending) → HasUnder (Some names) name (λ b. IsHashOf hash b d)
     → WithTarget (Some names) name hash P e → P d e

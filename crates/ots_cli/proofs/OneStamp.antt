@@ -1,19 +1,19 @@
 -- The proof of one stamped file, and its act.
-use Rattle.std.proofs.Common.{◌≡◌, ◌<◌, ◌≤◌, ℕ, zero, suc, ◌+◌, List, [], ◌∷◌, ◌++◌, length, take, Option, Some, inl, inr, refl, sym, ap, subst, ◌∙◌, arith}
+use Rattle.std.proofs.Common.{◌≡◌, ◌<◌, ℕ, zero, suc, List, [], ◌∷◌, length, Option, Some, inl, inr, refl, ap, subst, arith}
 use Rattle.std.specs.Prelude.{Result, Ok, Err, IfOk, slice_get}
 use Rattle.ots_address.specs.Address.{AddressParts}
 use Rattle.ots_base.specs.Cause.{Rose}
 use Rattle.ots_base.specs.declared.limits.TheConstants.{MAX_PROOF_FILE}
 use Rattle.ots_base.specs.declared.out_of_memory.OutOfMemory.{OutOfMemory as NoMemory}
 use Rattle.ots_detached.specs.File.{IsFileOf, file_of}
-use Rattle.ots_outside.specs.Shelf.{Names, OnlyWriting, ShelfFaults, ShelfTold}
+use Rattle.ots_outside.specs.Shelf.{ShelfFaults, ShelfTold}
 use Rattle.ots_tree.specs.declared.detached.Detached.{Detached}
 use Rattle.ots_tree.specs.declared.token.Token.{Token}
 use Rattle.ots_upgrade.specs.declared.outcome.Outcome.{Outcome}
 use Rattle.ots_upgrade.specs.declared.target.Target.{Target}
 use Rattle.ots_upgrade.specs.Stamped.{Gathers, IsStampOf, good_trees}
-use Rattle.ots_cli.specs.CarriedOut.{CarriesOn, CarriesOut, Does, DoesOrEnds, PrintsLast}
-use Rattle.ots_cli.specs.Ending.{Act, makes, makes_stamp, prints}
+use Rattle.ots_cli.specs.CarriedOut.{CarriesOn, DoesOrEnds, PrintsLast}
+use Rattle.ots_cli.specs.Ending.{makes, makes_stamp, prints}
 use Rattle.ots_cli.specs.Refusal.{refusal_text}
 use Rattle.ots_cli.specs.Stamping.{IsStampAt, KeepsStamped, StampedFiles, wrote_text}
 use Rattle.ots_cli.specs.declared.status.Status.{Status}

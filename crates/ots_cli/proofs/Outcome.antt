@@ -304,9 +304,13 @@ behind_stamp writing lost s targets trees f files i j file names new taken now r
     absurd (never r WriteFault front.3 (λ clash. cc) (λ clash. cc) done)
 behind_stamp writing lost s targets trees f files i zero file names new taken now r p done at stamp is rest (inl (mid, told, k)) =
     let this : f ≡ file = cc in
-    let here : i ≡ i + 0 = omega arith in
-    (p, subst (λ (z : ℕ). IsStampAt targets trees z p) here stamp, is, subst (λ (z : List ℕ). EndsWith new (proof_name z) (file_of p)) this
-    (keeps writing lost s (stamp_acts targets trees (suc i) files) (map.insert names (proof_name f) (file_of p)) (proof_name f) (file_of p) new mid now r done (get_inserted names (proof_name f) (file_of p)) k))
+    let here : i ≡ i + 0 = omega arith in (
+      p,
+      subst (λ (z : ℕ). IsStampAt targets trees z p) here stamp,
+      is,
+      subst (λ (z : List ℕ). EndsWith new (proof_name z) (file_of p)) this
+          (keeps writing lost s (stamp_acts targets trees (suc i) files) (map.insert names (proof_name f) (file_of p)) (proof_name f) (file_of p) new mid now r done (get_inserted names (proof_name f) (file_of p)) k),
+    )
 behind_stamp writing lost s targets trees f files i (suc j) file names new taken now r p done at stamp is rest (inl (mid, told, k)) =
     let next : suc i + j ≡ i + suc j = omega arith in
     subst (λ (z : ℕ). HasStamp targets trees z file new) next (rest j mid at k)

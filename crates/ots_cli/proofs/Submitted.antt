@@ -1,5 +1,5 @@
 -- How it ends that files were submitted to calendars.
-use Rattle.std.proofs.Common.{◌≡◌, ◌⊎◌, ℕ, suc, List, [], ◌∷◌, length, Option, Some, None, inl, inr, refl, sym, ap, subst, ◌∙◌}
+use Rattle.std.proofs.Common.{◌≡◌, ◌⊎◌, ℕ, suc, List, [], ◌∷◌, length, Option, Some, None, inl, inr, refl, ap}
 use Rattle.std.specs.Prelude.{map, IfOk, Result, Ok, Err}
 use Rattle.ots_base.specs.Cause.{Rose}
 use Rattle.ots_base.specs.declared.out_of_memory.OutOfMemory.{OutOfMemory as NoMemory}

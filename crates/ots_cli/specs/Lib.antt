@@ -14,4 +14,5 @@ pub mod Stamping
 pub mod Yes
 pub mod Taken
 pub mod CarriedOut
+pub mod Complete
 pub mod Gathered

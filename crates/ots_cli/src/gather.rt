@@ -8,8 +8,8 @@ ghost use Rattle.ots_cli.specs.Gathered.{IsSubmissionOf, Reads, Suits};
 ghost use Rattle.ots_cli.specs.Opened.{names_of, names_read};
 ghost use Rattle.ots_words.specs.Words.{read_as, read_header_file, read_stamping, read_verification, texts, verify};
 
-use crate::input::{Stop, hash_target, read_headers, read_list, read_proof};
 use crate::hashing::hash_targets;
+use crate::input::{Stop, hash_target, read_headers, read_list, read_proof};
 use crate::inputs::{Evidence, Inputs, Submission};
 use crate::rewriting::Rewriting;
 use ots_bitcoin::Headers;

@@ -5,11 +5,12 @@ ghost use Rattle.ots_base.specs.Cause.{Rose};
 ghost use Rattle.ots_cli.specs.Answer.{AnswersAs, Comes};
 ghost use Rattle.ots_cli.specs.Asking.{Asks, DrawsFor, Happens, IsOffline};
 ghost use Rattle.ots_cli.specs.CarriedOut.{Ends, EndsExactly};
+ghost use Rattle.ots_cli.specs.Complete.{CanStamp, CanUpgrade, IsDoneUnlessFailed};
 ghost use Rattle.ots_cli.specs.Gathered.{ComesToEnd};
 ghost use Rattle.ots_cli.specs.Opened.{OpensFront, StopsAt, names_read};
 ghost use Rattle.ots_cli.specs.ReadsBack.{IsDoneOrNo, IsOutput, IsOutputAsked, Leaves, ReadsBack};
 ghost use Rattle.ots_cli.specs.Taken.{TakesProofs, proofs_read};
-ghost use Rattle.ots_words.specs.Words.{Command as Asked, Verification, asked, read_as, verify};
+ghost use Rattle.ots_words.specs.Words.{Command as Asked, Stamping, Upgrading, Verification, asked, read_as, stamp, upgrade, verify};
 ghost use Rattle.ots_cli.specs.Yes.{HasFiles, IsDoneExactlyWhere, SaysYes};
 ghost use Rattle.ots_bitcoin.specs.HeaderTable.{Table};
 ghost use Rattle.ots_tree.specs.declared.detached.Detached.{Detached};
@@ -61,6 +62,10 @@ pub fn run_client<S: Shelf, K: Sink, D: Dialer, N: Nonces>(
     ensures yes { (names : Names) (v : Verification) (bitcoin : Table) (litecoin : Option Table) (proof : Detached) (target : List ℕ)
         → (S.told shelf.old).names ≡ Some names → asked words.now ≡ Some (verify v) → HasFiles names v bitcoin litecoin proof target
         → IsDoneExactlyWhere (SaysYes proof target bitcoin litecoin) result }
+    ensures stamps { (names : Names) (s : Stamping) → (S.told shelf.old).names ≡ Some names → asked words.now ≡ Some (stamp s)
+        → CanStamp (Happens D.told D.faults N.left N.faults dialer.old dialer.new nonces.old nonces.new) names s → IsDoneUnlessFailed result }
+    ensures upgrades { (names : Names) (u : Upgrading) → (S.told shelf.old).names ≡ Some names → asked words.now ≡ Some (upgrade u)
+        → CanUpgrade (Happens D.told D.faults N.left N.faults dialer.old dialer.new nonces.old nonces.new) names u → IsDoneUnlessFailed result }
     ensures reads_back { (names : Names) (c : Asked) (to : List ℕ) → (S.told shelf.old).names ≡ Some names → asked words.now ≡ Some c
         → IsOutput c to → IsDoneOrNo result → ReadsBack (Happens D.told D.faults N.left N.faults dialer.old dialer.new nonces.old nonces.new) names c to (S.told shelf.new).names }
 {

@@ -70,7 +70,8 @@ pub fn run_on(
 }
 
 /// How many names more a shelf has room for, and how long a name may be.
-struct MoreNames(usize, usize);
+#[derive(Clone, Copy)]
+struct MoreNames(u8, u8);
 
 /// One output.
 const ONE_MORE: MoreNames = MoreNames(1, 1);
@@ -91,8 +92,8 @@ fn shelf_with(
         longest = bytes.len().max(longest);
     }
     let room = ShelfRoom {
-        names: files.len() + more.0,
-        name_length: more.1,
+        names: files.len() + more.0 as usize,
+        name_length: more.1 as usize,
         bytes: longest,
         slots: 4,
     };

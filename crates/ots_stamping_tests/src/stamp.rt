@@ -7,6 +7,7 @@ use std::process::Abort;
 use std::test::Fail;
 
 const FIRST: (&str, &[u8]) = ("a", b"Hello World!\n");
+
 const SECOND: (&str, &[u8]) = ("b", b"abc");
 
 /// Nonces for two files.
@@ -15,6 +16,7 @@ const NONCES: &[u8] = b"AAAAAAAAAAAAAAAABBBBBBBBBBBBBBBB";
 /// SHA-256 of the first file's digest and nonce, and of the second's.
 const FIRST_LEAF: &[u8] =
     b"W4\xac\x18\xee%W\xdcu0\xee\xadt\xf0\xb3.\xc0\xae\xdd)U\xf7\xb4\xe1\x5c\xf4\x94y`\x97sQ";
+
 const SECOND_LEAF: &[u8] =
     b"\xc2.\xe8\x0d\xda\x9b\x0al4H{0\xd9*\x0f\xd6-E\x22\xa0\x88\x84\xe0\x9b\x18\x10\xc23Z\xf5\xec#";
 
@@ -32,6 +34,7 @@ const REQUEST_HEAD: &[u8] = b"POST /digest HTTP/1.1\r\n\
 
 /// A calendar's tree: SHA-256, and the Bitcoin block 7.
 const TREE: &[u8] = b"\x08\0\x05\x88\x96\x0d\x73\xd7\x19\x01\x01\x07";
+
 const REPLY: &[u8] = b"HTTP/1.1 200 OK\r\nContent-Length: 12\r\n\r\n\
     \x08\0\x05\x88\x96\x0d\x73\xd7\x19\x01\x01\x07";
 
@@ -39,6 +42,7 @@ const REPLY: &[u8] = b"HTTP/1.1 200 OK\r\nContent-Length: 12\r\n\r\n\
 const BUSY: &[u8] = b"HTTP/1.1 503 Service Unavailable\r\nContent-Length: 5\r\n\r\nbusy\n";
 
 const CALENDAR: &str = "http://127.0.0.1:14788";
+
 const CALENDARS: &str = "http://127.0.0.1:14788,http://127.0.0.1:14789";
 
 /// No call fails.
@@ -102,12 +106,23 @@ fn one_file_is_stamped(rt: HostRuntime) -> Result<(), Fail> {
 #[test]
 fn two_files_are_stamped_under_one_root(rt: HostRuntime) -> Result<(), Fail> {
     let (ended, dialer) = both_stamped(rt.alloc(), "1")?;
-    let text = "http://127.0.0.1:14788 ok\nhttp://127.0.0.1:14789 status 503\nwrote a.ots\nwrote b.ots\n";
+    let text =
+        "http://127.0.0.1:14788 ok\nhttp://127.0.0.1:14789 status 503\nwrote a.ots\nwrote b.ots\n";
     expect(&rt, &ended, 0, text);
     let first = b"\xf0\x10AAAAAAAAAAAAAAAA\x08\xf0\x20";
-    expect_file(&rt, &ended, "a.ots", &[HEAD, first, SECOND_LEAF, b"\x08", TREE])?;
+    expect_file(
+        &rt,
+        &ended,
+        "a.ots",
+        &[HEAD, first, SECOND_LEAF, b"\x08", TREE],
+    )?;
     let second = b"\xf0\x10BBBBBBBBBBBBBBBB\x08\xf1\x20";
-    expect_file(&rt, &ended, "b.ots", &[HEAD_OF_ABC, second, FIRST_LEAF, b"\x08", TREE])?;
+    expect_file(
+        &rt,
+        &ended,
+        "b.ots",
+        &[HEAD_OF_ABC, second, FIRST_LEAF, b"\x08", TREE],
+    )?;
     let sent = dialer.sent(0).ok_or("nothing was sent")?;
     let request = file_of(rt.alloc(), &[REQUEST_HEAD, ROOT])?;
     assert_eq!(rt; sent.bytes, request.as_slice());

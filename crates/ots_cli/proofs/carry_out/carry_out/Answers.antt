@@ -1,4 +1,4 @@
-use Rattle.std.proofs.Common.{◌≡◌, ℕ, List, [], ◌∷◌, refl, sym, ap}
+use Rattle.std.proofs.Common.{◌≡◌, ℕ, List, [], ◌∷◌, refl, ap}
 use Rattle.ots_cli.specs.Decided.{IsTextOf}
 use Rattle.ots_cli.specs.Ending.{prints}
 use Rattle.ots_cli.specs.Stamping.{calendars_text}

@@ -1,8 +1,7 @@
 use Rattle.std.proofs.Common.{List, rules, subst, sym}
 use Rattle.ots_address.specs.Address.{AddressParts}
-use Rattle.ots_cli.specs.Answer.{Completes, Decides, Merges, PrintsVerdict}
-use Rattle.ots_cli.specs.Asking.{Outside, alone}
-use Rattle.ots_cli.specs.Ending.{Ending}
+use Rattle.ots_cli.specs.Answer.{Completes, Decides}
+use Rattle.ots_cli.specs.Asking.{alone}
 use Rattle.ots_cli.specs.declared.inputs.Inputs.{Inputs}
 use Rattle.ots_cli.proofs.Asked.{asking_decided, heard_alone, nothing, offline_decided, printed_info, stamping_decided}
 use Rattle.ots_cli.proofs.decide.decide.Goals as goal

@@ -2,7 +2,7 @@ use Rattle.std.proofs.Common.{◌≡◌, ℕ, Bor, List, length, ap, subst, ◌�
 use Rattle.std.specs.Prelude.{Ok, Err}
 use Rattle.ots_cli.specs.Found.{AreHashed}
 use Rattle.ots_cli.specs.Gathered.{Reads}
-use Rattle.ots_cli.specs.Answer.{RefusesOne, WithHashes, are_hashed, is_bad, is_list, one_refused}
+use Rattle.ots_cli.specs.Answer.{RefusesOne, WithHashes, are_hashed, is_list, one_refused}
 use Rattle.ots_cli.specs.Stamping.{Stamps}
 use Rattle.ots_words.specs.Words.{read_stamping, texts}
 use Rattle.ots_cli.proofs.Gathering.{handed_on, list_refused, reads_into, stop_as, stop_into}
@@ -16,9 +16,9 @@ pub returns-in_err-digests-clause-reads : goal.returns-in_err-digests-clause-rea
 returns-in_err-digests-clause-reads g c = λ o. handed_on _ c.from_residual-in_err-digests.ensures.1
     (let files : c.deref.result.now ≡ c.args.stamping.files.items = search rules in
     let reads = subst (λ (z : List (Bor (List ℕ))). Reads {A = List (List ℕ)} (texts z) (λ told digests. AreHashed told (texts z) digests) (λ told. RefusesOne told (texts z))
-        (g.S.Shelf.told c.args.shelf.now) (g.S.Shelf.told c.hash_targets.new.shelf) (g.S.Shelf.faults c.args.shelf.now) (g.S.Shelf.faults c.hash_targets.new.shelf)
-        (Err c.in_err-digests.field-0.0))
-        files (stop_as c.in_err-digests.ensures.reads) in
+    (g.S.Shelf.told c.args.shelf.now) (g.S.Shelf.told c.hash_targets.new.shelf) (g.S.Shelf.faults c.args.shelf.now) (g.S.Shelf.faults c.hash_targets.new.shelf)
+    (Err c.in_err-digests.field-0.0))
+    files (stop_as c.in_err-digests.ensures.reads) in
     stop_into (λ e h. is_list _ c.in_ok-calendars.ensures (one_refused h)) reads)
 
 pub invariant_of-result : goal.invariant_of-result
@@ -34,6 +34,6 @@ pub returns-clause-reads : goal.returns-clause-reads
 returns-clause-reads g c = λ o.
     let files : c.deref.result.now ≡ c.args.stamping.files.items = search rules in
     let reads = subst (λ (z : List (Bor (List ℕ))). Reads (texts z) (λ told digests. AreHashed told (texts z) digests.items) (λ told. RefusesOne told (texts z))
-        (g.S.Shelf.told c.args.shelf.now) (g.S.Shelf.told c.hash_targets.new.shelf) (g.S.Shelf.faults c.args.shelf.now) (g.S.Shelf.faults c.hash_targets.new.shelf) (Ok c.in_ok-digests.digests))
-        files c.in_ok-digests.ensures.reads in
+    (g.S.Shelf.told c.args.shelf.now) (g.S.Shelf.told c.hash_targets.new.shelf) (g.S.Shelf.faults c.args.shelf.now) (g.S.Shelf.faults c.hash_targets.new.shelf) (Ok c.in_ok-digests.digests))
+    files c.in_ok-digests.ensures.reads in
     reads_into (λ h e decides. is_list _ c.in_ok-calendars.ensures (are_hashed c.in_ok-digests.digests.items h decides)) reads

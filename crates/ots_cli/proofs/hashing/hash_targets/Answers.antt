@@ -1,4 +1,4 @@
-use Rattle.std.proofs.Common.{ℕ, List, [], length, take, drop, ap, sym, subst, ◌+◌, ◌∙◌, rules, arith}
+use Rattle.std.proofs.Common.{ℕ, List, [], length, take, drop, ap, subst, ◌+◌, ◌∙◌}
 use Rattle.std.proofs.lemmas.List.{length-map, take_all}
 use Rattle.ots_ops.specs.declared.hash_op.HashOp.TheVariants.{Sha256}
 use Rattle.ots_words.specs.Words.{texts}

@@ -1,4 +1,3 @@
-use Rattle.std.proofs.Common.{map, string_bytes}
 use Rattle.ots_words.specs.Words.{asked}
 use Rattle.ots_cli.proofs.Asked.{nothing}
 use Rattle.ots_cli.proofs.Gathering.{end_of_command, usage_ends}

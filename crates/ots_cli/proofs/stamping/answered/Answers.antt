@@ -1,4 +1,4 @@
-use Rattle.std.proofs.Common.{List, subst, sym, rules}
+use Rattle.std.proofs.Common.{subst, rules}
 use Rattle.ots_upgrade.specs.Stamped.{AreSoundBelow, IsGatheredBelow}
 use Rattle.ots_cli.proofs.stamping.answered.Goals as goal
 

@@ -1,7 +1,5 @@
-use Rattle.std.proofs.Common.{◌≡◌, ℕ, List, length, inr, ap, subst, sym, rules, ◌∙◌}
-use Rattle.std.specs.Prelude.{map}
+use Rattle.std.proofs.Common.{◌≡◌, List, length, inr, ap, subst, sym, rules, ◌∙◌}
 use Rattle.std.proofs.lemmas.List.{length-map}
-use Rattle.ots_address.specs.Address.{AddressParts}
 use Rattle.ots_upgrade.specs.declared.target.Target.{Target}
 use Rattle.ots_cli.specs.Gathered.{Submits}
 use Rattle.ots_cli.proofs.Asked.{all_asked}

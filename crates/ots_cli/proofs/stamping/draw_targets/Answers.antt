@@ -1,6 +1,6 @@
-use Rattle.std.proofs.Common.{length, map, refl, rules, ap, sym, ◌∙◌, arith}
+use Rattle.std.proofs.Common.{refl, ◌∙◌, arith}
 use Rattle.std.proofs.lemmas.List.{take_all}
-use Rattle.ots_cli.proofs.Drawing.{Drawn, drawn_next, failed_draw, one_more_drawn, some_drawn}
+use Rattle.ots_cli.proofs.Drawing.{drawn_next, failed_draw, one_more_drawn, some_drawn}
 use Rattle.ots_cli.proofs.stamping.draw_targets.Goals as goal
 
 pub loop-digest-init : goal.loop-digest-init

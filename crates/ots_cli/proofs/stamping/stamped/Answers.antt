@@ -1,4 +1,4 @@
-use Rattle.std.proofs.Common.{refl, sym, rules, ◌∙◌}
+use Rattle.std.proofs.Common.{refl, rules, ◌∙◌}
 use Rattle.ots_cli.proofs.Submitted.{not_drawn, stamps_as, submits_as}
 use Rattle.ots_cli.proofs.stamping.stamped.Goals as goal
 

@@ -1,6 +1,4 @@
-use Rattle.std.proofs.Common.{ap, subst, sym, rules, arith}
-use Rattle.std.specs.Prelude.{Result, Ok, Err}
-use Rattle.ots_cli.specs.CarriedOut.{CarriesOn}
+use Rattle.std.proofs.Common.{rules, arith}
 use Rattle.ots_cli.proofs.Acts.{made_all, made_next, made_until, none_made}
 use Rattle.ots_cli.proofs.write_stamps.make_each.Goals as goal
 

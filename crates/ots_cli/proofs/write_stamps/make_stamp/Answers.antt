@@ -1,4 +1,4 @@
-use Rattle.std.proofs.Common.{◌≡◌, List, string_bytes, rules, ◌∙◌}
+use Rattle.std.proofs.Common.{◌≡◌, string_bytes, rules, ◌∙◌}
 use Rattle.ots_cli.proofs.OneStamp.{renamed, renamed_acts, stamp_carried, stamp_too_long}
 use Rattle.ots_cli.proofs.write_stamps.make_stamp.Goals as goal
 
