@@ -12,8 +12,9 @@ a nonce of its own to that root, the root of the tree over all files (split at t
 below their count), and then by each path of each good answer, and that nothing else is in it. What is written is also
 to be its own canonical form (`ots canon`). Where too few calendars answered, no proof may be there.
 
-The reader and the writer of proofs are those of upgrades.py. It ends with status 1 on a difference, and
-is run by hand.
+The reader and the writer of proofs are those of upgrades.py. Where the reference library is there
+(python3-opentimestamps), it reads each proof too, and what it finds attested is compared. It ends with
+status 1 on a difference, and is run by hand.
 """
 
 import hashlib
@@ -25,7 +26,13 @@ import sys
 import tempfile
 import threading
 
-from upgrades import (APPEND, BITCOIN, MAGIC, OTHER, PENDING, PREPEND, PROGRAM, SHA256, Reader, counted,
+try:
+    from opentimestamps.core.serialize import BytesDeserializationContext, BytesSerializationContext
+    from opentimestamps.core.timestamp import DetachedTimestampFile
+except ImportError:
+    DetachedTimestampFile = None
+
+from upgrades import (APPEND, BITCOIN, MAGIC, OTHER, PENDING, PREPEND, PROGRAM, SHA256, Reader, apply, counted,
                       number, paths, refusing, some_tree, spelled)
 
 
@@ -110,6 +117,26 @@ def is_proof(written, canonical, content, leaves, i, trees):
             and len(found) == len(set(found)) and set(found) == wanted and written == canonical)
 
 
+def is_read_by_library(written, content):
+    """Whether the reference library finds the same attested messages, if it is there."""
+    if DetachedTimestampFile is None:
+        return True
+    reader = Reader(written)
+    reader.take(len(MAGIC) + 1 + 32)
+    wanted = set()
+    for ops, kind, payload in paths(reader.tree()):
+        message = sha256(content)
+        for op in ops:
+            message = apply(op, message)
+        wanted.add((message, kind, payload))
+    found = set()
+    for message, attestation in DetachedTimestampFile.deserialize(BytesDeserializationContext(written)).timestamp.all_attestations():
+        payload = BytesSerializationContext()
+        attestation._serialize_payload(payload)
+        found.add((message, attestation.TAG, payload.getbytes()))
+    return found == wanted
+
+
 def leaf_of(written, content):
     """The leaf of a file, by the nonce in its proof."""
     reader = Reader(written)
@@ -158,7 +185,7 @@ def compare(seed, folder, ports, refused, asked, answers):
         for i, (proof, content) in enumerate(zip(written, contents)):
             again = os.path.join(folder, 'again')
             subprocess.run([PROGRAM, 'canon', proofs[i], again], stdout=subprocess.DEVNULL, check=True)
-            good = good and is_proof(proof, read(again), content, leaves, i, trees)
+            good = good and is_proof(proof, read(again), content, leaves, i, trees) and is_read_by_library(proof, content)
             os.remove(again)
     return (good and done.stdout.decode() == ''.join(line + '\n' for line in lines)
             and [(port, path) for port, path, _ in asked] == [(port, '/digest') for port in used if port != refused]
@@ -177,7 +204,7 @@ def main():
             if not compare(seed, folder, ports, refused, asked, answers):
                 print(f'run {seed}: another answer')
                 wrong += 1
-    print(f'{count} runs, {wrong} differences')
+    print(f'{count} runs, {wrong} differences, {"read by" if DetachedTimestampFile else "without"} the reference library')
     sys.exit(1 if wrong else 0)
 
 

@@ -76,8 +76,8 @@ struct MoreNames(u8, u8);
 /// One output.
 const ONE_MORE: MoreNames = MoreNames(1, 1);
 
-/// The proofs of two files.
-const TWO_PROOFS: MoreNames = MoreNames(2, 5);
+/// The proofs of three files.
+const THREE_PROOFS: MoreNames = MoreNames(3, 5);
 
 /// A shelf that holds these files, and has room for so many names more and four slots. The calls that
 /// are listed fail.
@@ -129,7 +129,7 @@ pub fn run_asking(
     Ok((Ended { status, shelf, out }, dialer))
 }
 
-/// A run where the shelf holds these files and has room for the proofs of two, calendars give these
+/// A run where the shelf holds these files and has room for the proofs of three, calendars give these
 /// replies and these nonces are drawn; and what was sent.
 pub fn run_stamping(
     alloc: Global,
@@ -139,7 +139,7 @@ pub fn run_stamping(
     failing: Failing<'_>,
     nonces: &mut ListNonces,
 ) -> Result<(Ended, ScriptDialer), Fail> {
-    let mut shelf = shelf_with(alloc, files, TWO_PROOFS, failing.shelf)?;
+    let mut shelf = shelf_with(alloc, files, THREE_PROOFS, failing.shelf)?;
     let mut out = BytesSink::new(alloc, 20_000, failing.writes)?;
     let mut dialer = ScriptDialer::new(alloc, replies, CALENDARS, failing.dialer)?;
     let status = run_with(alloc, words, &mut shelf, &mut out, &mut dialer, nonces)?;
