@@ -79,7 +79,7 @@ const ONE_MORE: MoreNames = MoreNames(1, 1);
 /// The proofs of three files.
 const THREE_PROOFS: MoreNames = MoreNames(3, 5);
 
-/// A shelf that holds these files, and has room for so many names more and four slots. The calls that
+/// A shelf that holds these files, and has room for so many names more and six slots. The calls that
 /// are listed fail.
 fn shelf_with(
     alloc: Global,
@@ -95,7 +95,7 @@ fn shelf_with(
         names: files.len() + more.0 as usize,
         name_length: more.1 as usize,
         bytes: longest,
-        slots: 4,
+        slots: 6,
     };
     let mut shelf = MapShelf::new(alloc, room, failing)?;
     for (name, bytes) in files {
