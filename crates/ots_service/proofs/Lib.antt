@@ -1,0 +1,6 @@
+mod Answering
+mod Closes
+mod Held
+mod Sent
+mod Short
+mod Withdrawn
