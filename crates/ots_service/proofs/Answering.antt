@@ -32,12 +32,12 @@ module _ (leaf uri : List ℕ) (limit : ℕ) (seen : List Record) (due : Due) wh
   settled nonce row (stamping.stamped tree receipt stamps is) = reply.stamped seen nonce uri tree receipt stamps cc
   settled nonce row (stamping.disk rose is) = reply.disk cc
   settled nonce row (stamping.full full is) = reply.full cc
-  settled nonce row (stamping.no_memory is) = absurd is
+  settled nonce row (stamping.no_memory why is) = absurd cc
 
   come : (nonce : List ℕ) (second : ℕ) (rows : List Row) → Comes leaf nonce uri second limit seen rows (Ok due) → IsDigestReply leaf due
   come nonce second rows (stamping.late late none is) = reply.late cc
   come nonce second rows (stamping.busy row early one left busy) = let is = busy.1 in reply.busy cc
-  come nonce second rows (stamping.no_memory row early one left few is) = absurd is
+  come nonce second rows (stamping.no_memory row early one left few why is) = absurd cc
   come nonce second rows (stamping.put row next early two left few fewer (inl settles)) = settled nonce next settles
   come nonce second rows (stamping.put row next early two left few fewer (inr busy)) = let is = busy.1 in reply.busy cc
 
@@ -47,7 +47,7 @@ module _ (leaf uri : List ℕ) (limit : ℕ) (seen : List Record) (due : Due) wh
 
 done : (uri : List ℕ) (limit : ℕ) (request : Request) (old new : SourcesTold) (seen : List Record) (rows : List Row) (due : Due) → Does uri limit request old new seen rows (Ok due) → IsDueFor request due
 done uri limit (Digest leaf) old new seen rows due does = comes_of leaf uri limit seen due does.nonce does.second rows does.comes
-done uri limit (Timestamp commitment) old new seen rows due does = (seen, does.1)
+done uri limit (Timestamp commitment) old new seen rows due does = (seen, does.2)
 done uri limit (Refused status) old new seen rows due does = let is = does.2 in cc
 
 -- ---- the link

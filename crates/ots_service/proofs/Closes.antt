@@ -1,22 +1,29 @@
 -- What closing a round comes to, by each of its answers.
 use Rattle.std.proofs.Common.{◌≡◌, inl, inr, ℕ, ◌+◌, ◌<◌, List, [], ◌∷◌, ◌++◌, length, refl, sym, ap, subst, ◌∙◌, arith, length-append}
 use Rattle.std.specs.Int.{w32, to_be_bytes}
-use Rattle.std.specs.Prelude.{Option, None, Some, Result, Ok, Err}
+use Rattle.std.specs.Prelude.{Option, None, Some, IfSome, Result, Ok, Err}
 use Rattle.ots_calendar.specs.Book.{BookTold}
 use Rattle.ots_calendar.specs.Rounds.{Closes, round_answer}
 use Rattle.ots_journal.specs.Journal.{JournalTold, size_with}
 use Rattle.ots_journal.specs.declared.errors.AppendError.{AppendError}
 use Rattle.ots_journal.specs.declared.errors.AppendError.TheVariants.{DiskFault, Full, OutOfMemory}
 use Rattle.ots_merkle.specs.CalendarTree.{root}
-use Rattle.ots_round.specs.Hmac.{hmac_sha256}
+use Rattle.ots_round.specs.Hmac.{hmac_sha256, filled, masked}
 use Rattle.ots_round.specs.Round.{leaf, leaves, mac, signed, round_commitment}
 use Rattle.ots_round.specs.declared.ticket.Ticket.{Ticket}
 use Rattle.ots_round.proofs.Leading.{length_root, are_leaves}
+use Rattle.sha2.specs.Sha256.{sha256}
 use Rattle.sha2.proofs.Facts256.{length-sha256}
 use Rattle.std.proofs.lemmas.List.{length-map, length-take-le}
 use Rattle.ots_store.specs.Records.{CommitRecord, entry_of}
 use Rattle.ots_store.specs.Store.{Adds}
-use Rattle.ots_service.specs.Stamping.{IsFull}
+use Rattle.ots_base.specs.declared.out_of_memory.OutOfMemory.{OutOfMemory as NoMemory}
+use Rattle.ots_shared.specs.declared.row.Row.{Row}
+use Rattle.ots_store.specs.Records.{Record}
+use Rattle.ots_tickets.specs.Tickets.{settles}
+use Rattle.ots_service.specs.declared.due.Due.{Due}
+use Rattle.ots_service.specs.Closing.{Closed}
+use Rattle.ots_service.specs.Stamping.{IsFull, Settles, stamped, disk, full, no_memory}
 
 -- something waits, so it is not nothing
 some_index : (added : Result ℕ AppendError) → Ok None ≡ round_answer added → ⊥
@@ -31,7 +38,7 @@ closes_some bytes clock since key second old new some (inr (inr n)) = let e = n.
 
 -- a commitment has 44 bytes
 hash_eight : (m : List ℕ) (key : List ℕ) → length (mac key m) ≡ 8
-hash_eight m key = length-take-le 8 (hmac_sha256 key m) (omega (arith, length-sha256 _))
+hash_eight m key = length-take-le 8 (hmac_sha256 key m) (omega (arith, length-sha256 (masked 0x5c (filled key) ++ sha256 (masked 0x36 (filled key) ++ m))))
 
 pub commitment_long : (key : List ℕ) (second : ℕ) (tickets : List Ticket) → 0 < length tickets → length (round_commitment key second tickets) ≡ 44
 commitment_long key second tickets some =
@@ -44,8 +51,11 @@ full_of (Ok i) need limit is = absurd cc
 full_of (Err why) need limit is = cc
 
 -- it did not fit
+abbrev is_full : ℕ → ℕ → Result ℕ AppendError
+is_full need limit = Err (Full need limit)
+
 module _ {D : Type 0} (bytes : D → Option (List ℕ)) (clock : D → ℕ) (since : D → ℕ → List ℕ → Type 0) where
-  adds_full : (old new : JournalTold D) (c : List ℕ) (need limit : ℕ) → length c ≡ 44 → Adds bytes clock since old new (entry_of (CommitRecord c) ∷ []) (Err {T = ℕ} (Full need limit)) → IsFull old.limit new.gate
+  adds_full : (old new : JournalTold D) (c : List ℕ) (need limit : ℕ) → length c ≡ 44 → Adds bytes clock since old new (entry_of (CommitRecord c) ∷ []) (is_full need limit) → IsFull old.limit new.gate
   adds_full old new c need limit long (inl after) =
       let out = after.added.outcome in
       let gate : new.gate ≡ after.mid.gate = ap (λ (j : JournalTold D). j.gate) out.0 in
@@ -64,3 +74,17 @@ module _ {D : Type 0} (bytes : D → Option (List ℕ)) (clock : D → ℕ) (sin
       (subst (λ (a : Result ℕ AppendError). Adds bytes clock since old.store.journal new.store.journal (entry_of (CommitRecord c) ∷ []) a) (full_of r.added need limit r.answer) r.adds)
   closes_full key second old new need limit (inr (inl n)) = let e = n.answer in absurd cc
   closes_full key second old new need limit (inr (inr n)) = let e = n.answer in absurd cc
+
+-- what was closed
+pub closed_of : {D : Type 0} (key : List ℕ) (second : ℕ) (old new : BookTold D) (o : Option ℕ) → (o ≡ None → ⊥)
+    → IfSome o (λ i. new.tickets.settled ≡ old.tickets.settled ++ settles key second i old.tickets.waiting) → Closed key second old new
+closed_of key second old new None not is = absurd (not refl)
+closed_of key second old new (Some i) not is = record { index = i; settled = is }
+
+-- a row of which as much is the same as counts
+pub settles_by : (leaf nonce uri : List ℕ) (limit : ℕ) (seen : List Record) (due : Result Due NoMemory) (row later : Row) → later.faults_found ≡ row.faults_found → later.faults_left ≡ row.faults_left
+    → later.gate_left ≡ row.gate_left → Settles leaf nonce uri limit seen row due → Settles leaf nonce uri limit seen later due
+settles_by leaf nonce uri limit seen due row later found left gate (stamped tree receipt stamps is) = stamped tree receipt stamps is
+settles_by leaf nonce uri limit seen due row later found left gate (disk rose is) = disk (omega arith) is
+settles_by leaf nonce uri limit seen due row later found left gate (full over is) = full (subst (IsFull limit) (sym gate) over) is
+settles_by leaf nonce uri limit seen due row later found left gate (no_memory why is) = no_memory why is

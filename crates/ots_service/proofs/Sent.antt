@@ -38,3 +38,7 @@ took_after bytes old mid new one two = record {
 
 pub takes_after : (bytes : List ℕ) (old mid new : LinkSeen) → Takes [] old mid → Takes bytes mid new → Takes bytes old new
 takes_after bytes old mid new one two = BothTold-trans (Took []) (Took bytes) (Took bytes) (took_after bytes) old.told mid.told new.told one two
+
+pub sends_after : (due : Due) (old mid new : LinkSeen) (result : Served) → Takes [] old mid → old.faults ≤ mid.faults → Sends due mid new result → Sends due old new result
+sends_after due old mid new result one later (whole is t) = whole is (takes_after _ old mid new one t)
+sends_after due old mid new result one later (cut n within is rose t) = cut n within is (omega arith) (takes_after _ old mid new one t)

@@ -70,3 +70,21 @@ withdrawn_one t old new true one none (inr w) =
     let rest = ap length (w.takes).rest in
     omega (arith, length-append (w.takes).before (t ∷ (w.takes).after), length-append (w.takes).before (w.takes).after)
 withdrawn_one t old new false one none w = absurd (none_is (Waits t) old.waiting one w.1)
+
+-- a round was not closed, and the ticket is withdrawn
+pub refused_fewer : (t : Ticket) (old mid new : TicketsTold) (answer : Bool) → (mid.waiting ≡ old.waiting) × (mid.settled ≡ old.settled) → OneIs (Waits t) old.waiting → NoneIs (IsSettled t) old.settled
+    → Withdraws t mid new answer → length new.waiting < length old.waiting
+refused_fewer t old mid new answer same one none w =
+    let fewer = withdrawn_one t mid new answer (subst (OneIs (Waits t)) (sym same.0) one) (subst (NoneIs (IsSettled t)) (sym same.1) none) w in
+    omega (arith, ap length same.0)
+
+-- nobody knows the ticket, and nothing changes
+pub taken_unknown : (t : Ticket) (uri : List ℕ) (old new : TicketsTold) → Takes t uri old new taken.Unknown → new ≡ old
+taken_unknown t uri old new (inl g) = let e = g.answer in absurd cc
+taken_unknown t uri old new (inr (inl g)) = let e = g.3 in absurd cc
+taken_unknown t uri old new (inr (inr g)) = g.2
+
+pub taken_waiting : (t : Ticket) (uri : List ℕ) (old new : TicketsTold) → Takes t uri old new taken.Waiting → new ≡ old
+taken_waiting t uri old new (inl g) = let e = g.answer in absurd cc
+taken_waiting t uri old new (inr (inl g)) = g.2
+taken_waiting t uri old new (inr (inr g)) = let e = g.3 in absurd cc

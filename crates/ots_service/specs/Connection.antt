@@ -1,5 +1,5 @@
 -- One connection, from its request to its reply.
-use Rattle.std.specs.Prelude.{◌≡◌, ℕ, List, [], Result, Ok, Err, IfOk}
+use Rattle.std.specs.Prelude.{◌≡◌, ℕ, List, [], ◌∷◌, Result, Ok, Err, IfOk}
 use Rattle.ots_base.specs.Cause.{Rose}
 use Rattle.ots_base.specs.Told.{IfTold}
 use Rattle.ots_base.specs.declared.out_of_memory.OutOfMemory.{OutOfMemory}
@@ -30,7 +30,7 @@ pub record Seen : Type 0 where
 -- and made holds with these rows. Nothing is drawn but for a digest, and for a commitment the book is held once.
 abbrev pub Does : List ℕ → ℕ → Request → SourcesTold → SourcesTold → List Record → List Row → Result Due OutOfMemory → Type 0
 Does uri limit (Digest leaf) old new seen rows due = Stamping leaf uri limit old new seen rows due
-Does uri limit (Timestamp commitment) old new seen rows due = (new ≡ old) × IfOk due (λ d. d ≡ answered (answer seen commitment))
+Does uri limit (Timestamp commitment) old new seen rows due = (new ≡ old) × ((row : Row) × (rows ≡ row ∷ [])) × IfOk due (λ d. d ≡ answered (answer seen commitment))
 Does uri limit (Refused status) old new seen rows due = (new ≡ old) × (rows ≡ []) × (due ≡ Ok (in_words (refusal status)))
 
 -- What comes of a request, with the rows of the call's holds.

@@ -1,5 +1,5 @@
 -- What comes of a digest, each answer with its cause.
-use Rattle.std.specs.Prelude.{◌≡◌, ◌⊎◌, ◌<◌, ◌≤◌, ℕ, ◌+◌, ◌^◌, List, [], ◌∷◌, length, Option, None, Some, Result, Ok, IsErr}
+use Rattle.std.specs.Prelude.{◌≡◌, ◌⊎◌, ◌<◌, ◌≤◌, ℕ, ◌+◌, ◌^◌, List, [], ◌∷◌, length, Option, None, Some, Result, Ok, Err}
 use Rattle.ots_base.specs.Cause.{Rose}
 use Rattle.ots_base.specs.Told.{IfTold}
 use Rattle.ots_base.specs.declared.out_of_memory.OutOfMemory.{OutOfMemory}
@@ -53,7 +53,7 @@ pub data Settles (leaf nonce uri : List ℕ) (limit : ℕ) (seen : List Record) 
   stamped : (tree : List Token) (receipt : Receipt) → Stamps seen leaf nonce uri tree receipt → due ≡ Ok (stamp tree receipt) → Settles leaf nonce uri limit seen row due
   disk : Rose row.faults_found row.faults_left → due ≡ Ok (in_words Disk) → Settles leaf nonce uri limit seen row due
   full : IsFull limit row.gate_left → due ≡ Ok (in_words JournalFull) → Settles leaf nonce uri limit seen row due
-  no_memory : IsErr due → Settles leaf nonce uri limit seen row due
+  no_memory : (why : OutOfMemory) → due ≡ Err why → Settles leaf nonce uri limit seen row due
 
 -- A hold that was to put a ticket found as many waiting as may.
 abbrev pub IsBusy : Row → Result Due OutOfMemory → Type 0
@@ -66,7 +66,7 @@ IsBusy row due = (row.waiting_found ≡ MAX_WAITING) × (due ≡ Ok (in_words Bu
 pub data Comes (leaf nonce uri : List ℕ) (second limit : ℕ) (seen : List Record) (rows : List Row) (due : Result Due OutOfMemory) : Type 0 where
   late : 2 ^ 32 ≤ second → rows ≡ [] → due ≡ Ok (in_words Clock) → Comes leaf nonce uri second limit seen rows due
   busy : (row : Row) → second < 2 ^ 32 → rows ≡ row ∷ [] → row.waiting_left ≡ row.waiting_found → IsBusy row due → Comes leaf nonce uri second limit seen rows due
-  no_memory : (row : Row) → second < 2 ^ 32 → rows ≡ row ∷ [] → row.waiting_left ≡ row.waiting_found → row.waiting_found < MAX_WAITING → IsErr due
+  no_memory : (row : Row) → second < 2 ^ 32 → rows ≡ row ∷ [] → row.waiting_left ≡ row.waiting_found → row.waiting_found < MAX_WAITING → (why : OutOfMemory) → due ≡ Err why
       → Comes leaf nonce uri second limit seen rows due
   put : (row next : Row) → second < 2 ^ 32 → rows ≡ row ∷ next ∷ [] → row.waiting_left ≡ row.waiting_found + 1 → row.waiting_found < MAX_WAITING
       → next.waiting_left ≤ next.waiting_found → Settles leaf nonce uri limit seen next due ⊎ IsBusy next due → Comes leaf nonce uri second limit seen rows due

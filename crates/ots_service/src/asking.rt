@@ -41,8 +41,9 @@ fn ask<D: Disk>(book: &Book<D>, wanted: Wanted) -> Result<Due, OutOfMemory>
     ensures reply { IfOk result (λ due. IsReply due.reply) }
 {
     cycle();
-    book.store().stands();
-    let _ = book.store().commits();
+    let store = book.store();
+    store.stands();
+    let _ = store.commits();
     match book.ask(wanted.bytes()) {
         Ok(Answer::Complete(tree)) => Ok(with_tree(tree)),
         Ok(Answer::Pending) => Ok(in_words(404, Word::Pending)),

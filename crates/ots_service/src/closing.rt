@@ -10,6 +10,7 @@ ghost use Rattle.ots_service.specs.Stamping.{IsBusy, IsFull, Settles};
 
 use crate::Service;
 use crate::due::{Due, in_words, stamp};
+use crate::putting::put;
 use ots_attest::Uri;
 use ots_base::OutOfMemory;
 use ots_calendar::{Book, PutError, Taken, Ticket, calls_grow};
@@ -53,8 +54,7 @@ fn put_again<D: Disk>(
         ⊎ IsBusy (row D.faults book.old book.new) result }
     ensures reply { IfOk result (λ due. IsReply due.reply) }
 {
-    book.stands();
-    match book.put(ticket.leaf, ticket.nonce) {
+    match put(book, ticket.leaf, ticket.nonce) {
         Ok(again) => close_round(book, service, second, &again),
         Err(PutError::Busy) => Ok(in_words(503, Word::Busy)),
         Err(PutError::OutOfMemory) => Err(OutOfMemory),

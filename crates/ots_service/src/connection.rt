@@ -2,6 +2,7 @@
 ghost use Rattle.std.specs.Prelude.{◌≡◌, ◌≤◌, false, true, IfOk};
 ghost use Rattle.ots_http.specs.ReplyText.{IsReply};
 ghost use Rattle.ots_outside.specs.Link.{IsFresh};
+ghost use Rattle.ots_shared.specs.Records.{StartsWith};
 ghost use Rattle.ots_shared.specs.Told.{IsPassOf};
 ghost use Rattle.ots_service.specs.Answered.{IsAnswered, is_answer};
 ghost use Rattle.ots_service.specs.Connection.{Handles, Serves};
@@ -47,7 +48,9 @@ pub fn serve_connection<L: Link, D: Disk, C: Clock, N: Nonces, R: Wait>(
         result }
     ensures answered { IsFresh (L.told link.old) (L.faults link.old) → is_answer result ≡ true → IsAnswered (L.told link.new) (L.faults link.new) }
     ensures own { IsPassOf shared.now pass.new }
-    ensures free { pass.new.holding ≡ false }
+    ensures seat { (pass.new.seat ≡ pass.old.seat) × (pass.new.holding ≡ false) }
+    ensures seen { StartsWith pass.new.seen pass.old.seen }
+    ensures told { pass.new.told ≡ pass.old.told }
     ensures later { L.faults link.old ≤ L.faults link.new }
     ensures same { L.same link.old link.new }
 {

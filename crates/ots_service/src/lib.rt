@@ -15,6 +15,7 @@ mod asking;
 mod closing;
 mod connection;
 mod due;
+mod putting;
 mod sending;
 mod served;
 mod service;

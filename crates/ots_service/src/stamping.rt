@@ -12,11 +12,12 @@ ghost use Rattle.ots_service.specs.Stamping.{Comes, IsBusy, Settles};
 use crate::Service;
 use crate::closing::settle;
 use crate::due::{Due, in_words};
+use crate::putting::put;
 use ots_base::OutOfMemory;
 use ots_calendar::{Leaf, PutError, Ticket};
 use ots_disk::Disk;
 use ots_http::Word;
-use ots_outside::{Clock, Nonces};
+use ots_outside::{Clock, Failed, Nonces};
 use ots_shared::{Pass, Shared};
 use std::sync::Wait;
 
@@ -39,14 +40,16 @@ pub(crate) fn stamp_digest<D: Disk, C: Clock, N: Nonces, R: Wait>(
     ensures reply { IfOk result (λ due. IsReply due.reply) }
 {
     let mut nonce = [0; 16];
-    if nonces.fill16(&mut nonce).is_err() {
-        return Ok(in_words(503, Word::Nonce));
+    match nonces.fill16(&mut nonce) {
+        Err(Failed) => Ok(in_words(503, Word::Nonce)),
+        Ok(()) => {
+            let second = clock.second();
+            if second > u64::from(u32::MAX) {
+                return Ok(in_words(500, Word::Clock));
+            }
+            stamp_at(rt, shared, pass, service, second as u32, leaf, nonce)
+        }
     }
-    let second = clock.second();
-    if second > u64::from(u32::MAX) {
-        return Ok(in_words(500, Word::Clock));
-    }
-    stamp_at(rt, shared, pass, service, second as u32, leaf, nonce)
 }
 
 /// Timestamps a digest at this second. The book is held twice, so that many callers that have put
@@ -65,7 +68,7 @@ fn stamp_at<D: Disk, R: Wait>(
     ensures comes { (rows : List Row) × Holds pass.old pass.new rows × Comes leaf nonce service.now.uri second shared.now.limit pass.new.seen rows result }
     ensures reply { IfOk result (λ due. IsReply due.reply) }
 {
-    match put(rt, shared, pass, leaf, nonce) {
+    match put_held(rt, shared, pass, leaf, nonce) {
         Ok(ticket) => settle_held(rt, shared, pass, service, second, &ticket),
         Err(PutError::Busy) => Ok(in_words(503, Word::Busy)),
         Err(PutError::OutOfMemory) => Err(OutOfMemory),
@@ -73,7 +76,7 @@ fn stamp_at<D: Disk, R: Wait>(
 }
 
 /// Puts a digest, in one hold.
-fn put<D: Disk, R: Wait>(
+fn put_held<D: Disk, R: Wait>(
     rt: &R,
     shared: &Shared<D>,
     pass: &mut Pass,
@@ -82,12 +85,11 @@ fn put<D: Disk, R: Wait>(
 ) -> Result<Ticket, PutError>
     requires own { IsPassOf shared.now pass.old }
     requires free { pass.old.holding ≡ false }
-    ensures holds { (row : Row) × Holds pass.old pass.new (row ∷ []) × Puts row result }
+    ensures puts { (row : Row) × Holds pass.old pass.new (row ∷ []) × Puts row result }
     ensures ticket { IfOk result (λ t. (t.leaf ≡ leaf) × (t.nonce ≡ nonce)) }
 {
     let mut held = shared.hold(rt, pass);
-    held.book().stands();
-    let ticket = held.book().put(leaf, nonce);
+    let ticket = put(held.book(), leaf, nonce);
     shared.release(pass, held);
     ticket
 }
