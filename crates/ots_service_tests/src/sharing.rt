@@ -52,7 +52,8 @@ pub fn serve_beside<D: Disk + Drop, R: Wait>(
             let (mut one, other) = shared.split(pass);
             let other = put(rt, &shared, other, leaf, times);
             let told = serve_one(rt, alloc, &shared, &mut one, service, ask);
-            let book = shared.close(shared.join(one, other));
+            let pass = shared.join(one, other);
+            let book = shared.close(pass);
             Ok((told?, book))
         }
     }
