@@ -29,7 +29,7 @@ use Rattle.ots_service.specs.declared.served.Served.TheVariants as served
 
 module _ (leaf uri : List ℕ) (limit : ℕ) (seen : List Record) (due : Due) where
   settled : (nonce : List ℕ) (row : Row) → Settles leaf nonce uri limit seen row (Ok due) → IsDigestReply leaf due
-  settled nonce row (stamping.stamped tree receipt stamps is) = reply.stamped seen nonce uri tree receipt stamps cc
+  settled nonce row (stamping.stamped tree receipt stamps within is) = reply.stamped seen nonce uri tree receipt stamps cc
   settled nonce row (stamping.disk rose is) = reply.disk cc
   settled nonce row (stamping.full full is) = reply.full cc
   settled nonce row (stamping.no_memory why is) = absurd cc

@@ -22,8 +22,12 @@ use Rattle.ots_shared.specs.declared.row.Row.{Row}
 use Rattle.ots_store.specs.Records.{Record}
 use Rattle.ots_tickets.specs.Tickets.{settles}
 use Rattle.ots_service.specs.declared.due.Due.{Due}
-use Rattle.ots_service.specs.Closing.{Closed}
-use Rattle.ots_service.specs.Stamping.{IsFull, Settles, stamped, disk, full, no_memory}
+use Rattle.ots_journal.specs.declared.entry.Entry.{Entry}
+use Rattle.ots_tickets.proofs.Places.{settles_long}
+use native.Mathlib.Decide.{dec_le}
+use mathlib.Core.Logic.{dite}
+use Rattle.ots_service.specs.Closing.{Closed, kept}
+use Rattle.ots_service.specs.Stamping.{IsFull, Settles, StoresWithin, stamped, disk, full, no_memory}
 
 -- something waits, so it is not nothing
 some_index : (added : Result ℕ AppendError) → Ok None ≡ round_answer added → ⊥
@@ -51,6 +55,9 @@ full_of (Ok i) need limit is = absurd cc
 full_of (Err why) need limit is = cc
 
 -- it did not fit
+abbrev is_index : ℕ → Result ℕ AppendError
+is_index i = Ok i
+
 abbrev is_full : ℕ → ℕ → Result ℕ AppendError
 is_full need limit = Err (Full need limit)
 
@@ -82,9 +89,45 @@ closed_of key second old new None not is = absurd (not refl)
 closed_of key second old new (Some i) not is = record { index = i; settled = is }
 
 -- a row of which as much is the same as counts
-pub settles_by : (leaf nonce uri : List ℕ) (limit : ℕ) (seen : List Record) (due : Result Due NoMemory) (row later : Row) → later.faults_found ≡ row.faults_found → later.faults_left ≡ row.faults_left
+same_within : (limit : ℕ) (row later : Row) → (later.records_found ≡ row.records_found) × (later.records_left ≡ row.records_left) → later.gate_left ≡ row.gate_left → StoresWithin limit row → StoresWithin limit later
+same_within limit row later records gate (inl none) = inl (records.1 ∙ none ∙ sym records.0)
+same_within limit row later records gate (inr within) = inr (omega arith)
+
+pub settles_by : (leaf nonce uri : List ℕ) (limit : ℕ) (seen : List Record) (due : Result Due NoMemory) (row later : Row) → (later.records_found ≡ row.records_found) × (later.records_left ≡ row.records_left) → later.faults_found ≡ row.faults_found → later.faults_left ≡ row.faults_left
     → later.gate_left ≡ row.gate_left → Settles leaf nonce uri limit seen row due → Settles leaf nonce uri limit seen later due
-settles_by leaf nonce uri limit seen due row later found left gate (stamped tree receipt stamps is) = stamped tree receipt stamps is
-settles_by leaf nonce uri limit seen due row later found left gate (disk rose is) = disk (omega arith) is
-settles_by leaf nonce uri limit seen due row later found left gate (full over is) = full (subst (IsFull limit) (sym gate) over) is
-settles_by leaf nonce uri limit seen due row later found left gate (no_memory why is) = no_memory why is
+settles_by leaf nonce uri limit seen due row later records found left gate (stamped tree receipt stamps within is) = stamped tree receipt stamps (same_within limit row later records gate within) is
+settles_by leaf nonce uri limit seen due row later records found left gate (disk rose is) = disk (omega arith) is
+settles_by leaf nonce uri limit seen due row later records found left gate (full over is) = full (subst (IsFull limit) (sym gate) over) is
+settles_by leaf nonce uri limit seen due row later records found left gate (no_memory why is) = no_memory why is
+
+-- it fits where it was stored
+fits_of : {D : Type 0} (bytes : D → Option (List ℕ)) (clock : D → ℕ) (since : D → ℕ → List ℕ → Type 0) (old new : JournalTold D) (group : List Entry) (i : ℕ) → Adds bytes clock since old new group (is_index i) → new.gate < old.limit
+fits_of bytes clock since old new group i (inl after) =
+    let out = after.added.outcome in
+    dite (dec_le (size_with after.mid.gate group) after.mid.limit)
+    (λ fits. let gate = out.gate in let same = after.refreshed.limit in omega arith)
+    (λ not. elim (after.added.full (omega arith)) [ inl is ↦ absurd cc | inr is ↦ absurd cc ])
+fits_of bytes clock since old new group i (inr nothing) = let e = nothing.fault in absurd cc
+
+index_of : (added : Result ℕ AppendError) (o : Option ℕ) → Ok o ≡ round_answer added → (i : ℕ) × (added ≡ Ok i)
+index_of (Ok i) o is = (i, refl)
+index_of (Err why) o is = absurd cc
+
+pub closes_fits : {D : Type 0} (bytes : D → Option (List ℕ)) (clock : D → ℕ) (since : D → ℕ → List ℕ → Type 0) (key : List ℕ) (second : ℕ) (old new : BookTold D) (o : Option ℕ)
+    → 0 < length old.tickets.waiting → Closes bytes clock since key second old new (Ok o) → new.store.journal.gate < old.store.journal.limit
+closes_fits bytes clock since key second old new o some (inl r) =
+    let at = index_of r.added o r.answer in
+    fits_of bytes clock since old.store.journal new.store.journal _ at.0 (subst (λ (a : Result ℕ AppendError). Adds bytes clock since old.store.journal new.store.journal _ a) at.1 r.adds)
+closes_fits bytes clock since key second old new o some (inr (inl n)) = absurd (let e = ap length n.nothing in omega arith)
+closes_fits bytes clock since key second old new o some (inr (inr n)) = let e = n.answer in absurd cc
+
+-- as many tickets are kept
+pub closed_kept : {D : Type 0} (key : List ℕ) (second : ℕ) (old new : BookTold D) → length new.tickets.waiting ≡ 0 → Closed key second old new → kept new.tickets ≡ kept old.tickets
+closed_kept key second old new none closed =
+    omega (
+      arith,
+      none,
+      ap length closed.settled,
+      length-append old.tickets.settled (settles key second closed.index old.tickets.waiting),
+      settles_long closed.index (round_commitment key second old.tickets.waiting) (leaves old.tickets.waiting) 0 old.tickets.waiting,
+    )

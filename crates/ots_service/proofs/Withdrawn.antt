@@ -2,6 +2,9 @@
 use Rattle.std.proofs.Common.{◌≡◌, ◌≢◌, inl, inr, ℕ, suc, ◌+◌, ◌<◌, ◌≤◌, Bool, true, false, List, [], ◌∷◌, ◌++◌, length, refl, sym, ap, subst, ◌∙◌, arith, length-append}
 use Rattle.std.specs.List.{AllByRecursion}
 use Rattle.ots_round.specs.declared.ticket.Ticket.{Ticket}
+use Rattle.ots_round.specs.declared.ticket.Receipt.{Receipt}
+use Rattle.ots_tree.specs.declared.token.Token.{Token}
+use Rattle.ots_service.specs.Closing.{IsKept, kept}
 use Rattle.ots_tickets.specs.Calls.{Takes, Withdraws}
 use Rattle.ots_tickets.specs.Tickets.{TicketsTold, IsSettled, NoneIs, OneIs, Waits, settles, settles_from}
 use Rattle.ots_tickets.specs.declared.settled.Settled.{Settled}
@@ -88,3 +91,48 @@ pub taken_waiting : (t : Ticket) (uri : List ℕ) (old new : TicketsTold) → Ta
 taken_waiting t uri old new (inl g) = let e = g.answer in absurd cc
 taken_waiting t uri old new (inr (inl g)) = g.2
 taken_waiting t uri old new (inr (inr g)) = let e = g.3 in absurd cc
+
+-- ---- how many are kept
+
+lengths : {A : Type 0} (before : List A) (one : A) (after : List A) → length (before ++ one ∷ after) ≡ suc (length (before ++ after))
+lengths [] one after = refl
+lengths (x ∷ before) one after = ap suc (lengths before one after)
+
+pub taken_gone : (t : Ticket) (uri : List ℕ) (old new : TicketsTold) (tree : List Token) (receipt : Receipt) → Takes t uri old new (taken.Settled tree receipt) → kept new < kept old
+taken_gone t uri old new tree receipt (inl g) =
+    let x = g.takes in
+    let waiting = ap length g.waiting in
+    let whole = ap length x.whole in
+    let rest = ap length x.rest in
+    omega (arith, lengths x.before g.one x.after)
+taken_gone t uri old new tree receipt (inr (inl g)) = let e = g.3 in absurd cc
+taken_gone t uri old new tree receipt (inr (inr g)) = let e = g.3 in absurd cc
+
+pub withdrawn_gone : (t : Ticket) (old new : TicketsTold) (answer : Bool) → (NoneIs (Waits t) old.waiting → NoneIs (IsSettled t) old.settled → ⊥) → Withdraws t old new answer → kept new < kept old
+withdrawn_gone t old new true there (inl w) =
+    let x = w.takes in
+    let waiting = ap length w.waiting in
+    let whole = ap length x.whole in
+    let rest = ap length x.rest in
+    omega (arith, lengths x.before w.one x.after)
+withdrawn_gone t old new true there (inr w) =
+    let x = w.takes in
+    let settled = ap length w.settled in
+    let whole = ap length x.whole in
+    let rest = ap length x.rest in
+    omega (arith, lengths x.before t x.after)
+withdrawn_gone t old new false there w = absurd (there w.1 w.0)
+
+pub refused_gone : (t : Ticket) (old mid new : TicketsTold) (answer : Bool) → (mid.waiting ≡ old.waiting) × (mid.settled ≡ old.settled) → OneIs (Waits t) old.waiting → Withdraws t mid new answer → kept new < kept old
+refused_gone t old mid new answer same one w =
+    let less = withdrawn_gone t mid new answer (λ none settled. none_is (Waits t) old.waiting one (subst (NoneIs (Waits t)) same.0 none)) w in
+    omega (arith, less, ap length same.0, ap length same.1)
+
+pub kept_there : (t : Ticket) (xs : TicketsTold) → IsKept t xs → NoneIs (Waits t) xs.waiting → NoneIs (IsSettled t) xs.settled → ⊥
+kept_there t xs (inl one) waits settled = none_is (Waits t) xs.waiting one waits
+kept_there t xs (inr one) waits settled = none_is (IsSettled t) xs.settled one settled
+
+pub unknown_none : (t : Ticket) (uri : List ℕ) (old new : TicketsTold) → Takes t uri old new taken.Unknown → IsKept t old → ⊥
+unknown_none t uri old new (inl g) is = let e = g.answer in cc
+unknown_none t uri old new (inr (inl g)) is = let e = g.3 in cc
+unknown_none t uri old new (inr (inr g)) is = kept_there t old is g.1 g.0

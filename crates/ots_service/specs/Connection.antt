@@ -9,12 +9,13 @@ use Rattle.ots_http.specs.declared.request.Request.{Request}
 use Rattle.ots_http.specs.declared.request.Request.TheVariants.{Digest, Timestamp, Refused}
 use Rattle.ots_http.specs.declared.request.RequestError.{RequestError}
 use Rattle.ots_http.specs.declared.request.RequestError.TheVariants as unread
+use Rattle.ots_round.specs.declared.ticket.Receipt.{Receipt}
 use Rattle.ots_shared.specs.Told.{PassTold}
 use Rattle.ots_shared.specs.declared.row.Row.{Row}
 use Rattle.ots_store.specs.Records.{Record}
 use Rattle.ots_service.specs.declared.due.Due.{Due}
 use Rattle.ots_service.specs.declared.served.Served.{Served}
-use Rattle.ots_service.specs.declared.served.Served.TheVariants.{Closed, LinkFault, OutOfMemory as ran_out}
+use Rattle.ots_service.specs.declared.served.Served.TheVariants.{Stamped, Replied, Closed, LinkFault, OutOfMemory as ran_out}
 use Rattle.ots_service.specs.Holds.{Holds}
 use Rattle.ots_service.specs.Replies.{in_words, refusal, answered}
 use Rattle.ots_service.specs.Sending.{LinkSeen, Sends, Takes}
@@ -43,6 +44,14 @@ pub record Handles (uri : List ℕ) (limit : ℕ) (request : Request) (old new :
 abbrev pub EndsWith : Result Due OutOfMemory → LinkSeen → LinkSeen → Served → Type 0
 EndsWith (Ok due) old new result = Sends due old new result
 EndsWith (Err e) old new result = (result ≡ ran_out) × Takes [] old new
+
+-- What holds of the receipt, where a digest was timestamped.
+abbrev pub IfStamped : Served → (Receipt → Type 0) → Type 0
+IfStamped (Stamped receipt) P = P receipt
+IfStamped (Replied status) P = Unit {0}
+IfStamped Closed P = Unit {0}
+IfStamped LinkFault P = Unit {0}
+IfStamped ran_out P = Unit {0}
 
 -- What a request comes to, and its reply.
 pub record Replies (uri : List ℕ) (limit : ℕ) (request : Request) (old new : Seen) (result : Served) : Type 0 where

@@ -27,10 +27,10 @@ pub record SourcesTold : Type 0 where
   -- the second to come
   pub second : Option ℕ
 
--- The next 16 bytes were drawn, or the nonces' count of faults rose.
+-- The next 16 bytes were drawn, or the nonces' count of faults rose, and the clock is not read then.
 abbrev pub Draws : Option (List ℕ) → SourcesTold → SourcesTold → Type 0
 Draws (Some nonce) old new = (length nonce ≡ 16) × bytes.Gives old.left new.left nonce
-Draws None old new = (new.left ≡ old.left) × Rose old.faults new.faults
+Draws None old new = (new.left ≡ old.left) × (new.second ≡ old.second) × Rose old.faults new.faults
 
 -- ---- what the second hold does
 
@@ -48,9 +48,14 @@ pub record IsFull (limit gate : ℕ) : Type 0 where
   pub long : length commitment ≡ 44
   pub past : limit < size_with gate (entry_of (CommitRecord commitment) ∷ [])
 
+-- The hold stored nothing, or what it stored is within the limit: the closed gate is the last byte of the file.
+abbrev pub StoresWithin : ℕ → Row → Type 0
+StoresWithin limit row = (row.records_left ≡ row.records_found) ⊎ (row.gate_left < limit)
+
 -- What comes of a ticket whose round is closed, in this hold or before it, where the hold leaves these records and this row.
 pub data Settles (leaf nonce uri : List ℕ) (limit : ℕ) (seen : List Record) (row : Row) (due : Result Due OutOfMemory) : Type 0 where
-  stamped : (tree : List Token) (receipt : Receipt) → Stamps seen leaf nonce uri tree receipt → due ≡ Ok (stamp tree receipt) → Settles leaf nonce uri limit seen row due
+  stamped : (tree : List Token) (receipt : Receipt) → Stamps seen leaf nonce uri tree receipt → StoresWithin limit row → due ≡ Ok (stamp tree receipt)
+      → Settles leaf nonce uri limit seen row due
   disk : Rose row.faults_found row.faults_left → due ≡ Ok (in_words Disk) → Settles leaf nonce uri limit seen row due
   full : IsFull limit row.gate_left → due ≡ Ok (in_words JournalFull) → Settles leaf nonce uri limit seen row due
   no_memory : (why : OutOfMemory) → due ≡ Err why → Settles leaf nonce uri limit seen row due

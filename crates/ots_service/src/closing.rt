@@ -5,8 +5,8 @@ ghost use Rattle.ots_http.specs.ReplyText.{IsReply};
 ghost use Rattle.ots_shared.specs.Rows.{row};
 ghost use Rattle.ots_shared.specs.declared.row.Row.{Row};
 ghost use Rattle.ots_tickets.specs.Tickets.{IsSettled, NoneIs, OneIs, Waits};
-ghost use Rattle.ots_service.specs.Closing.{Closed, Goes};
-ghost use Rattle.ots_service.specs.Stamping.{IsBusy, IsFull, Settles};
+ghost use Rattle.ots_service.specs.Closing.{Closed, Goes, IsKept, kept};
+ghost use Rattle.ots_service.specs.Stamping.{IsBusy, IsFull, Settles, StoresWithin};
 
 use crate::Service;
 use crate::due::{Due, in_words, stamp};
@@ -27,6 +27,7 @@ pub(crate) fn settle<D: Disk>(
     ticket: &Ticket,
 ) -> Result<Due, OutOfMemory>
     ensures goes { Goes book.old book.new }
+    ensures gone { IsKept ticket.now book.old.tickets → kept book.new.tickets < kept book.old.tickets }
     ensures settles { Settles ticket.now.leaf ticket.now.nonce service.now.uri book.old.store.journal.limit book.new.store.records (row D.faults book.old book.new) result
         ⊎ IsBusy (row D.faults book.old book.new) result }
     ensures reply { IfOk result (λ due. IsReply due.reply) }
@@ -72,7 +73,8 @@ fn close_round<D: Disk>(
     requires waits { OneIs (Waits ticket.now) book.old.tickets.waiting }
     requires unsettled { NoneIs (IsSettled ticket.now) book.old.tickets.settled }
     ensures goes { Goes book.old book.new }
-    ensures withdrawn { length book.new.tickets.waiting < length book.old.tickets.waiting }
+    ensures fewer { length book.new.tickets.waiting < length book.old.tickets.waiting }
+    ensures gone { kept book.new.tickets < kept book.old.tickets }
     ensures settles { Settles ticket.now.leaf ticket.now.nonce service.now.uri book.old.store.journal.limit book.new.store.records (row D.faults book.old book.new) result }
     ensures reply { IfOk result (λ due. IsReply due.reply) }
 {
@@ -95,6 +97,8 @@ fn close<D: Disk>(book: &mut Book<D>, service: &Service, second: u32) -> Result<
     ensures goes { Goes book.old book.new }
     ensures closed { OnOk result (Closed service.now.key second book.old book.new) }
     ensures none { OnOk result (length book.new.tickets.waiting ≡ 0) }
+    ensures kept { OnOk result (kept book.new.tickets ≡ kept book.old.tickets) }
+    ensures fits { OnOk result (book.new.store.journal.gate < book.old.store.journal.limit) }
     ensures refused { OnErr result ((book.new.tickets.waiting ≡ book.old.tickets.waiting) × (book.new.tickets.settled ≡ book.old.tickets.settled)) }
     ensures disk { result ≡ Err AppendError.DiskFault → Rose (D.faults book.old.store.journal.disk) (D.faults book.new.store.journal.disk) }
     ensures full { (need limit : ℕ) → result ≡ Err (AppendError.Full need limit) → IsFull book.old.store.journal.limit book.new.store.journal.gate }
@@ -116,7 +120,8 @@ fn take_settled<D: Disk>(
     requires { NoneIs (IsSettled ticket.now) book.old.tickets.settled → ⊥ }
     ensures store { book.new.store ≡ book.old.store }
     ensures waiting { length book.new.tickets.waiting ≤ length book.old.tickets.waiting }
-    ensures settles { (limit : ℕ) (row : Row) → Settles ticket.now.leaf ticket.now.nonce uri.now limit book.new.store.records row result }
+    ensures gone { kept book.new.tickets < kept book.old.tickets }
+    ensures settles { (limit : ℕ) (row : Row) → StoresWithin limit row → Settles ticket.now.leaf ticket.now.nonce uri.now limit book.new.store.records row result }
     ensures reply { IfOk result (λ due. IsReply due.reply) }
 {
     match book.take(ticket, uri) {

@@ -2,10 +2,10 @@
 ghost use Rattle.std.specs.Prelude.{◌≡◌, ◌≤◌, false, true, IfOk};
 ghost use Rattle.ots_http.specs.ReplyText.{IsReply};
 ghost use Rattle.ots_outside.specs.Link.{IsFresh};
-ghost use Rattle.ots_shared.specs.Records.{StartsWith};
+ghost use Rattle.ots_shared.specs.Records.{StartsWith, StandsAt};
 ghost use Rattle.ots_shared.specs.Told.{IsPassOf};
 ghost use Rattle.ots_service.specs.Answered.{IsAnswered, is_answer};
-ghost use Rattle.ots_service.specs.Connection.{Handles, Serves};
+ghost use Rattle.ots_service.specs.Connection.{Handles, IfStamped, Serves};
 
 use crate::asking::answer_of;
 use crate::due::{Due, refusal};
@@ -46,6 +46,7 @@ pub fn serve_connection<L: Link, D: Disk, C: Clock, N: Nonces, R: Wait>(
         (record { pass = pass.new; link = record { told = L.told link.new; faults = L.faults link.new };
             sources = record { left = N.left nonces.new; faults = N.faults nonces.new; second = C.coming clock.new } })
         result }
+    ensures stamped { IfStamped result (λ receipt. StandsAt pass.new.seen receipt.index receipt.commitment) }
     ensures answered { IsFresh (L.told link.old) (L.faults link.old) → is_answer result ≡ true → IsAnswered (L.told link.new) (L.faults link.new) }
     ensures own { IsPassOf shared.now pass.new }
     ensures seat { (pass.new.seat ≡ pass.old.seat) × (pass.new.holding ≡ false) }

@@ -1,10 +1,11 @@
-use Rattle.std.proofs.Common.{◌≡◌, ◌⊎◌, inl, refl, ap, subst}
+use Rattle.std.proofs.Common.{◌≡◌, ◌⊎◌, inl, length, refl, ap, subst}
 use Rattle.std.specs.Prelude.{Ok}
 use Rattle.ots_calendar.specs.Book.{BookTold}
 use Rattle.ots_shared.specs.Rows.{row}
+use Rattle.ots_store.specs.Store.{StoreTold}
 use Rattle.ots_service.specs.Stamping.{IsBusy, Settles, stamped, no_memory}
 use Rattle.ots_service.proofs.Short.{gives_short}
-use Rattle.ots_service.proofs.Withdrawn.{taken_waiting, taken_unknown}
+use Rattle.ots_service.proofs.Withdrawn.{taken_waiting, taken_unknown, taken_gone, withdrawn_gone, kept_there, unknown_none}
 use Rattle.ots_service.proofs.closing.settle.Goals as goal
 
 pub stamp-requires : goal.stamp-requires
@@ -14,7 +15,7 @@ pub returns-in-Ok-Settled-clause-settles : goal.returns-in-Ok-Settled-clause-set
 returns-in-Ok-Settled-clause-settles g c =
     inl (stamped c.in-Ok-Settled.tree c.in-Ok-Settled.receipt
     (record { ticket = c.args.ticket.now; leaf_is = refl; nonce_is = refl; gives = rw c.in-Ok-Settled.field-0-is at c.in-Ok-Settled.ensures.gives })
-    (ap Ok c.stamp.ensures.due))
+    (inl (ap (λ (s : StoreTold g.row.D.Denot). length s.records) c.in-Ok-Settled.ensures.store)) (ap Ok c.stamp.ensures.due))
 
 pub returns-in-Ok-Waiting-clause-settles : goal.returns-in-Ok-Waiting-clause-settles
 returns-in-Ok-Waiting-clause-settles g c =
@@ -40,3 +41,18 @@ returns-in-Ok-Unknown-clause-settles g c =
 
 pub returns-in-Err-clause-settles : goal.returns-in-Err-clause-settles
 returns-in-Err-clause-settles g c = inl (no_memory _ refl)
+
+pub returns-in-Ok-Settled-clause-gone : goal.returns-in-Ok-Settled-clause-gone
+returns-in-Ok-Settled-clause-gone g c = λ is. taken_gone _ _ _ _ _ _ (rw c.in-Ok-Settled.field-0-is at c.in-Ok-Settled.ensures.takes)
+
+pub returns-in-Ok-Waiting-clause-gone : goal.returns-in-Ok-Waiting-clause-gone
+returns-in-Ok-Waiting-clause-gone g c = λ is.
+    let tickets : c.take.new.self.tickets ≡ c.args.book.now.tickets = taken_waiting _ _ _ _ (rw c.in-Ok-Waiting.field-0-is at c.in-Ok-Waiting.ensures.takes) in
+    rw (← tickets) c.close_round.ensures.gone
+
+pub returns-in-Ok-Unknown-clause-gone : goal.returns-in-Ok-Unknown-clause-gone
+returns-in-Ok-Unknown-clause-gone g c = λ is. absurd (unknown_none _ _ _ _ (rw c.in-Ok-Unknown.field-0-is at c.in-Ok-Unknown.ensures.takes) is)
+
+pub returns-in-Err-clause-gone : goal.returns-in-Err-clause-gone
+returns-in-Err-clause-gone g c = λ is.
+    withdrawn_gone c.args.ticket.now c.args.book.now.tickets c.withdraw.new.self.tickets c.withdraw.result (kept_there c.args.ticket.now c.args.book.now.tickets is) (rw c.in-Err.ensures.err at c.withdraw.ensures.withdraws)

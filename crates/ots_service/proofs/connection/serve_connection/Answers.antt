@@ -2,6 +2,7 @@ use Rattle.std.proofs.Common.{refl}
 use Rattle.std.specs.Prelude.{Ok, Err}
 use Rattle.ots_service.specs.Sending.{LinkSeen}
 use Rattle.ots_service.proofs.Answering.{serves_answered}
+use Rattle.ots_service.proofs.Receipts.{stands}
 use Rattle.ots_service.proofs.Sent.{gives, sends_after}
 use Rattle.ots_service.proofs.connection.serve_connection.Goals as goal
 
@@ -32,3 +33,6 @@ returns-in-Err-clause-serves g c = record {
   reads = c.in-Ok.ensures.answer;
   ends = record { due = Err c.in-Err.field-0; handles = c.in-Err.ensures.handles; ends = (refl, gives _ _ _ c.read_request.ensures.came) };
 }
+
+pub returns-in-Ok-handle-clause-stamped : goal.returns-in-Ok-handle-clause-stamped
+returns-in-Ok-handle-clause-stamped g c = stands _ _ _ _ _ (returns-in-Ok-handle-clause-serves g c)
