@@ -112,11 +112,7 @@ fn close<D: Disk>(book: &mut Book<D>, service: &Service, second: u32) -> Result<
 }
 
 /// Takes a ticket whose round is closed. Where memory runs out, it is given up.
-fn take_settled<D: Disk>(
-    book: &mut Book<D>,
-    uri: &Uri,
-    ticket: &Ticket,
-) -> Result<Due, OutOfMemory>
+fn take_settled<D: Disk>(book: &mut Book<D>, uri: &Uri, ticket: &Ticket) -> Result<Due, OutOfMemory>
     requires { NoneIs (IsSettled ticket.now) book.old.tickets.settled → ⊥ }
     ensures store { book.new.store ≡ book.old.store }
     ensures waiting { length book.new.tickets.waiting ≤ length book.old.tickets.waiting }

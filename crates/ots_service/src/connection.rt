@@ -41,10 +41,16 @@ pub fn serve_connection<L: Link, D: Disk, C: Clock, N: Nonces, R: Wait>(
     requires free { pass.old.holding ≡ false }
     // what is read, done and written, each answer with its cause
     ensures serves { Serves service.now.uri shared.now.limit
-        (record { pass = pass.old; link = record { told = L.told link.old; faults = L.faults link.old };
-            sources = record { left = N.left nonces.old; faults = N.faults nonces.old; second = C.coming clock.old } })
-        (record { pass = pass.new; link = record { told = L.told link.new; faults = L.faults link.new };
-            sources = record { left = N.left nonces.new; faults = N.faults nonces.new; second = C.coming clock.new } })
+        (record {
+          pass = pass.old;
+          link = record { told = L.told link.old; faults = L.faults link.old };
+          sources = record { left = N.left nonces.old; faults = N.faults nonces.old; second = C.coming clock.old };
+        })
+        (record {
+          pass = pass.new;
+          link = record { told = L.told link.new; faults = L.faults link.new };
+          sources = record { left = N.left nonces.new; faults = N.faults nonces.new; second = C.coming clock.new };
+        })
         result }
     ensures stamped { IfStamped result (λ receipt. StandsAt pass.new.seen receipt.index receipt.commitment) }
     ensures answered { IsFresh (L.told link.old) (L.faults link.old) → is_answer result ≡ true → IsAnswered (L.told link.new) (L.faults link.new) }

@@ -74,10 +74,12 @@ fn work<D: Disk, R: Wait>(
 {
     let told = serve_one(rt, alloc, shared, &mut pass, service, ask);
     let stamped = match told {
-        Ok(Told {
-            served: Served::Stamped(_),
-            taken: _,
-        }) => 1,
+        Ok(
+            Told {
+                served: Served::Stamped(_),
+                taken: _,
+            },
+        ) => 1,
         _ => 0,
     };
     (pass, stamped)

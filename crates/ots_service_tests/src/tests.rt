@@ -8,16 +8,20 @@ use std::sync::Wait;
 use std::test::Fail;
 
 // The tree of the digest of 32 bytes 1, alone in its round.
-const ALONE: &str = "f0100707070707070707070707070707070708f1046553f100f008af43e6eeea71f2d50083dfe30d2ef90c8e1716687474703a2f2f3132372e302e302e313a3134373838";
+const ALONE: &str =
+    "f0100707070707070707070707070707070708f1046553f100f008af43e6eeea71f2d50083dfe30d2ef90c8e1716687474703a2f2f3132372e302e302e313a3134373838";
 
 // The same behind the digest of 32 bytes 2 with the nonce of 16 bytes 8.
-const SECOND_OF_TWO: &str = "f0100707070707070707070707070707070708f1206de5aa6296973a6f76d67618b5c9b3be248ff84b732469632091cb947cc99ad508f1046553f100f0084a55d42d5668e2b80083dfe30d2ef90c8e1716687474703a2f2f3132372e302e302e313a3134373838";
+const SECOND_OF_TWO: &str =
+    "f0100707070707070707070707070707070708f1206de5aa6296973a6f76d67618b5c9b3be248ff84b732469632091cb947cc99ad508f1046553f100f0084a55d42d5668e2b80083dfe30d2ef90c8e1716687474703a2f2f3132372e302e302e313a3134373838";
 
 // The same alone, of the digest of 64 bytes 1.
-const LONG: &str = "f0100707070707070707070707070707070708f1046553f100f008bebcb043e8b50e960083dfe30d2ef90c8e1716687474703a2f2f3132372e302e302e313a3134373838";
+const LONG: &str =
+    "f0100707070707070707070707070707070708f1046553f100f008bebcb043e8b50e960083dfe30d2ef90c8e1716687474703a2f2f3132372e302e302e313a3134373838";
 
 // What asks for the commitment over the digest that is alone in its round.
-const COMMITMENT: &str = "GET /timestamp/6553f10019f0c6303f7ea329796965199ec474437b73c9e81782a88752b6fd0c386e8bffaf43e6eeea71f2d5 HTTP/1.1\r\n\r\n";
+const COMMITMENT: &str =
+    "GET /timestamp/6553f10019f0c6303f7ea329796965199ec474437b73c9e81782a88752b6fd0c386e8bffaf43e6eeea71f2d5 HTTP/1.1\r\n\r\n";
 
 /// A limit that no test reaches.
 const AMPLE: u64 = 8000;
@@ -57,37 +61,68 @@ fn a_digest_is_stamped(rt: HostRuntime) -> Result<(), Fail> {
     let alloc = rt.alloc();
     let (told, commits, waiting) = serve(&rt, alloc, ask_digest(alloc)?, AMPLE, 0)?;
     assert_eq!(rt; (commits, waiting), (1, 0));
-    assert!(rt; matches!(told.served, Served::Stamped(Receipt { index: 0, commitment: _ })));
+    assert!(rt;
+        matches!(
+            told.served,
+            Served::Stamped(Receipt {
+                index: 0,
+                commitment: _
+            })
+        )
+    );
     is_tree(&rt, alloc, &told, ALONE)
 }
 
 #[test]
 fn a_digest_has_1_to_64_bytes(rt: HostRuntime) -> Result<(), Fail> {
     let alloc = rt.alloc();
-    let mut longest = ask(alloc, b"POST /digest HTTP/1.1\r\nContent-Length: 64\r\n\r\n")?;
+    let mut longest = ask(
+        alloc,
+        b"POST /digest HTTP/1.1\r\nContent-Length: 64\r\n\r\n",
+    )?;
     longest.request.extend_from_slice(&[1; 64])?;
     let (told, _, _) = serve(&rt, alloc, longest, AMPLE, 0)?;
     is_tree(&rt, alloc, &told, LONG)?;
     let none = ask(alloc, b"POST /digest HTTP/1.1\r\nContent-Length: 0\r\n\r\n")?;
     is_refused(&rt, alloc, none, 400, "400 Bad Request", "bad request")?;
-    let over = ask(alloc, b"POST /digest HTTP/1.1\r\nContent-Length: 65\r\n\r\n")?;
+    let over = ask(
+        alloc,
+        b"POST /digest HTTP/1.1\r\nContent-Length: 65\r\n\r\n",
+    )?;
     is_refused(&rt, alloc, over, 413, "413 Content Too Large", "too large")?;
     let unstated = ask(alloc, b"POST /digest HTTP/1.1\r\n\r\nabc")?;
-    is_refused(&rt, alloc, unstated, 411, "411 Length Required", "length required")
+    is_refused(
+        &rt,
+        alloc,
+        unstated,
+        411,
+        "411 Length Required",
+        "length required",
+    )
 }
 
 #[test]
 fn other_requests_are_refused(rt: HostRuntime) -> Result<(), Fail> {
     let alloc = rt.alloc();
     let get = ask(alloc, b"GET /digest HTTP/1.1\r\n\r\n")?;
-    is_refused(&rt, alloc, get, 405, "405 Method Not Allowed", "method not allowed")?;
+    is_refused(
+        &rt,
+        alloc,
+        get,
+        405,
+        "405 Method Not Allowed",
+        "method not allowed",
+    )?;
     let half = ask(alloc, b"GET /timestamp/0 HTTP/1.1\r\n\r\n")?;
     is_refused(&rt, alloc, half, 400, "400 Bad Request", "bad request")?;
     let unknown = ask(alloc, b"GET /timestamp/00 HTTP/1.1\r\n\r\n")?;
     is_refused(&rt, alloc, unknown, 404, "404 Not Found", "not found")?;
     let page = ask(alloc, b"GET / HTTP/1.1\r\n\r\n")?;
     is_refused(&rt, alloc, page, 404, "404 Not Found", "not found")?;
-    let cut = ask(alloc, b"POST /digest HTTP/1.1\r\nContent-Length: 32\r\n\r\nabc")?;
+    let cut = ask(
+        alloc,
+        b"POST /digest HTTP/1.1\r\nContent-Length: 32\r\n\r\nabc",
+    )?;
     is_refused(&rt, alloc, cut, 400, "400 Bad Request", "bad request")
 }
 
@@ -96,7 +131,13 @@ fn a_commitment_just_stored_is_pending(rt: HostRuntime) -> Result<(), Fail> {
     let alloc = rt.alloc();
     let mut asks = vec![in alloc; ask_digest(alloc)?]?;
     asks.push(ask(alloc, COMMITMENT.as_bytes())?)?;
-    let (mut told, _) = serve_all(&rt, alloc, new_book(alloc, AMPLE, 0)?, &service(alloc)?, &asks)?;
+    let (mut told, _) = serve_all(
+        &rt,
+        alloc,
+        new_book(alloc, AMPLE, 0)?,
+        &service(alloc)?,
+        &asks,
+    )?;
     let last = told.pop().ok_or("no connection")?;
     is_said(&rt, alloc, &last, 404, "404 Not Found", "pending")
 }
@@ -134,7 +175,14 @@ fn a_full_journal_is_told(rt: HostRuntime) -> Result<(), Fail> {
     let alloc = rt.alloc();
     let (told, commits, waiting) = serve(&rt, alloc, ask_digest(alloc)?, 64, 0)?;
     assert_eq!(rt; (commits, waiting), (0, 0));
-    is_said(&rt, alloc, &told, 507, "507 Insufficient Storage", "journal full")?;
+    is_said(
+        &rt,
+        alloc,
+        &told,
+        507,
+        "507 Insufficient Storage",
+        "journal full",
+    )?;
     let (told, commits, _) = serve(&rt, alloc, ask_digest(alloc)?, 65, 0)?;
     assert_eq!(rt; commits, 1);
     is_tree(&rt, alloc, &told, ALONE)

@@ -68,7 +68,10 @@ pub fn ask(alloc: Global, request: &[u8]) -> Result<Ask, Fail> {
 
 /// A request for a digest of 32 bytes 1.
 pub fn ask_digest(alloc: Global) -> Result<Ask, Fail> {
-    let mut asked = ask(alloc, b"POST /digest HTTP/1.1\r\nContent-Length: 32\r\n\r\n")?;
+    let mut asked = ask(
+        alloc,
+        b"POST /digest HTTP/1.1\r\nContent-Length: 32\r\n\r\n",
+    )?;
     asked.request.extend_from_slice(&[1; 32])?;
     Ok(asked)
 }
@@ -76,7 +79,9 @@ pub fn ask_digest(alloc: Global) -> Result<Ask, Fail> {
 /// A reply in words, with its status and phrase.
 fn said(alloc: Global, line: &str, words: &str) -> Result<String, Fail> {
     let size = words.len().saturating_add(1);
-    Ok(format!(in alloc; "HTTP/1.1 {line}\r\nContent-Type: text/plain\r\nContent-Length: {size}\r\nConnection: close\r\n\r\n{words}\n")?)
+    Ok(format!(in alloc;
+        "HTTP/1.1 {line}\r\nContent-Type: text/plain\r\nContent-Length: {size}\r\nConnection: close\r\n\r\n{words}\n"
+    )?)
 }
 
 /// The connection ended with this status, and the link took the reply in these words.
@@ -97,8 +102,9 @@ pub fn is_said(
 /// The bytes of a reply with a tree: its head, and then these bytes, in hexadecimal.
 pub fn is_tree(rt: &impl Abort, alloc: Global, told: &Told, tree: &str) -> Result<(), Fail> {
     let size = tree.len() / 2;
-    let mut reply = format!(in alloc; "HTTP/1.1 200 OK\r\nContent-Type: application/octet-stream\r\nContent-Length: {size}\r\nConnection: close\r\n\r\n")?
-        .into_bytes();
+    let mut reply = format!(in alloc;
+        "HTTP/1.1 200 OK\r\nContent-Type: application/octet-stream\r\nContent-Length: {size}\r\nConnection: close\r\n\r\n"
+    )?.into_bytes();
     reply.extend_from_slice(&hex::decode(alloc, tree)?)?;
     assert_eq!(rt; told.taken.as_slice(), reply.as_slice());
     Ok(())

@@ -37,7 +37,7 @@ returns-in-Ok-Unknown-clause-settles g c =
     let tickets : mid.tickets ≡ old.tickets = taken_unknown _ _ _ _ (rw c.in-Ok-Unknown.field-0-is at c.in-Ok-Unknown.ensures.takes) in
     let same : mid ≡ old = (λ i. record { store = c.in-Ok-Unknown.ensures.store i; tickets = tickets i }) in
     subst (λ (b : BookTold g.row.D.Denot). Settles t.leaf t.nonce c.args.service.now.uri b.store.journal.limit new.store.records (row g.D.Disk.faults b new) c.put_again.result
-        ⊎ IsBusy (row g.D.Disk.faults b new) c.put_again.result) same c.put_again.ensures.settles
+    ⊎ IsBusy (row g.D.Disk.faults b new) c.put_again.result) same c.put_again.ensures.settles
 
 pub returns-in-Err-clause-settles : goal.returns-in-Err-clause-settles
 returns-in-Err-clause-settles g c = inl (no_memory _ refl)
