@@ -108,11 +108,11 @@ fn crew<D: Disk + Send, R: Threads + Wait + Sync>(
     let ((one, stamped), (rest, others)) = join(
         rt,
         || -> (Pass, u64)
-            requires { IsPassOf shared one × (one.holding ≡ false) }
+            requires { IsPassOf shared.now one × (one.holding ≡ false) }
             ensures { (result.0.seat ≡ one.seat) × (result.0.holding ≡ false) }
         { work(rt, alloc, shared, one, service, ask) },
         || -> (Pass, u64)
-            requires { IsSync R.row × IsPassOf shared rest × (rest.holding ≡ false) × (fewer < rest.seat.share) }
+            requires { IsSync R.row × IsPassOf shared.now rest × (rest.holding ≡ false) × (fewer < rest.seat.share) }
             ensures { (result.0.seat ≡ rest.seat) × (result.0.holding ≡ false) }
         { crew(rt, alloc, shared, rest, service, ask, fewer) },
     );

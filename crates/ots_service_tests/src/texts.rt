@@ -19,10 +19,14 @@ const ROOM: DiskRoom = DiskRoom {
     file: 8000,
 };
 
-// A journal with no entry and this limit. The disk's calls of this number fails, none for 0.
+// A journal with no entry and this limit. The disk's call of this number fails, none for 0.
 fn new_journal(alloc: Global, limit: u64, failing: u64) -> Result<Journal<MemoryDisk>, Fail>
     ensures { IfOk result (λ j. j.is_sure ≡ true) }
 {
+    // The magic and a gate, and the room of the disk.
+    if !(9..=8000).contains(&limit) {
+        return Err(Fail::from("no such limit"));
+    }
     let disk = MemoryDisk::new(alloc, &[], ROOM, &[failing])?;
     match Journal::open(alloc, disk, limit) {
         Ok(journal) => Ok(journal),
