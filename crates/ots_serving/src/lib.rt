@@ -1,0 +1,16 @@
+//! A calendar's workers: they accept connections one at a time, and serve several at once.
+//!
+//! | name | what it is |
+//! |---|---|
+//! | [`Front`] | where connections come in, with the clock and the nonces; [`Front::turn`] accepts one, and [`Front::give_back`] gives it back |
+//! | [`Turn`] | a connection, with its second and its nonce |
+//! | [`serve_links`] | serves connections with several workers, until serving is over |
+//!
+//! The front stands under one lock, which a worker has while it accepts or gives back, and not while
+//! it serves. All share one book. Nothing is said of when a connection is served.
+#![tactic(auto)]
+
+mod front;
+mod turns;
+
+pub use front::{Front, Turn};
