@@ -12,5 +12,6 @@
 
 mod front;
 mod turns;
+mod worker;
 
 pub use front::{Front, Turn};
