@@ -10,8 +10,13 @@
 //! it serves. All share one book. Nothing is said of when a connection is served.
 #![tactic(auto)]
 
+mod crew;
 mod front;
+mod limits;
+mod serving;
 mod turns;
 mod worker;
 
 pub use front::{Front, Turn};
+pub use limits::MAX_WORKERS;
+pub use serving::{Ended, Ending, serve_links};
