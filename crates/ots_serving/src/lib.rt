@@ -5,6 +5,8 @@
 //! | [`Front`] | where connections come in, with the clock and the nonces; [`Front::turn`] accepts one, and [`Front::give_back`] gives it back |
 //! | [`Turn`] | a connection, with its second and its nonce |
 //! | [`serve_links`] | serves connections with several workers, until serving is over |
+//! | [`Ended`], [`Ending`] | what it hands back, and how it ended |
+//! | [`MAX_WORKERS`] | the most workers |
 //!
 //! The front stands under one lock, which a worker has while it accepts or gives back, and not while
 //! it serves. All share one book. Nothing is said of when a connection is served.
