@@ -1,9 +1,7 @@
 -- A link that was served is answered.
-use Rattle.std.proofs.Common.{◌≡◌, ◌≢◌, inl, inr, ℕ, ◌+◌, ◌≤◌, true, List, [], ◌∷◌, ◌++◌, length, refl, sym, ap, subst, ◌∙◌, arith}
+use Rattle.std.proofs.Common.{◌≡◌, inl, inr, ℕ, true, List, [], ◌++◌, sym, ap, subst, ◌∙◌, arith}
 use Rattle.std.specs.Prelude.{Option, None, Some, Result, Ok, Err}
-use Rattle.ots_base.specs.Told.{IfTold}
 use Rattle.ots_base.specs.declared.out_of_memory.OutOfMemory.{OutOfMemory}
-use Rattle.ots_calendar.specs.Answer.{answer}
 use Rattle.ots_http.specs.RequestRead.{IsRequestAnswer}
 use Rattle.ots_http.specs.declared.request.Request.{Request}
 use Rattle.ots_http.specs.declared.request.Request.TheVariants.{Digest, Timestamp, Refused}
@@ -23,7 +21,6 @@ use Rattle.ots_service.specs.Stamping as stamping
 use Rattle.ots_service.specs.Stamping.{SourcesTold, Settles, IsBusy, Comes, ComesOf}
 use Rattle.ots_service.specs.declared.due.Due.{Due}
 use Rattle.ots_service.specs.declared.served.Served.{Served}
-use Rattle.ots_service.specs.declared.served.Served.TheVariants as served
 
 -- ---- what was due may be due
 

@@ -1,12 +1,12 @@
 -- What closing a round comes to, by each of its answers.
-use Rattle.std.proofs.Common.{◌≡◌, inl, inr, ℕ, ◌+◌, ◌<◌, List, [], ◌∷◌, ◌++◌, length, refl, sym, ap, subst, ◌∙◌, arith, length-append}
+use Rattle.std.proofs.Common.{◌≡◌, inl, inr, ℕ, ◌<◌, List, [], ◌∷◌, ◌++◌, length, refl, sym, ap, subst, ◌∙◌, arith, length-append}
 use Rattle.std.specs.Int.{w32, to_be_bytes}
 use Rattle.std.specs.Prelude.{Option, None, Some, IfSome, Result, Ok, Err}
 use Rattle.ots_calendar.specs.Book.{BookTold}
 use Rattle.ots_calendar.specs.Rounds.{Closes, round_answer}
 use Rattle.ots_journal.specs.Journal.{JournalTold, size_with}
 use Rattle.ots_journal.specs.declared.errors.AppendError.{AppendError}
-use Rattle.ots_journal.specs.declared.errors.AppendError.TheVariants.{DiskFault, Full, OutOfMemory}
+use Rattle.ots_journal.specs.declared.errors.AppendError.TheVariants.{Full}
 use Rattle.ots_merkle.specs.CalendarTree.{root}
 use Rattle.ots_round.specs.Hmac.{hmac_sha256, filled, masked}
 use Rattle.ots_round.specs.Round.{leaf, leaves, mac, signed, round_commitment}

@@ -1,5 +1,5 @@
 -- Where the commitment of a receipt stands.
-use Rattle.std.proofs.Common.{◌≡◌, inl, inr, ℕ, List, refl, sym, ap, subst}
+use Rattle.std.proofs.Common.{◌≡◌, inl, inr, ℕ, List, refl, ap, subst}
 use Rattle.std.specs.Prelude.{Option, None, Some, Result, Ok, Err}
 use Rattle.ots_base.specs.declared.out_of_memory.OutOfMemory.{OutOfMemory as NoMemory}
 use Rattle.ots_calendar.specs.Answer.{answer}
@@ -17,7 +17,7 @@ use Rattle.ots_shared.specs.declared.row.Row.{Row}
 use Rattle.ots_store.specs.Records.{Record}
 use Rattle.ots_service.specs.Connection.{Seen, Serves, Ends, EndsWith, Does, IfStamped}
 use Rattle.ots_service.specs.Replies.{in_words, refusal, answered, stamp}
-use Rattle.ots_service.specs.Sending.{LinkSeen, Sends, whole, cut}
+use Rattle.ots_service.specs.Sending.{whole, cut}
 use Rattle.ots_service.specs.Stamping as stamping
 use Rattle.ots_service.specs.Stamping.{SourcesTold, Settles, Comes, ComesOf}
 use Rattle.ots_service.specs.declared.due.Due.{Due}

@@ -1,10 +1,9 @@
 -- A request that was read, and a reply that was written behind it.
-use Rattle.std.proofs.Common.{◌≡◌, ℕ, ◌≤◌, List, [], ◌∷◌, ◌++◌, length, take, refl, sym, ap, ◌∙◌, arith, append_assoc, append-nil}
-use Rattle.std.specs.Prelude.{Option, None, Some, Result, Ok, Err}
+use Rattle.std.proofs.Common.{ℕ, ◌≤◌, List, [], ◌++◌, sym, ap, ◌∙◌, arith, append_assoc, append-nil}
+use Rattle.std.specs.Prelude.{Option, None, Some}
 use Rattle.ots_base.specs.Told.{BothTold, BothTold-trans}
 use Rattle.ots_http.specs.Given.{GivesAtMost}
-use Rattle.ots_http.specs.ReplyText.{reply_bytes}
-use Rattle.ots_outside.specs.Link.{LinkTold, LinkGives, LinkTakes, whole_input}
+use Rattle.ots_outside.specs.Link.{LinkTold, LinkGives, LinkTakes}
 use Rattle.ots_service.specs.declared.due.Due.{Due}
 use Rattle.ots_service.specs.declared.served.Served.{Served}
 use Rattle.ots_service.specs.Sending.{LinkSeen, Took, Takes, Sends, whole, cut}

@@ -1,5 +1,5 @@
 -- When a link is answered.
-use Rattle.std.specs.Prelude.{◌≡◌, ◌≢◌, ◌⊎◌, ℕ, Bool, true, false, List, [], Option}
+use Rattle.std.specs.Prelude.{◌≡◌, ◌≢◌, ℕ, Bool, true, false, List, [], Option}
 use Rattle.ots_base.specs.Told.{IfTold}
 use Rattle.ots_calendar.specs.Answer.{answer}
 use Rattle.ots_http.specs.ReplyText.{reply_bytes}

@@ -1,4 +1,4 @@
-use Rattle.std.proofs.Common.{◌≡◌, inl, inr, refl, sym, ap, subst, get_or, take, drop, List, [], ◌∷◌, ◌++◌, ◌≤◌, length, ◌∙◌, arith, length-append}
+use Rattle.std.proofs.Common.{◌≡◌, inl, inr, refl, sym, ap, subst, get_or, take, drop, List, [], ◌∷◌, ◌++◌, ◌∙◌, arith, length-append}
 use Rattle.std.proofs.lemmas.Option.{slice_get-get_or}
 use Rattle.std.specs.Prelude.{Some}
 use Rattle.ots_attest.specs.declared.attestation.Attestation.TheVariants.{Pending}
