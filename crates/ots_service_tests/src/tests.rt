@@ -1,4 +1,4 @@
-use crate::texts::{ask, ask_digest, is_said, is_tree, new_book, service};
+use crate::texts::{ask, ask_digest, book_of, is_said, is_tree, new_book, service};
 use crate::{Ask, Told, all_are_stamped, serve_all, serve_beside};
 use ots_calendar::{Leaf, Receipt};
 use ots_service::Served;
@@ -22,6 +22,14 @@ const LONG: &str =
 // What asks for the commitment over the digest that is alone in its round.
 const COMMITMENT: &str =
     "GET /timestamp/6553f10019f0c6303f7ea329796965199ec474437b73c9e81782a88752b6fd0c386e8bffaf43e6eeea71f2d5 HTTP/1.1\r\n\r\n";
+
+// A journal with that commitment, a tip over it, and an anchor of the tip at height 7, in a
+// transaction of 46 bytes that is alone in its block; and the tree from the commitment to the
+// root of that block.
+const ANCHORED: &str =
+    "4f545343414c020aa5000100000031010000002c6553f10019f0c6303f7ea329796965199ec474437b73c9e81782a88752b6fd0c386e8bffaf43e6eeea71f2d5a5000100000035020000003000000000000000000000000000000001484ea732d1b326695b7ecb2174d80e3db2bc6ae1258ad9344f77ef8e825fba8fa5000100000050030000004b00000000000000000000000000000001000000000000000792cd55e0540ebcdac73f0640c5f731c1433afac3b19e73d3a58dde32de04a052000a020202020202020202020004030303030000";
+
+const COMPLETE: &str = "08f10a02020202020202020202f004030303030808000588960d73d719010107";
 
 /// A limit that no test reaches.
 const AMPLE: u64 = 8000;
@@ -140,6 +148,17 @@ fn a_commitment_just_stored_is_pending(rt: HostRuntime) -> Result<(), Fail> {
     )?;
     let last = told.pop().ok_or("no connection")?;
     is_said(&rt, alloc, &last, 404, "404 Not Found", "pending")
+}
+
+#[test]
+fn an_anchored_commitment_is_complete(rt: HostRuntime) -> Result<(), Fail> {
+    let alloc = rt.alloc();
+    let book = book_of(alloc, &hex::decode(alloc, ANCHORED)?, AMPLE, 0)?;
+    let asks = vec![in alloc; ask(alloc, COMMITMENT.as_bytes())?]?;
+    let (mut told, _) = serve_all(&rt, alloc, book, &service(alloc)?, &asks)?;
+    let last = told.pop().ok_or("no connection")?;
+    assert_eq!(rt; last.served, Served::Replied(200));
+    is_tree(&rt, alloc, &last, COMPLETE)
 }
 
 #[test]

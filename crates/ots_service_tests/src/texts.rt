@@ -19,37 +19,58 @@ const ROOM: DiskRoom = DiskRoom {
     file: 8000,
 };
 
-// A journal with no entry and this limit. The disk's call of this number fails, none for 0.
-fn new_journal(alloc: Global, limit: u64, failing: u64) -> Result<Journal<MemoryDisk>, Fail>
+// The journal of a file with these bytes and this limit. The disk's call of this number fails, none for 0.
+fn journal_of(
+    alloc: Global,
+    bytes: &[u8],
+    limit: u64,
+    failing: u64,
+) -> Result<Journal<MemoryDisk>, Fail>
     ensures { IfOk result (λ j. j.is_sure ≡ true) }
 {
     // The magic and a gate, and the room of the disk.
     if !(9..=8000).contains(&limit) {
         return Err(Fail::from("no such limit"));
     }
-    let disk = MemoryDisk::new(alloc, &[], ROOM, &[failing])?;
+    let disk = MemoryDisk::new(alloc, bytes, ROOM, &[failing])?;
     match Journal::open(alloc, disk, limit) {
         Ok(journal) => Ok(journal),
         Err(_) => Err(Fail::from("no journal")),
     }
 }
 
-// A store with no record.
-fn new_store(alloc: Global, limit: u64, failing: u64) -> Result<Store<MemoryDisk>, Fail>
+// Its store.
+fn store_of(
+    alloc: Global,
+    bytes: &[u8],
+    limit: u64,
+    failing: u64,
+) -> Result<Store<MemoryDisk>, Fail>
     ensures { IfOk result (λ s. s.journal.is_sure ≡ true) }
 {
-    match Store::open(alloc, new_journal(alloc, limit, failing)?) {
+    match Store::open(alloc, journal_of(alloc, bytes, limit, failing)?) {
         Ok(store) => Ok(store),
         Err(_) => Err(Fail::from("no store")),
     }
 }
 
-/// A book with no record, whose journal has this limit. The disk's call of this number fails.
-pub fn new_book(alloc: Global, limit: u64, failing: u64) -> Result<Book<MemoryDisk>, Fail> {
-    match Book::open(alloc, new_store(alloc, limit, failing)?) {
+/// The book of a file with these bytes, whose journal has this limit. The disk's call of this number
+/// fails.
+pub fn book_of(
+    alloc: Global,
+    bytes: &[u8],
+    limit: u64,
+    failing: u64,
+) -> Result<Book<MemoryDisk>, Fail> {
+    match Book::open(alloc, store_of(alloc, bytes, limit, failing)?) {
         Ok(book) => Ok(book),
         Err(_) => Err(Fail::from("no book")),
     }
+}
+
+/// A book with no record.
+pub fn new_book(alloc: Global, limit: u64, failing: u64) -> Result<Book<MemoryDisk>, Fail> {
+    book_of(alloc, &[], limit, failing)
 }
 
 /// A calendar, with the key of 32 bytes 1.
