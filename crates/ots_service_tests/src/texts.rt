@@ -19,20 +19,19 @@ const ROOM: DiskRoom = DiskRoom {
     file: 8000,
 };
 
-// The journal of a file with these bytes and this limit. The disk's call of this number fails, none for 0.
-fn journal_of(
-    alloc: Global,
-    bytes: &[u8],
-    limit: u64,
-    failing: u64,
-) -> Result<Journal<MemoryDisk>, Fail>
+// The disk of a file with these bytes. Its call of this number fails, none for 0.
+fn disk_of(alloc: Global, bytes: &[u8], failing: u64) -> Result<MemoryDisk, Fail> {
+    Ok(MemoryDisk::new(alloc, bytes, ROOM, &[failing])?)
+}
+
+// Its journal, with this limit.
+fn journal_of(alloc: Global, disk: MemoryDisk, limit: u64) -> Result<Journal<MemoryDisk>, Fail>
     ensures { IfOk result (λ j. j.is_sure ≡ true) }
 {
     // The magic and a gate, and the room of the disk.
-    if !(9..=8000).contains(&limit) {
+    if limit < 9 || limit > 8000 {
         return Err(Fail::from("no such limit"));
     }
-    let disk = MemoryDisk::new(alloc, bytes, ROOM, &[failing])?;
     match Journal::open(alloc, disk, limit) {
         Ok(journal) => Ok(journal),
         Err(_) => Err(Fail::from("no journal")),
@@ -48,7 +47,8 @@ fn store_of(
 ) -> Result<Store<MemoryDisk>, Fail>
     ensures { IfOk result (λ s. s.journal.is_sure ≡ true) }
 {
-    match Store::open(alloc, journal_of(alloc, bytes, limit, failing)?) {
+    let disk = disk_of(alloc, bytes, failing)?;
+    match Store::open(alloc, journal_of(alloc, disk, limit)?) {
         Ok(store) => Ok(store),
         Err(_) => Err(Fail::from("no store")),
     }
