@@ -1,5 +1,6 @@
 -- What is asked, whether or not it comes to an end.
-use Rattle.std.proofs.Common.{◌≡◌, ℕ, Bool, Bor, List, [], ◌∷◌, Option, Some, None, inl, inr, refl, sym, ap, subst, ◌∙◌, arith}
+use Rattle.std.proofs.Common.{◌≡◌, ◌⊎◌, ℕ, Bool, Bor, length, List, [], ◌∷◌, Option, Some, None, inl, inr, refl, sym, ap, subst, ◌∙◌, arith}
+use Rattle.std.proofs.lemmas.List.{length-map}
 use Rattle.std.specs.Prelude.{◌↔◌, IsTrue, IfOk, Result, Ok, Err}
 use Rattle.ots_base.specs.declared.out_of_memory.OutOfMemory.{OutOfMemory as NoMemory}
 use Rattle.ots_cli.specs.Answer.{CompletesAs, Decides, DecidesAs, PrintsInfo, WritesAsked, asked_made}
@@ -19,15 +20,16 @@ use Rattle.ots_outside.specs.Shelf.{Names}
 use Rattle.ots_tree.specs.declared.detached.Detached.{Detached}
 use Rattle.ots_address.specs.Address.{AddressParts}
 use Rattle.ots_upgrade.specs.Conversation.{Converse, ConverseUpTo, KeepsTold, Question}
-use Rattle.ots_upgrade.specs.Upgrading.{AsksFor, Upgrades, UpgradesUpTo, outcomes, questions}
+use Rattle.ots_upgrade.specs.Upgrading.{Upgrades, UpgradesUpTo, outcomes, questions}
 use Rattle.ots_upgrade.specs.declared.outcome.Outcome.{Outcome}
 use Rattle.ots_upgrade.specs.declared.upgrading.Upgraded.{Upgraded}
-use Rattle.ots_cli.specs.Asking.{Asks, AsksUpTo, Heard, Outside, alone}
+use Rattle.ots_cli.specs.Asking.{Asks, AsksUpTo, DrawsFor, Happens, Hears, Outside, StampsUpTo, alone}
+use Rattle.ots_cli.specs.Drawing.{DrawsOrFails, DrawsSome}
 use Rattle.ots_cli.specs.Gathered as gathered
-use Rattle.ots_cli.specs.Gathered.{AreOffline, Suits, SuitsUpgrade}
+use Rattle.ots_cli.specs.Gathered.{AreOffline, Suits, SuitsStamp, SuitsUpgrade}
 use Rattle.ots_cli.specs.declared.inputs.Inputs.{Inputs}
 use Rattle.ots_cli.specs.declared.inputs.Inputs.TheVariants as inputs
-use Rattle.ots_words.specs.Words.{Command, Upgrading, info, canon, merge, prune, verify, upgrade}
+use Rattle.ots_words.specs.Words.{Command, Stamping, Upgrading, info, canon, merge, prune, verify, stamp, upgrade}
 
 module _ {D : Type 0} (told : D → DialerTold) (faults : D → ℕ) where
   same_told : (old new : D) → new ≡ old → KeepsTold told faults old new
@@ -39,7 +41,7 @@ module _ {D : Type 0} (told : D → DialerTold) (faults : D → ℕ) where
   }
 
   -- All of it was asked.
-  all_asked : (qs : List Question) (old new : D) (os : List Outcome) → Converse told faults qs old new os → ConverseUpTo told faults qs old new
+  pub all_asked : (qs : List Question) (old new : D) (os : List Outcome) → Converse told faults qs old new os → ConverseUpTo told faults qs old new
   all_asked [] old new [] h = same_told old new h
   all_asked [] old new (x ∷ os) h = absurd h
   all_asked (q ∷ qs) old new [] h = absurd h
@@ -54,10 +56,10 @@ module _ {D : Type 0} (told : D → DialerTold) (faults : D → ℕ) where
   }
 
   pub completes : (calendars : List AddressParts) (p : Detached) (to : List ℕ) (old new : D) (u : Upgraded) (e : Ending) → Upgrades told faults calendars p old new u
-      → WritesAsked u.asked to u.proof e → CompletesAs (Heard told faults old new) calendars p to e
+      → WritesAsked u.asked to u.proof e → CompletesAs (Hears told faults old new) calendars p to e
   completes calendars p to old new u e h writes = (
-    record { questions = questions calendars h.pairs; outcomes = outcomes u.asked },
-    h.asks.conversed,
+    record { nonces = Some []; questions = questions calendars h.pairs; outcomes = outcomes u.asked },
+    record { heard = h.asks.conversed; none = refl },
     (
       u.asked,
       u.proof,
@@ -75,45 +77,131 @@ module _ {D : Type 0} (told : D → DialerTold) (faults : D → ℕ) where
     ),
   )
 
-  -- of the inputs of a command
-  asks_nobody : (i : Inputs) (old new : D) → AreOffline i → gathered.AsksFor told faults i old new → new ≡ old
-  asks_nobody (inputs.Info proof) old new offline h = h
-  asks_nobody (inputs.Rewrite way proof to) old new offline h = h
-  asks_nobody (inputs.Merge first second to) old new offline h = h
-  asks_nobody (inputs.Verify v) old new offline h = h
-  asks_nobody (inputs.Upgrade calendars proof to) old new offline h = absurd offline
+  module _ {N : Type 0} (left : N → Option (List ℕ)) where
+    -- of the inputs of a command
+    asks_nobody : (i : Inputs) (old new : D) (m n : N) → AreOffline i → gathered.AsksFor told faults left i old new m n → new ≡ old
+    asks_nobody (inputs.Info proof) old new m n offline h = h
+    asks_nobody (inputs.Rewrite way proof to) old new m n offline h = h
+    asks_nobody (inputs.Merge first second to) old new m n offline h = h
+    asks_nobody (inputs.Verify v) old new m n offline h = h
+    asks_nobody (inputs.Stamp s) old new m n offline h = absurd offline
+    asks_nobody (inputs.Upgrade calendars proof to) old new m n offline h = absurd offline
 
-  asks_calendars : (names : Option Names) (u : Upgrading) (i : Inputs) (old new : D) → SuitsUpgrade names u i → gathered.AsksFor told faults i old new
-      → AsksUpTo told faults names u old new
-  asks_calendars names u (inputs.Info proof) old new suits h = absurd suits
-  asks_calendars names u (inputs.Rewrite way proof to) old new suits h = absurd suits
-  asks_calendars names u (inputs.Merge first second to) old new suits h = absurd suits
-  asks_calendars names u (inputs.Verify v) old new suits h = absurd suits
-  asks_calendars names u (inputs.Upgrade calendars proof to) old new suits h = record {
-    calendars = calendars.items;
-    is_list = suits.0;
-    proof = proof;
-    is_proof = suits.1;
-    asks = h;
+    asks_calendars : (names : Option Names) (u : Upgrading) (i : Inputs) (old new : D) (m n : N) → SuitsUpgrade names u i → gathered.AsksFor told faults left i old new m n
+        → AsksUpTo told faults names u old new
+    asks_calendars names u (inputs.Info proof) old new m n suits h = absurd suits
+    asks_calendars names u (inputs.Rewrite way proof to) old new m n suits h = absurd suits
+    asks_calendars names u (inputs.Merge first second to) old new m n suits h = absurd suits
+    asks_calendars names u (inputs.Verify v) old new m n suits h = absurd suits
+    asks_calendars names u (inputs.Stamp s) old new m n suits h = absurd suits
+    asks_calendars names u (inputs.Upgrade calendars proof to) old new m n suits h = record {
+      calendars = calendars.items;
+      is_list = suits.0;
+      proof = proof;
+      is_proof = suits.1;
+      asks = h;
+    }
+
+    submits : (names : Option Names) (s : Stamping) (i : Inputs) (old new : D) (m n : N) → SuitsStamp names s i → gathered.AsksFor told faults left i old new m n
+        → (new ≡ old) ⊎ StampsUpTo told faults left names s old new m n
+    submits names s (inputs.Info proof) old new m n suits h = absurd suits
+    submits names s (inputs.Rewrite way proof to) old new m n suits h = absurd suits
+    submits names s (inputs.Merge first second to) old new m n suits h = absurd suits
+    submits names s (inputs.Verify v) old new m n suits h = absurd suits
+    submits names s (inputs.Upgrade calendars proof to) old new m n suits h = absurd suits
+    submits names s (inputs.Stamp i) old new m n suits (inl same) = inl same
+    submits names s (inputs.Stamp i) old new m n suits (inr h) = inr (record {
+      calendars = i.calendars.items;
+      is_list = suits.is_list;
+      digests = i.digests.items;
+      are_hashed = suits.hashed;
+      targets = h.targets;
+      digests_are = h.digests_are;
+      drawn = h.drawn;
+      depth = h.depth;
+      depth_is = h.depth_is;
+      asks = h.asks;
+    })
+
+    pub asks_of : (names : Option Names) (c : Command) (i : Inputs) (old new : D) (m n : N) → Suits names c i → gathered.AsksFor told faults left i old new m n
+        → Asks told faults left names (Some c) old new m n
+    asks_of names (info proof) i old new m n suits h = asks_nobody i old new m n suits h
+    asks_of names (canon from to) i old new m n suits h = asks_nobody i old new m n suits h
+    asks_of names (merge first second to) i old new m n suits h = asks_nobody i old new m n suits h
+    asks_of names (prune from to) i old new m n suits h = asks_nobody i old new m n suits h
+    asks_of names (verify v) i old new m n suits h = asks_nobody i old new m n suits h
+    asks_of names (stamp s) i old new m n suits h = submits names s i old new m n suits h
+    asks_of names (upgrade u) i old new m n suits h = inr (asks_calendars names u i old new m n suits h)
+
+    -- nothing was asked
+    pub asks_none : (names : Option Names) (c : Option Command) (d : D) (m : N) → Asks told faults left names c d d m m
+    asks_none names None d m = refl
+    asks_none names (Some (info proof)) d m = refl
+    asks_none names (Some (canon from to)) d m = refl
+    asks_none names (Some (merge first second to)) d m = refl
+    asks_none names (Some (prune from to)) d m = refl
+    asks_none names (Some (verify v)) d m = refl
+    asks_none names (Some (stamp s)) d m = inl refl
+    asks_none names (Some (upgrade u)) d m = inl refl
+
+  -- conversations in which nothing is drawn
+  pub heard_alone : {N : Type 0} (left : N → Option (List ℕ)) (draw_faults : N → ℕ) (old new : D) (m : N) (o : Outside) → Hears told faults old new o
+      → Happens told faults left draw_faults old new m m o
+  heard_alone left draw_faults old new m o h = record {
+    heard = h.heard;
+    drawn = subst (λ (z : Option (List (List ℕ))). DrawsOrFails left draw_faults z m m) (sym h.none) refl;
   }
 
-  pub asks_of : (names : Option Names) (c : Command) (i : Inputs) (old new : D) → Suits names c i → gathered.AsksFor told faults i old new → Asks told faults names (Some c) old new
-  asks_of names (info proof) i old new suits h = asks_nobody i old new suits h
-  asks_of names (canon from to) i old new suits h = asks_nobody i old new suits h
-  asks_of names (merge first second to) i old new suits h = asks_nobody i old new suits h
-  asks_of names (prune from to) i old new suits h = asks_nobody i old new suits h
-  asks_of names (verify v) i old new suits h = asks_nobody i old new suits h
-  asks_of names (upgrade u) i old new suits h = inr (asks_calendars names u i old new suits h)
+  -- nothing happens
+  pub nothing : {N : Type 0} (left : N → Option (List ℕ)) (draw_faults : N → ℕ) (d : D) (m : N) → Happens told faults left draw_faults d d m m alone
+  nothing left draw_faults d m = record { heard = refl; drawn = refl }
 
-  -- nothing was asked
-  pub asks_none : (names : Option Names) (c : Option Command) (d : D) → Asks told faults names c d d
-  asks_none names None d = refl
-  asks_none names (Some (info proof)) d = refl
-  asks_none names (Some (canon from to)) d = refl
-  asks_none names (Some (merge first second to)) d = refl
-  asks_none names (Some (prune from to)) d = refl
-  asks_none names (Some (verify v)) d = refl
-  asks_none names (Some (upgrade u)) d = inl refl
+-- ---- what is drawn
+
+module _ {N : Type 0} (left : N → Option (List ℕ)) where
+  pub draws_none : (c : Option Command) (m : N) → DrawsFor left c m m
+  draws_none None m = refl
+  draws_none (Some (info proof)) m = refl
+  draws_none (Some (canon from to)) m = refl
+  draws_none (Some (merge first second to)) m = refl
+  draws_none (Some (prune from to)) m = refl
+  draws_none (Some (verify v)) m = refl
+  draws_none (Some (stamp s)) m = record { nonces = []; few = omega arith; mid = m; draws = refl; left_stay = refl }
+  draws_none (Some (upgrade u)) m = refl
+
+  draws_nothing : (i : Inputs) (m n : N) → AreOffline i → gathered.DrawsOf left i m n → n ≡ m
+  draws_nothing (inputs.Info proof) m n offline h = h
+  draws_nothing (inputs.Rewrite way proof to) m n offline h = h
+  draws_nothing (inputs.Merge first second to) m n offline h = h
+  draws_nothing (inputs.Verify v) m n offline h = h
+  draws_nothing (inputs.Stamp s) m n offline h = absurd offline
+  draws_nothing (inputs.Upgrade calendars proof to) m n offline h = h
+
+  of_upgrade : (names : Option Names) (u : Upgrading) (i : Inputs) (m n : N) → SuitsUpgrade names u i → gathered.DrawsOf left i m n → n ≡ m
+  of_upgrade names u (inputs.Info proof) m n suits h = h
+  of_upgrade names u (inputs.Rewrite way proof to) m n suits h = h
+  of_upgrade names u (inputs.Merge first second to) m n suits h = h
+  of_upgrade names u (inputs.Verify v) m n suits h = h
+  of_upgrade names u (inputs.Stamp s) m n suits h = absurd suits
+  of_upgrade names u (inputs.Upgrade calendars proof to) m n suits h = h
+
+  of_stamp : (names : Option Names) (s : Stamping) (i : Inputs) (m n : N) → SuitsStamp names s i → gathered.DrawsOf left i m n → DrawsSome left (length s.files) m n
+  of_stamp names s (inputs.Info proof) m n suits h = absurd suits
+  of_stamp names s (inputs.Rewrite way proof to) m n suits h = absurd suits
+  of_stamp names s (inputs.Merge first second to) m n suits h = absurd suits
+  of_stamp names s (inputs.Verify v) m n suits h = absurd suits
+  of_stamp names s (inputs.Upgrade calendars proof to) m n suits h = absurd suits
+  of_stamp names s (inputs.Stamp i) m n suits h =
+      subst (λ (z : ℕ). DrawsSome left z m n) (sym (length-map i.files.items _) ∙ ap length suits.files) h
+
+  pub draws_of : (names : Option Names) (c : Command) (i : Inputs) (m n : N) → Suits names c i → gathered.DrawsOf left i m n → DrawsFor left (Some c) m n
+  draws_of names (info proof) i m n suits h = draws_nothing i m n suits h
+  draws_of names (canon from to) i m n suits h = draws_nothing i m n suits h
+  draws_of names (merge first second to) i m n suits h = draws_nothing i m n suits h
+  draws_of names (prune from to) i m n suits h = draws_nothing i m n suits h
+  draws_of names (verify v) i m n suits h = draws_nothing i m n suits h
+  draws_of names (stamp s) i m n suits h = of_stamp names s i m n suits h
+  draws_of names (upgrade u) i m n suits h = of_upgrade names u i m n suits h
 
 -- ---- what is decided
 
@@ -122,10 +210,15 @@ pub offline_decided : (happens : Outside → Type 0) → happens alone → (i : 
 offline_decided happens heard i P f (Ok d) h = λ e is. (alone, heard, f e (h e is))
 offline_decided happens heard i P f (Err x) h = tt
 
-pub asking_decided : (happens : Outside → Type 0) (i : Inputs) (P : Outside → Ending → Type 0) → ((o : Outside) (e : Ending) → P o e → Decides o i e)
+pub asking_decided : (hears happens : Outside → Type 0) (i : Inputs) (P : Outside → Ending → Type 0) → ((o : Outside) → hears o → happens o)
+    → ((o : Outside) (e : Ending) → P o e → Decides o i e) → (r : Result Decided NoMemory) → IfOk r (EndsAs (λ e. (o : Outside) × hears o × P o e))
+    → IfOk r (EndsAs (DecidesAs happens i))
+asking_decided hears happens i P g f (Ok d) h = λ e is. let x = h e is in (x.0, g x.0 x.1, f x.0 e x.2)
+asking_decided hears happens i P g f (Err x) h = tt
+
+pub stamping_decided : (happens : Outside → Type 0) (i : Inputs) {P : Outside → Ending → Type 0} → ((o : Outside) (e : Ending) → P o e → Decides o i e)
     → (r : Result Decided NoMemory) → IfOk r (EndsAs (λ e. (o : Outside) × happens o × P o e)) → IfOk r (EndsAs (DecidesAs happens i))
-asking_decided happens i P f (Ok d) h = λ e is. let x = h e is in (x.0, x.1, f x.0 e x.2)
-asking_decided happens i P f (Err x) h = tt
+stamping_decided happens i {P} f r h = asking_decided happens happens i P (λ o x. x) f r h
 
 -- an ending by its two parts
 ending_is : (e : Ending) (s : Status) (done : List Act) → e.status ≡ s → e.acts ≡ done → e ≡ record { status = s; acts = done }

@@ -1,5 +1,5 @@
 -- An ending is carried out.
-use Rattle.std.proofs.Common.{◌≡◌, Bool, None, Bor, inl, inr, ℕ, List, [], ◌∷◌, Option, refl, sym, subst, ◌∙◌, arith}
+use Rattle.std.proofs.Common.{◌≡◌, Bool, None, Bor, inl, inr, ℕ, List, [], ◌∷◌, ◌++◌, Option, refl, sym, subst, ◌∙◌, arith}
 use Rattle.std.specs.Prelude.{Ok, Err}
 use Rattle.ots_base.specs.Cause.{Rose}
 use Rattle.ots_detached.specs.File.{file_of}
@@ -11,10 +11,10 @@ use Rattle.ots_cli.specs.declared.ending.Ending.{Ending as Decided}
 use Rattle.ots_cli.specs.declared.ending.Text.{Text}
 use Rattle.ots_cli.specs.declared.status.Status.{Status}
 use Rattle.ots_cli.specs.Answer.{Comes, as_defined, not_read}
-use Rattle.ots_cli.specs.CarriedOut.{Carries, CarriesOut, CarriesOutEnding, Ends, carried_out, Makes, Outputs, PrintsBoth, PrintsLast}
+use Rattle.ots_cli.specs.CarriedOut.{Carries, CarriesOut, CarriesOutEnding, Ends, carried_out, Does, Makes, MakesThen, Outputs, PrintsBoth, PrintsLast}
 use Rattle.ots_cli.specs.declared.output.OutputError.{OutputError}
 use Rattle.ots_cli.specs.Decided.{AreActsOf, IsTextOf}
-use Rattle.ots_cli.specs.Ending.{Act, Ending, makes, prints}
+use Rattle.ots_cli.specs.Ending.{Act, Ending, makes, makes_stamp, prints}
 use Rattle.ots_cli.specs.Gathered.{ComesToEnd}
 use Rattle.ots_cli.specs.Found.{IsUnder}
 use Rattle.ots_cli.specs.Refusal.{refusal_text}
@@ -68,13 +68,13 @@ pub file_made : (d : Decided) (a : Acts) (name : List ℕ) (p : Detached) (old n
 file_made d a name p old new before now printing taken taken_now r is made h =
     ending_carried d d.status (makes name (file_of p) ∷ []) a old new before now printing taken taken_now r refl is made h
 
-pub refused_behind : (d : Decided) (t : Text) (name : Bor (List ℕ)) (told : ShelfTold) (faults : ShelfFaults) (printing : Type 0) (taken now : Option (List ℕ)) (r : Status)
-    → d.acts ≡ acts.RefuseBehind t name
-    → (bytes : List ℕ) × IsTextOf d.status t bytes × PrintsBoth printing d.status bytes (refusal_text name.now d.status) taken now r
+pub refused_behind : (d : Decided) (a : Acts) (IsFirst : List ℕ → Type 0) (name : List ℕ) (told : ShelfTold) (faults : ShelfFaults) (printing : Type 0) (taken now : Option (List ℕ)) (r : Status)
+    → d.acts ≡ a → ((bytes : List ℕ) → IsFirst bytes → AreActsOf d.status a (prints bytes ∷ prints (refusal_text name d.status) ∷ []))
+    → (bytes : List ℕ) × IsFirst bytes × PrintsBoth printing d.status bytes (refusal_text name d.status) taken now r
     → CarriesOutEnding d told told faults faults printing taken now r
-refused_behind d t name told faults printing taken now r is h =
-    ending_carried d d.status (prints h.0 ∷ prints (refusal_text name.now d.status) ∷ []) (acts.RefuseBehind t name) told told faults faults printing taken now r
-    refl is (h.0, h.1, refl) (record {
+refused_behind d a IsFirst name told faults printing taken now r is acts_of h =
+    ending_carried d d.status (prints h.0 ∷ prints (refusal_text name d.status) ∷ []) a told told faults faults printing taken now r
+    refl is (acts_of h.0 h.1) (record {
       out = both h.2;
       opened = refl;
       slots = λ k. refl;
@@ -82,9 +82,9 @@ refused_behind d t name told faults printing taken now r is h =
       counts = record { opening = refl; reading = refl };
       later = omega arith;
     }) where
-      both : PrintsBoth printing d.status h.0 (refusal_text name.now d.status) taken now r
-          → CarriesOut (Rose faults.writing faults.writing) printing d.status (prints h.0 ∷ prints (refusal_text name.now d.status) ∷ []) told.names told.names taken now r
-      both (inl (mid, whole, last)) = inl (mid, whole, last_text (Rose faults.writing faults.writing) printing d.status (refusal_text name.now d.status) told.names mid now r last)
+      both : PrintsBoth printing d.status h.0 (refusal_text name d.status) taken now r
+          → CarriesOut (Rose faults.writing faults.writing) printing d.status (prints h.0 ∷ prints (refusal_text name d.status) ∷ []) told.names told.names taken now r
+      both (inl (mid, whole, last)) = inl (mid, whole, last_text (Rose faults.writing faults.writing) printing d.status (refusal_text name d.status) told.names mid now r last)
       both (inr front) = inr (refl, front.0, front.1, front.2)
 
 pub made_behind : (d : Decided) (t : Text) (name : Bor (List ℕ)) (p : Detached) (complete : Bool) (old new : ShelfTold) (before now : ShelfFaults) (printing : Type 0)
@@ -118,23 +118,33 @@ last_later : (P Q : Type 0) → (P → Q) → (status : Status) (text : List ℕ
 last_later P Q f status text taken now r (inl whole) = inl whole
 last_later P Q f status text taken now r (inr front) = inr (f front.0, front.1, front.2)
 
-carries_later : (writing P Q : Type 0) → (P → Q) → (status : Status) (acts : List Act) (old new : Option Names) (taken now : Option (List ℕ)) (r : Status)
-    → CarriesOut writing P status acts old new taken now r → CarriesOut writing Q status acts old new taken now r
-carries_later writing P Q f status [] old new taken now r h = h
-carries_later writing P Q f status (prints text ∷ acts) old new taken now r (inl h) =
-    inl (h.0, h.1, carries_later writing P Q f status acts old new h.0 now r h.2)
-carries_later writing P Q f status (prints text ∷ acts) old new taken now r (inr h) = inr (h.0, f h.1, h.2, h.3)
-carries_later writing P Q f status (makes name bytes ∷ acts) old new taken now r (inl h) = inl (h.0, carries_later writing P Q f status acts _ new taken now r h.1)
-carries_later writing P Q f status (makes name bytes ∷ acts) old new taken now r (inr (inl h)) = inr (inl (h.0, h.1, last_later P Q f _ _ taken now r h.2))
-carries_later writing P Q f status (makes name bytes ∷ acts) old new taken now r (inr (inr (inl h))) =
-    inr (inr (inl (h.0, h.1, h.2, last_later P Q f _ _ taken now r h.3)))
-carries_later writing P Q f status (makes name bytes ∷ acts) old new taken now r (inr (inr (inr h))) = inr (inr (inr h))
+making_later : (W V P Q : Type 0) → (W → V) → (P → Q) → (name bytes : List ℕ) (goes_on goes_later : Option Names → Type 0) (old new : Option Names)
+    (taken now : Option (List ℕ)) (r : Status) → ((mid : Option Names) → goes_on mid → goes_later mid) → MakesThen W P name bytes goes_on old new taken now r
+    → MakesThen V Q name bytes goes_later old new taken now r
+making_later W V P Q w f name bytes goes_on goes_later old new taken now r next (inl h) = inl (h.0, next _ h.1)
+making_later W V P Q w f name bytes goes_on goes_later old new taken now r next (inr (inl h)) = inr (inl (h.0, h.1, last_later P Q f _ _ taken now r h.2))
+making_later W V P Q w f name bytes goes_on goes_later old new taken now r next (inr (inr (inl h))) =
+    inr (inr (inl (w h.0, h.1, h.2, last_later P Q f _ _ taken now r h.3)))
+making_later W V P Q w f name bytes goes_on goes_later old new taken now r next (inr (inr (inr h))) = inr (inr (inr h))
+
+pub carries_later : (W V P Q : Type 0) → (W → V) → (P → Q) → (status : Status) (acts : List Act) (old new : Option Names) (taken now : Option (List ℕ)) (r : Status)
+    → CarriesOut W P status acts old new taken now r → CarriesOut V Q status acts old new taken now r
+carries_later W V P Q w f status [] old new taken now r h = h
+carries_later W V P Q w f status (prints text ∷ acts) old new taken now r (inl h) = inl (h.0, h.1, carries_later W V P Q w f status acts old new h.0 now r h.2)
+carries_later W V P Q w f status (prints text ∷ acts) old new taken now r (inr h) = inr (h.0, f h.1, h.2, h.3)
+carries_later W V P Q w f status (makes name bytes ∷ acts) old new taken now r h =
+    making_later W V P Q w f name bytes _ _ old new taken now r (λ mid k. carries_later W V P Q w f status acts mid new taken now r k) h
+carries_later W V P Q w f status (makes_stamp targets trees i name ∷ acts) old new taken now r (inl (p, stamp, file, h)) =
+    inl (p, stamp, file, making_later W V P Q w f name (file_of p) _ _ old new taken now r (λ mid k. carries_later W V P Q w f status acts mid new taken now r k) h)
+carries_later W V P Q w f status (makes_stamp targets trees i name ∷ acts) old new taken now r (inr (inl (p, stamp, long, same, last))) =
+    inr (inl (p, stamp, long, same, last_later P Q f _ _ taken now r last))
+carries_later W V P Q w f status (makes_stamp targets trees i name ∷ acts) old new taken now r (inr (inr none)) = inr (inr none)
 
 -- A text was printed, and then acts were carried out.
 pub text_then : (P Q : Type 0) → (P → Q) → (status : Status) (text : List ℕ) (acts : List Act) (old new : ShelfTold) (before now : ShelfFaults) (taken mid taken_now : Option (List ℕ))
     (r : Status) → Takes taken mid text → Carries status acts old new before now P mid taken_now r → Carries status (prints text ∷ acts) old new before now Q taken taken_now r
 text_then P Q f status text acts old new before now taken mid taken_now r whole h = record {
-  out = inl (mid, whole, carries_later (Rose before.writing now.writing) P Q f status acts old.names new.names mid taken_now r h.out);
+  out = inl (mid, whole, carries_later (Rose before.writing now.writing) (Rose before.writing now.writing) P Q (λ rose. rose) f status acts old.names new.names mid taken_now r h.out);
   opened = h.opened;
   slots = h.slots;
   short = h.short;
@@ -153,6 +163,29 @@ text_lost printing status text acts told faults taken now failed front = record 
   counts = record { opening = refl; reading = refl };
   later = omega arith;
 }
+
+-- ---- acts that are carried out, and more behind them
+
+pub does_then : (writing printing : Type 0) (status : Status) (acts more : List Act) (old mid new : Option Names) (taken between now : Option (List ℕ)) (r : Status)
+    → Does acts old mid taken between → CarriesOut writing printing status more mid new between now r → CarriesOut writing printing status (acts ++ more) old new taken now r
+does_then writing printing status [] more old mid new taken between now r does h =
+    subst (λ (z : Option Names). CarriesOut writing printing status more z new taken now r) does.0
+    (subst (λ (z : Option (List ℕ)). CarriesOut writing printing status more mid new z now r) does.1 h)
+does_then writing printing status (prints text ∷ acts) more old mid new taken between now r does h =
+    inl (does.0, does.1, does_then writing printing status acts more old mid new does.0 between now r does.2 h)
+does_then writing printing status (makes name bytes ∷ acts) more old mid new taken between now r does h =
+    inl (does.0, does_then writing printing status acts more _ mid new taken between now r does.1 h)
+does_then writing printing status (makes_stamp targets trees i name ∷ acts) more old mid new taken between now r does h =
+    inl (does.0, does.1, does.2, inl (does.3, does_then writing printing status acts more _ mid new taken between now r does.4 h))
+
+pub does_more : (acts more : List Act) (old mid new : Option Names) (taken between now : Option (List ℕ)) → Does acts old mid taken between → Does more mid new between now
+    → Does (acts ++ more) old new taken now
+does_more [] more old mid new taken between now does h =
+    subst (λ (z : Option Names). Does more z new taken now) does.0 (subst (λ (z : Option (List ℕ)). Does more mid new z now) does.1 h)
+does_more (prints text ∷ acts) more old mid new taken between now does h = (does.0, does.1, does_more acts more old mid new does.0 between now does.2 h)
+does_more (makes name bytes ∷ acts) more old mid new taken between now does h = (does.0, does_more acts more _ mid new taken between now does.1 h)
+does_more (makes_stamp targets trees i name ∷ acts) more old mid new taken between now does h =
+    (does.0, does.1, does.2, does.3, does_more acts more _ mid new taken between now does.4 h)
 
 -- ---- a run
 

@@ -7,11 +7,12 @@ use Rattle.ots_cli.specs.declared.input.InputError.TheVariants.{NoFile, ReadFaul
 use Rattle.ots_cli.specs.declared.input.Stop.{Stop}
 use Rattle.ots_cli.specs.declared.status.Status.{Status}
 use Rattle.ots_cli.specs.declared.status.Status.TheVariants as status
+use Rattle.ots_address.specs.Address.{AddressParts}
 use Rattle.ots_bitcoin.specs.HeaderTable.{Table}
 use Rattle.ots_cli.specs.declared.inputs.Inputs.{Inputs}
-use Rattle.ots_words.specs.Words.{Command, HeaderFile, Upgrading, upgrade}
+use Rattle.ots_words.specs.Words.{Command, HeaderFile}
 use Rattle.ots_cli.specs.Asking.{Outside, alone}
-use Rattle.ots_cli.specs.Answer.{Answers, AnswersAs, Comes, as_defined, not_read, Decides, DecidesAs, is_bad, HasPerhapsTable, RefusesInput, no_file, refuses, RefusesPerhapsTable, WithPerhapsTable, is_given, is_refused}
+use Rattle.ots_cli.specs.Answer.{Answers, AnswersAs, Comes, as_defined, not_read, Decides, DecidesAs, is_bad, HasPerhapsTable, RefusesInput, no_file, refuses, RefusesPerhapsTable, WithList, WithPerhapsTable, is_given, is_refused}
 use Rattle.ots_base.specs.declared.out_of_memory.OutOfMemory.{OutOfMemory as NoMemory}
 use Rattle.ots_cli.specs.declared.ending.Ending.{Ending as Decided}
 use Rattle.ots_cli.specs.Decided.{EndsAs, IsEnding}
@@ -21,7 +22,7 @@ use Rattle.ots_cli.specs.Gathered.{ComesToEnd, IfBadList, Reads, ReadsName, Read
 use Rattle.ots_cli.specs.Opened.{IsOpenedOrNot, Opens, StopsAt, names_read}
 use Rattle.ots_cli.proofs.Opened.{both, front_of_more, none_opened, one_refused, stops_at_one, stops_before, stops_later, then_opened}
 
-never_falls : (a b c : ShelfFaults) → NeverFalls a b → NeverFalls b c → NeverFalls a c
+pub never_falls : (a b c : ShelfFaults) → NeverFalls a b → NeverFalls b c → NeverFalls a c
 never_falls a b c p q =
     let first = p.opening in let second = q.opening in let third = p.reading in let fourth = q.reading in let fifth = p.writing in let sixth = q.writing in
     record { opening = omega arith; reading = omega arith; writing = omega arith }
@@ -75,7 +76,7 @@ abbrev pub Goes : {B : Type 0} → (B → Ending → Type 0) → (Option Names �
 Goes D P told y = (e : Ending) → D y e → P told e
 
 -- a stop that is said of other names and refusals
-stops_as : (R Q : Ending → Type 0) (S T : List ℕ → Type 0) (name : List ℕ) (e : InputError) → ((d : Ending) → R d → Q d) → ((n : List ℕ) → S n → T n)
+pub stops_as : (R Q : Ending → Type 0) (S T : List ℕ → Type 0) (name : List ℕ) (e : InputError) → ((d : Ending) → R d → Q d) → ((n : List ℕ) → S n → T n)
     → StopsFor R S name e → StopsFor Q T name e
 stops_as R Q S T name NoFile f g h = f _ h
 stops_as R Q S T name ReadFault f g h = g name h
@@ -311,9 +312,10 @@ stop_as h = record {
 }
 
 -- A list of calendars that was refused, before anything is opened.
-pub list_refused : {B : Type 0} (o : Outside) {u : Upgrading} {gives : Option Names → B → Type 0} {told : ShelfTold} {faults : ShelfFaults} (names : List (List ℕ)) (stop : Stop)
-    → IfBadList u.calendars stop.name.now stop.cause → Reads {A = B} names gives (λ told. Answers o told (Some (upgrade u))) told told faults faults (Err stop)
-list_refused o {u} {told = told} {faults = faults} names stop h = record {
+pub list_refused : {B : Type 0} {list : List ℕ} {goes_on : Option Names → List AddressParts → Ending → Type 0} {gives : Option Names → B → Type 0} {told : ShelfTold}
+    {faults : ShelfFaults} (names : List (List ℕ)) (stop : Stop) → IfBadList list stop.name.now stop.cause
+    → Reads {A = B} names gives (λ told. WithList list (goes_on told)) told told faults faults (Err stop)
+list_refused {list = list} {goes_on = goes_on} {told = told} {faults = faults} names stop h = record {
   given = tt;
   stopped = why stop.name.now stop.cause h;
   opened = tt;
@@ -324,8 +326,8 @@ list_refused o {u} {told = told} {faults = faults} names stop h = record {
   later = record { opening = omega arith; reading = omega arith; writing = omega arith };
   writing = refl;
 } where
-  why : (name : List ℕ) (e : InputError) → IfBadList u.calendars name e
-      → StopsFor (Answers o told.names (Some (upgrade u))) (StopsAt names told.opened told.opened faults faults) name e
+  why : (name : List ℕ) (e : InputError) → IfBadList list name e
+      → StopsFor (WithList list (goes_on told.names)) (StopsAt names told.opened told.opened faults faults) name e
   why name (BadAddress place https) (bad, empty) = is_bad place https bad (ap (λ (z : List ℕ). refused z (status.BadAddress place https)) empty)
   why name OutOfMemory bad = tt
   why name NoFile bad = absurd bad
@@ -339,3 +341,34 @@ pub end_of_command : (happens : Outside → Type 0) {c d : Option Command} {old 
     → ComesToEnd (λ told. AnswersAs happens told d) (names_read d) old new before now r → ComesToEnd (λ told. AnswersAs happens told c) (names_read c) old new before now r
 end_of_command happens {c} {d} {old} {new} {before} {now} {r} is h =
     subst (λ (z : Option Command). ComesToEnd (λ told. AnswersAs happens told z) (names_read z) old new before now r) (sym is) h
+
+-- What was read is seen as something else, and so are refusals.
+pub reads_into : {A B : Type 0} {names : List (List ℕ)} {gives : Option Names → A → Type 0} {takes : Option Names → B → Type 0} {refuses declines : Option Names → Ending → Type 0}
+    {old new : ShelfTold} {before now : ShelfFaults} {x : A} {y : B} → (gives old.names x → takes old.names y)
+    → Reads names gives refuses old new before now (Ok x) → Reads names takes declines old new before now (Ok y)
+reads_into f h = record {
+  given = f h.given;
+  stopped = tt;
+  opened = h.opened;
+  front = h.front;
+  names = h.names;
+  slots = h.slots;
+  short = λ enough. h.short (λ ran. ran);
+  later = h.later;
+  writing = h.writing;
+}
+
+pub stop_into : {A B : Type 0} {names : List (List ℕ)} {gives : Option Names → A → Type 0} {takes : Option Names → B → Type 0} {refuses declines : Option Names → Ending → Type 0}
+    {old new : ShelfTold} {before now : ShelfFaults} {stop : Stop} → ((e : Ending) → refuses old.names e → declines old.names e)
+    → Reads {A = A} names gives refuses old new before now (Err stop) → Reads {A = B} names takes declines old new before now (Err stop)
+stop_into {names = names} {refuses = first} {declines = second} {old = old} {new = new} {before = before} {now = now} {stop = stop} f h = record {
+  given = tt;
+  stopped = stops_as (first old.names) (second old.names) (StopsAt names old.opened new.opened before now) (StopsAt names old.opened new.opened before now) stop.name.now stop.cause f (λ name at. at) h.stopped;
+  opened = tt;
+  front = h.front;
+  names = h.names;
+  slots = h.slots;
+  short = h.short;
+  later = h.later;
+  writing = h.writing;
+}

@@ -10,3 +10,10 @@ mod Taken
 mod Yes
 mod ReadsBack
 mod Asked
+mod Hashed
+mod Drawing
+mod Acts
+mod Counting
+mod OneStamp
+mod Submitted
+mod Completeness

@@ -6,6 +6,7 @@ use Rattle.ots_tree.specs.declared.detached.Detached.{Detached}
 use Rattle.ots_reader.specs.declared.fault.Fault.{Fault}
 use Rattle.ots_detached.specs.File.{IsFileOf}
 use Rattle.ots_ops.specs.declared.hash_op.HashOp.{HashOp}
+use Rattle.ots_ops.specs.declared.hash_op.HashOp.TheVariants as hash
 use Rattle.ots_bitcoin.specs.HeaderTable.{Table}
 use Rattle.ots_bitcoin.specs.TableRead.{IsTableOf}
 use Rattle.ots_bitcoin.proofs.TableBytes.{length_of_table, one_table_lem}
@@ -22,11 +23,12 @@ use Rattle.ots_canon.specs.Join.{IsMergeOf}
 use Rattle.ots_canon.proofs.Lawful.{one_form, one_join, one_prune}
 use Rattle.ots_cli.specs.Found.{HasUnder, IsHashOf, RefusesProof, too_big, bad_proof, RefusesTable, cut, too_many, RefusesTarget}
 use Rattle.ots_cli.specs.Text.{verdict_status, verdict_text}
-use Rattle.ots_words.specs.Words.{Command, HeaderFile, Verification, info, canon, merge, prune, verify, upgrade}
+use Rattle.ots_words.specs.Words.{Command, HeaderFile, Verification, info, canon, merge, prune, verify, stamp, upgrade}
 use Rattle.ots_cli.specs.Asking.{IsOffline, Outside, alone}
 use Rattle.ots_cli.specs.Answer.{Answers, AnswersAs, Comes, as_defined, not_read, PrintsInfo, UnlessFailed, PrintsVerdict, RefusesInput, no_file, refuses, WithInput, is_given, is_refused, WithProof, WithTable, WithPerhapsTable, WithTarget, VerifiesTarget, VerifiesProof, VerifiesBy, Verifies, Writes, too_long, is_made, WritesOf, Merges, differ, joined}
 use Rattle.ots_cli.specs.CarriedOut.{Ends, carried_out, no_memory, status_over}
 use Rattle.ots_cli.proofs.Outcome.{carried_status, only_prints, over_names}
+use Rattle.ots_cli.proofs.ReadsBack.{offline_plain}
 use Rattle.ots_info.specs.Listing.{file_line, item_line}
 use Rattle.ots_tree.proofs.Determined.{same_pre}
 use Rattle.ots_tree.specs.Listed.{listed}
@@ -128,6 +130,16 @@ target_refusal b s t f g = f.1 ∙ sym g.1
 target_or_not : (hash : HashOp) (b x : List ℕ) (s : Status) → IsHashOf hash b x → RefusesTarget b s → ⊥
 target_or_not hash b x s f g = let fits = f.0 in let long = g.0 in omega arith
 
+-- what is there is not refused
+pub not_a_proof : (names : Names) (name : List ℕ) (p : Detached) (e : Ending) → HasUnder (Some names) name (λ b. IsFileOf b p)
+    → RefusesInput (Some names) name RefusesProof e → ⊥
+not_a_proof names name p e has = not_refused names name IsFileOf RefusesProof (λ b x y f g. one_file b x y f g) proof_refusal proof_or_not has.0 p e has.1 has.2
+
+pub not_hashed : (names : Names) (name d : List ℕ) (e : Ending) → HasUnder (Some names) name (λ b. IsHashOf hash.Sha256 b d)
+    → RefusesInput (Some names) name RefusesTarget e → ⊥
+not_hashed names name d e has =
+    not_refused names name (IsHashOf hash.Sha256) RefusesTarget (λ b x y f g. f.1 ∙ sym g.1) target_refusal (target_or_not hash.Sha256) has.0 d e has.1 has.2
+
 pub given_target : (names : Names) (name : List ℕ) (hash : HashOp) (P : List ℕ → Ending → Type 0) (d : List ℕ) (e : Ending) → HasUnder (Some names) name (λ b. IsHashOf hash b d)
     → WithTarget (Some names) name hash P e → P d e
 given_target names name hash P d e has =
@@ -194,6 +206,7 @@ one_answer o q names (Some (merge first second to)) d e alone f g =
     (λ p. with_proof names second (Merges to p) d e (λ q. merges to p q d e)) f g
 one_answer o q names (Some (prune from to)) d e alone f g = rewrites names Prune from to d e f g
 one_answer o q names (Some (verify v)) d e alone f g = verifies names v d e f g
+one_answer o q names (Some (stamp s)) d e alone f g = absurd alone
 one_answer o q names (Some (upgrade u)) d e alone f g = absurd alone
 
 -- ---- the status that is answered
@@ -208,7 +221,7 @@ exact happens names old new command stops_at writing lost taken now r e h told o
       of_names (no_memory ran same kept) = subst (UnlessFailed (status_over names e.status e.acts)) (sym ran) tt
       of_names (carried_out d (as_defined (o, heard, a)) c) =
           subst (λ (z : Ending). UnlessFailed (status_over names z.status z.acts) r) (one_answer o alone names command d e offline a is)
-          (over_names writing lost d.status d.acts names new taken now r c)
+          (over_names writing lost d.status d.acts names new taken now r (offline_plain o (Some names) command d offline a) c)
       of_names (carried_out d (not_read name stops at) c) = elim (carried_status writing lost d.status d.acts (Some names) new taken now r c) [
         | inl may ↦ subst (UnlessFailed (status_over names e.status e.acts)) (sym (only_prints d r ReadFault _ at may)) tt
         | inr (inl fault) ↦ subst (UnlessFailed (status_over names e.status e.acts)) (sym fault) tt

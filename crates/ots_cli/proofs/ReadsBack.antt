@@ -1,5 +1,6 @@
 -- What is written reads back, and no other name changes.
-use Rattle.std.proofs.Common.{◌≡◌, ℕ, List, [], ◌∷◌, Option, Some, None, inl, inr, refl, sym, ap, subst, ◌∙◌}
+use Rattle.std.proofs.Common.{◌≡◌, ℕ, suc, List, [], ◌∷◌, Option, Some, None, inl, inr, refl, sym, ap, subst, ◌∙◌, ◌+◌, arith}
+use Rattle.std.specs.Prelude.{slice_get}
 use Rattle.std.specs.FinMap as map
 use Rattle.ots_outside.specs.Shelf.{Names}
 use Rattle.ots_ops.specs.declared.hash_op.HashOp.{HashOp}
@@ -7,17 +8,21 @@ use Rattle.ots_tree.specs.declared.detached.Detached.{Detached}
 use Rattle.ots_bitcoin.specs.HeaderTable.{Table}
 use Rattle.ots_detached.specs.File.{IsFileOf, file_of}
 use Rattle.ots_cli.specs.declared.status.Status.{Status}
-use Rattle.ots_cli.specs.declared.status.Status.TheVariants.{Done, No, Usage, BadProof, NoFile, Exists, ReadFault, WriteFault, TooBig, BadAddress, Differs, OutOfMemory}
+use Rattle.ots_cli.specs.declared.status.Status.TheVariants.{Done, No, Usage, BadProof, NoFile, Exists, ReadFault, WriteFault, TooBig, TooFew, NonceFault, FileTooLong, BadAddress, Differs, OutOfMemory}
 use Rattle.ots_cli.specs.Ending.{Ending, makes, printing, prints}
-use Rattle.ots_cli.specs.Asking.{Outside}
+use Rattle.ots_cli.specs.Asking.{IsOffline, Outside}
 use Rattle.ots_cli.specs.Text.{asked_text, complete_status, complete_text}
 use Rattle.ots_upgrade.specs.declared.asking.AskedAt.{AskedAt}
-use Rattle.ots_cli.specs.Answer.{Answers, AnswersAs, Comes, is_list, is_bad, WritesAsked, asked_too_long, asked_made, as_defined, not_read, PrintsVerdict, RefusesInput, no_file, refuses, is_given, is_refused, WithPerhapsTable, WithProof, WithTable, WithTarget, Writes, too_long, is_made, Merges, differ, joined, VerifiesBy, VerifiesProof, VerifiesTarget}
+use Rattle.ots_cli.specs.Answer.{Answers, AnswersAs, Comes, are_hashed, one_refused, is_list, is_bad, WritesAsked, asked_too_long, asked_made, as_defined, not_read, PrintsVerdict, RefusesInput, no_file, refuses, is_given, is_refused, WithPerhapsTable, WithProof, WithTable, WithTarget, Writes, too_long, is_made, Merges, differ, joined, VerifiesBy, VerifiesProof, VerifiesTarget}
 use Rattle.ots_cli.specs.CarriedOut.{CarriesOut, Ends, carried_out, no_memory}
-use Rattle.ots_cli.specs.Found.{RefusesProof, too_big, bad_proof}
-use Rattle.ots_cli.specs.ReadsBack.{IsDoneOrNo, IsOutput, IsOutputAsked, Leaves, ReadsBack}
-use Rattle.ots_words.specs.Words.{Command, HeaderFile, info, canon, merge, prune, verify, upgrade}
-use Rattle.ots_cli.proofs.Outcome.{MakesOnly, carried_leaves, carried_status, done_making, never}
+use Rattle.ots_cli.specs.Found.{RefusesProof, RefusesTarget, too_big, bad_proof}
+use Rattle.ots_cli.specs.Stamping.{Stamps, calendars_text, no_nonce, proof_name, stamp_acts, stamped, too_few}
+use Rattle.ots_tree.specs.declared.token.Token.{Token}
+use Rattle.ots_upgrade.specs.Stamped.{good_trees}
+use Rattle.ots_upgrade.specs.declared.target.Target.{Target}
+use Rattle.ots_cli.specs.ReadsBack.{IsDoneOrNo, IsOutput, IsOutputAsked, IsResultOf, Leaves, ReadsBack}
+use Rattle.ots_words.specs.Words.{Command, HeaderFile, info, canon, merge, prune, verify, stamp, upgrade}
+use Rattle.ots_cli.proofs.Outcome.{EndsWith, HasStamp, IsPlain, MakesOnly, carried_leaves, carried_status, done_making, get_inserted, is_plain, never, stamps_done}
 
 -- ---- an ending that was carried out with Done
 
@@ -26,7 +31,8 @@ module _ (writing lost : Type 0) (names : Names) (new : Option Names) (taken now
   not_done : (e : Ending) (t : Status) → e.status ≡ t → (t ≡ Done → ⊥) → (t ≡ No → ⊥) → CarriesOut writing lost e.status e.acts (Some names) new taken now r → ⊥
   not_done e t is other too h = elim (carried_status writing lost e.status e.acts (Some names) new taken now r h) [
     | inl (inl same) ↦ never r t (same ∙ is) other too done
-    | inl (inr (some, exists)) ↦ never r Exists exists (λ clash. cc) (λ clash. cc) done
+    | inl (inr (some, inl exists)) ↦ never r Exists exists (λ clash. cc) (λ clash. cc) done
+    | inl (inr (some, inr long)) ↦ never r TooBig long (λ clash. cc) (λ clash. cc) done
     | inr (inl fault) ↦ never r ReadFault fault (λ clash. cc) (λ clash. cc) done
     | inr (inr (inl fault)) ↦ never r WriteFault fault (λ clash. cc) (λ clash. cc) done
     | inr (inr (inr ran)) ↦ never r OutOfMemory ran (λ clash. cc) (λ clash. cc) done
@@ -43,6 +49,18 @@ module _ (writing lost : Type 0) (names : Names) (new : Option Names) (taken now
       not_text e s _ f (λ same. let clash : TooBig ≡ Done = sym is ∙ same in cc) (λ same. let clash : TooBig ≡ No = sym is ∙ same in cc) h
   not_refused name e (refuses s (b, at, bad_proof k fits has is) f) h =
       not_text e s _ f (λ same. let clash : BadProof k ≡ Done = sym is ∙ same in cc) (λ same. let clash : BadProof k ≡ No = sym is ∙ same in cc) h
+
+  not_hashed : (name : List ℕ) (e : Ending) → RefusesInput (Some names) name RefusesTarget e → CarriesOut writing lost e.status e.acts (Some names) new taken now r → ⊥
+  not_hashed name e (no_file none f) h = not_text e NoFile _ f (λ clash. cc) (λ clash. cc) h
+  not_hashed name e (refuses s (b, at, long) f) h =
+      not_text e s _ f (λ same. let clash : FileTooLong ≡ Done = sym long.1 ∙ same in cc) (λ same. let clash : FileTooLong ≡ No = sym long.1 ∙ same in cc) h
+
+  stamps_written : (targets : List Target) (trees : List (List Token)) (files : List (List ℕ)) (i : ℕ) (file text : List ℕ) → slice_get files i ≡ Some file
+      → CarriesOut writing lost Done (prints text ∷ stamp_acts targets trees 0 files) (Some names) new taken now r → HasStamp targets trees i file new
+  stamps_written targets trees files i file text at (inl (mid, whole, h)) =
+      let this : 0 + i ≡ i = omega arith in
+      subst (λ (z : ℕ). HasStamp targets trees z file new) this (stamps_done writing lost Done targets trees files 0 i file names new mid now r done at h)
+  stamps_written targets trees files i file text at (inr front) = absurd (never r WriteFault front.3 (λ clash. cc) (λ clash. cc) done)
 
   written : (to : List ℕ) (p : Detached) (e : Ending) → Writes to p e → CarriesOut writing lost e.status e.acts (Some names) new taken now r
       → (bytes : List ℕ) × (new ≡ Some (map.insert names to bytes)) × IsFileOf bytes p
@@ -68,8 +86,13 @@ module _ (writing lost : Type 0) (names : Names) (new : Option Names) (taken now
     behind_text first to bytes last s (inl (mid, whole, then)) = done_making writing lost s to bytes (prints last ∷ []) names new mid now r tt done then
     behind_text first to bytes last s (inr front) = absurd (never r WriteFault front.3 (λ clash. cc) (λ clash. cc) done)
 
-  under_output : (a b bytes : List ℕ) → a ≡ b → new ≡ Some (map.insert names a bytes) → new ≡ Some (map.insert names b bytes)
-  under_output a b bytes same h = subst (λ (z : List ℕ). new ≡ Some (map.insert names z bytes)) same h
+  under_output : (a b bytes : List ℕ) → a ≡ b → new ≡ Some (map.insert names a bytes) → EndsWith new b bytes
+  under_output a b bytes same h = subst (λ (z : List ℕ). EndsWith new z bytes) same (map.insert names a bytes, h, get_inserted names a bytes)
+
+  -- under an output is the file of the result
+  back : (happens : Outside → Type 0) (o : Outside) → happens o → (c : Command) (to bytes : List ℕ) (r : Detached) → EndsWith new to bytes → IsFileOf bytes r
+      → IsResultOf o names c to r → ReadsBack happens names c to new
+  back happens o heard c to bytes r ends file is = (o, heard, ends.0, ends.1, bytes, ends.2, r, file, is)
 
   result : (happens : Outside → Type 0) (o : Outside) → happens o → (c : Command) (to : List ℕ) (e : Ending) → IsOutput c to → Answers o (Some names) (Some c) e
       → CarriesOut writing lost e.status e.acts (Some names) new taken now r → ReadsBack happens names c to new
@@ -77,22 +100,45 @@ module _ (writing lost : Type 0) (names : Names) (new : Option Names) (taken now
   result happens o heard (verify v) to e out a h = absurd out
   result happens o heard (canon from w) to e out (is_refused a) h = absurd (not_refused from e a h)
   result happens o heard (canon from w) to e out (is_given p (b, at, is) (q, made, writes)) h =
-      let x = written w q e writes h in (o, heard, x.0, q, under_output w to x.0 out x.1, x.2, (b, at, (p, is, made)))
+      let x = written w q e writes h in back happens o heard (canon from w) to x.0 q (under_output w to x.0 out x.1) x.2 (b, at, (p, is, made))
   result happens o heard (prune from w) to e out (is_refused a) h = absurd (not_refused from e a h)
   result happens o heard (prune from w) to e out (is_given p (b, at, is) (q, made, writes)) h =
-      let x = written w q e writes h in (o, heard, x.0, q, under_output w to x.0 out x.1, x.2, (b, at, (p, is, made)))
+      let x = written w q e writes h in back happens o heard (prune from w) to x.0 q (under_output w to x.0 out x.1) x.2 (b, at, (p, is, made))
   result happens o heard (merge first second w) to e out (is_refused a) h = absurd (not_refused first e a h)
   result happens o heard (merge first second w) to e out (is_given p (b, at, is) (is_refused a)) h = absurd (not_refused second e a h)
   result happens o heard (merge first second w) to e out (is_given p (b, at, is) (is_given q (d, too, are) (differ other f))) h =
       absurd (not_text e (Differs p.hash p.digest q.hash q.digest) _ f (λ clash. cc) (λ clash. cc) h)
   result happens o heard (merge first second w) to e out (is_given p (b, at, is) (is_given q (d, too, are) (joined m made writes))) h =
-      let x = written w m e writes h in (o, heard, x.0, m, under_output w to x.0 out x.1, x.2, (b, at, (p, is, (d, too, (q, are, made)))))
+      let x = written w m e writes h in back happens o heard (merge first second w) to x.0 m (under_output w to x.0 out x.1) x.2 (b, at, (p, is, (d, too, (q, are, made))))
   result happens o heard (upgrade u) to e out (is_bad place https bad f) h =
       absurd (not_text e (BadAddress place https) _ f (λ clash. cc) (λ clash. cc) h)
   result happens o heard (upgrade u) to e out (is_list calendars is (is_refused a)) h = absurd (not_refused u.proof e a h)
   result happens o heard (upgrade u) to e out (is_list calendars is (is_given p (b, at, file) (asked, m, made, writes))) h =
       let x = written_asked asked u.to m e writes h in
-      (o, heard, x.0, m, under_output u.to to x.0 out x.1, x.2, (b, at, (p, file, calendars, is, asked, made)))
+      back happens o heard (upgrade u) to x.0 m (under_output u.to to x.0 out x.1) x.2 (b, at, (p, file, calendars, is, asked, made))
+  result happens o heard (stamp w) to e out (is_bad place https bad f) h =
+      absurd (not_text e (BadAddress place https) _ f (λ clash. cc) (λ clash. cc) h)
+  result happens o heard (stamp w) to e out (is_list calendars is (one_refused a)) h = absurd (not_hashed a.name e a.refused h)
+  result happens o heard (stamp w) to e out (is_list calendars is (are_hashed digests hashed (no_nonce failed none f))) h =
+      absurd (not_text e NonceFault _ f (λ clash. cc) (λ clash. cc) h)
+  result happens o heard (stamp w) to e out (is_list calendars is (are_hashed digests hashed (too_few targets asked few f))) h =
+      absurd (not_done e (TooFew _ w.least) (ap (λ (z : Ending). z.status) f) (λ clash. cc) (λ clash. cc) h)
+  result happens o heard (stamp w) to e (i, file, at, named) (is_list calendars is (are_hashed digests hashed (stamped targets asked enough f))) h =
+      let x = stamps_written targets (good_trees o.outcomes) w.files i file (calendars_text calendars o.outcomes) at (subst (λ (z : Ending). CarriesOut writing lost z.status z.acts (Some names) new taken now r) f h) in
+      back happens o heard (stamp w) to (file_of x.0) x.0 (subst (λ (z : List ℕ). EndsWith new z (file_of x.0)) named x.3) x.2 (record {
+        calendars = calendars;
+        is_list = is;
+        digests = digests;
+        hashed = hashed;
+        targets = targets;
+        asked = asked;
+        enough = enough;
+        i = i;
+        file = file;
+        is_file = at;
+        is_name = named;
+        is_stamp = x.1;
+      })
 
 pub reads_back : (happens : Outside → Type 0) (names : Names) (c : Command) (to : List ℕ) → IsOutput c to → (old new : Option Names) (command : Option Command)
     (stops_at : List ℕ → Type 0) (writing lost : Type 0) (taken now : Option (List ℕ)) (r : Status) → old ≡ Some names → command ≡ Some c → IsDoneOrNo r
@@ -107,62 +153,103 @@ reads_back happens names c to out old new command stops_at writing lost taken no
 
 -- ---- which names are made
 
-module _ (out : List ℕ → Type 0) where
-  only_text : (e : Ending) (t : Status) (text : List ℕ) → e ≡ printing t text → MakesOnly out e.acts
-  only_text e t text is = subst (λ (z : Ending). MakesOnly out z.acts) (sym is) tt
+module _ (out stamps : List ℕ → Type 0) where
+  only_text : (e : Ending) (t : Status) (text : List ℕ) → e ≡ printing t text → MakesOnly out stamps e.acts
+  only_text e t text is = subst (λ (z : Ending). MakesOnly out stamps z.acts) (sym is) tt
 
-  only_refused : {told : Option Names} {name : List ℕ} {Refuses : List ℕ → Status → Type 0} (e : Ending) → RefusesInput told name Refuses e → MakesOnly out e.acts
+  only_refused : {told : Option Names} {name : List ℕ} {Refuses : List ℕ → Status → Type 0} (e : Ending) → RefusesInput told name Refuses e → MakesOnly out stamps e.acts
   only_refused e (no_file none f) = only_text e NoFile _ f
   only_refused e (refuses s has f) = only_text e s _ f
 
-  only_written : (to : List ℕ) (p : Detached) (e : Ending) → out to → Writes to p e → MakesOnly out e.acts
+  only_written : (to : List ℕ) (p : Detached) (e : Ending) → out to → Writes to p e → MakesOnly out stamps e.acts
   only_written to p e is (too_long long f) = only_text e TooBig _ f
-  only_written to p e is (is_made file f) = subst (λ (z : Ending). MakesOnly out z.acts) (sym f) (is, tt)
+  only_written to p e is (is_made file f) = subst (λ (z : Ending). MakesOnly out stamps z.acts) (sym f) (is, tt)
 
-  only_asked : (asked : List AskedAt) (to : List ℕ) (p : Detached) (e : Ending) → out to → WritesAsked asked to p e → MakesOnly out e.acts
-  only_asked asked to p e is (asked_too_long long f) = subst (λ (z : Ending). MakesOnly out z.acts) (sym f) tt
-  only_asked asked to p e is (asked_made complete bitcoin file f) = subst (λ (z : Ending). MakesOnly out z.acts) (sym f) (is, tt)
+  only_asked : (asked : List AskedAt) (to : List ℕ) (p : Detached) (e : Ending) → out to → WritesAsked asked to p e → MakesOnly out stamps e.acts
+  only_asked asked to p e is (asked_too_long long f) = subst (λ (z : Ending). MakesOnly out stamps z.acts) (sym f) tt
+  only_asked asked to p e is (asked_made complete bitcoin file f) = subst (λ (z : Ending). MakesOnly out stamps z.acts) (sym f) (is, tt)
 
-  only_merged : (to : List ℕ) (p q : Detached) (e : Ending) → out to → Merges to p q e → MakesOnly out e.acts
+  only_merged : (to : List ℕ) (p q : Detached) (e : Ending) → out to → Merges to p q e → MakesOnly out stamps e.acts
   only_merged to p q e is (differ other f) = only_text e (Differs p.hash p.digest q.hash q.digest) _ f
   only_merged to p q e is (joined m made writes) = only_written to m e is writes
 
-  only_proof : (told : Option Names) (name : List ℕ) (P : Detached → Ending → Type 0) (e : Ending) → ((p : Detached) → P p e → MakesOnly out e.acts)
-      → WithProof told name P e → MakesOnly out e.acts
+  only_proof : (told : Option Names) (name : List ℕ) (P : Detached → Ending → Type 0) (e : Ending) → ((p : Detached) → P p e → MakesOnly out stamps e.acts)
+      → WithProof told name P e → MakesOnly out stamps e.acts
   only_proof told name P e f (is_given p has h) = f p h
   only_proof told name P e f (is_refused a) = only_refused e a
 
-  only_table : (told : Option Names) (file : HeaderFile) (P : Table → Ending → Type 0) (e : Ending) → ((t : Table) → P t e → MakesOnly out e.acts)
-      → WithTable told file P e → MakesOnly out e.acts
+  only_table : (told : Option Names) (file : HeaderFile) (P : Table → Ending → Type 0) (e : Ending) → ((t : Table) → P t e → MakesOnly out stamps e.acts)
+      → WithTable told file P e → MakesOnly out stamps e.acts
   only_table told file P e f (is_given t has h) = f t h
   only_table told file P e f (is_refused a) = only_refused e a
 
-  only_perhaps : (told : Option Names) (file : Option HeaderFile) (P : Option Table → Ending → Type 0) (e : Ending) → ((t : Option Table) → P t e → MakesOnly out e.acts)
-      → WithPerhapsTable told file P e → MakesOnly out e.acts
+  only_perhaps : (told : Option Names) (file : Option HeaderFile) (P : Option Table → Ending → Type 0) (e : Ending) → ((t : Option Table) → P t e → MakesOnly out stamps e.acts)
+      → WithPerhapsTable told file P e → MakesOnly out stamps e.acts
   only_perhaps told None P e f h = f None h
   only_perhaps told (Some file) P e f h = only_table told file (λ t. P (Some t)) e (λ t. f (Some t)) h
 
   only_target : (told : Option Names) (name : List ℕ) (hash : HashOp) (p : Detached) (b : Table) (l : Option Table) (e : Ending)
-      → WithTarget told name hash (PrintsVerdict p b l) e → MakesOnly out e.acts
+      → WithTarget told name hash (PrintsVerdict p b l) e → MakesOnly out stamps e.acts
   only_target told name hash p b l e (is_given d has h) = only_text e _ _ h.2
   only_target told name hash p b l e (is_refused a) = only_refused e a
 
-makes_only : (o : Outside) (told : Option Names) (c : Option Command) (e : Ending) → Answers o told c e → MakesOnly (IsOutputAsked c) e.acts
-makes_only o told None e a = only_text (IsOutputAsked None) e Usage _ a
-makes_only o told (Some (info name)) e a =
-    only_proof (IsOutputAsked (Some (info name))) told name _ e (λ p printed. only_text (IsOutputAsked (Some (info name))) e Done _ printed.2) a
-makes_only o told (Some (canon from to)) e a = only_proof (λ name. to ≡ name) told from _ e (λ p made. only_written (λ name. to ≡ name) to made.0 e refl made.2) a
+-- the names under which proofs of stamped files are made
+abbrev IsStampAsked : Option Command → List ℕ → Type 0
+IsStampAsked None name = ⊥
+IsStampAsked (Some (info proof)) name = ⊥
+IsStampAsked (Some (canon from to)) name = ⊥
+IsStampAsked (Some (merge first second to)) name = ⊥
+IsStampAsked (Some (prune from to)) name = ⊥
+IsStampAsked (Some (verify v)) name = ⊥
+IsStampAsked (Some (stamp s)) name = IsOutput (stamp s) name
+IsStampAsked (Some (upgrade u)) name = ⊥
+
+none_stamped : (c : Option Command) → IsOffline c → (name : List ℕ) → IsStampAsked c name → ⊥
+none_stamped None offline name h = h
+none_stamped (Some (info proof)) offline name h = h
+none_stamped (Some (canon from to)) offline name h = h
+none_stamped (Some (merge first second to)) offline name h = h
+none_stamped (Some (prune from to)) offline name h = h
+none_stamped (Some (verify v)) offline name h = h
+none_stamped (Some (stamp s)) offline name h = offline
+none_stamped (Some (upgrade u)) offline name h = h
+
+-- the proofs of the files from the i-th on
+only_stamps : (P : List ℕ → Type 0) (targets : List Target) (trees : List (List Token)) (i : ℕ) (files : List (List ℕ))
+    → ((j : ℕ) (file : List ℕ) → slice_get files j ≡ Some file → P (proof_name file)) → MakesOnly P P (stamp_acts targets trees i files)
+only_stamps P targets trees i [] each = tt
+only_stamps P targets trees i (file ∷ files) each =
+    (each 0 file refl, each 0 file refl, only_stamps P targets trees (suc i) files (λ j f at. each (suc j) f at))
+
+abbrev none : List ℕ → Type 0
+none name = ⊥
+
+makes_only : (o : Outside) (told : Option Names) (c : Option Command) (e : Ending) → Answers o told c e → MakesOnly (IsOutputAsked c) (IsStampAsked c) e.acts
+makes_only o told None e a = only_text none none e Usage _ a
+makes_only o told (Some (info name)) e a = only_proof none none told name _ e (λ p printed. only_text none none e Done _ printed.2) a
+makes_only o told (Some (canon from to)) e a = only_proof (λ name. to ≡ name) none told from _ e (λ p made. only_written (λ name. to ≡ name) none to made.0 e refl made.2) a
 makes_only o told (Some (merge first second to)) e a =
-    only_proof (λ name. to ≡ name) told first _ e (λ p. only_proof (λ name. to ≡ name) told second _ e (λ q. only_merged (λ name. to ≡ name) to p q e refl)) a
-makes_only o told (Some (prune from to)) e a = only_proof (λ name. to ≡ name) told from _ e (λ p made. only_written (λ name. to ≡ name) to made.0 e refl made.2) a
+    only_proof (λ name. to ≡ name) none told first _ e (λ p. only_proof (λ name. to ≡ name) none told second _ e (λ q. only_merged (λ name. to ≡ name) none to p q e refl)) a
+makes_only o told (Some (prune from to)) e a = only_proof (λ name. to ≡ name) none told from _ e (λ p made. only_written (λ name. to ≡ name) none to made.0 e refl made.2) a
 makes_only o told (Some (verify v)) e a =
-    let none : List ℕ → Type 0 = λ name. ⊥ in
-    only_table none told v.bitcoin (VerifiesBy told v) e
-    (λ b. only_perhaps none told v.litecoin (VerifiesProof told v b) e
-    (λ l. only_proof none told v.proof (VerifiesTarget told v.target b l) e (λ p. only_target none told v.target p.hash p b l e))) a
-makes_only o told (Some (upgrade u)) e (is_bad place https bad f) = only_text (IsOutputAsked (Some (upgrade u))) e (BadAddress place https) _ f
+    only_table none none told v.bitcoin (VerifiesBy told v) e
+    (λ b. only_perhaps none none told v.litecoin (VerifiesProof told v b) e
+    (λ l. only_proof none none told v.proof (VerifiesTarget told v.target b l) e (λ p. only_target none none told v.target p.hash p b l e))) a
+makes_only o told (Some (upgrade u)) e (is_bad place https bad f) = only_text (λ name. u.to ≡ name) none e (BadAddress place https) _ f
 makes_only o told (Some (upgrade u)) e (is_list calendars is a) =
-    only_proof (λ name. u.to ≡ name) told u.proof _ e (λ p made. only_asked (λ name. u.to ≡ name) made.0 u.to made.1 e refl made.3) a
+    only_proof (λ name. u.to ≡ name) none told u.proof _ e (λ p made. only_asked (λ name. u.to ≡ name) none made.0 u.to made.1 e refl made.3) a
+makes_only o told (Some (stamp s)) e (is_bad place https bad f) = only_text (IsOutput (stamp s)) (IsOutput (stamp s)) e (BadAddress place https) _ f
+makes_only o told (Some (stamp s)) e (is_list calendars is (one_refused h)) = only_refused (IsOutput (stamp s)) (IsOutput (stamp s)) e h.refused
+makes_only o told (Some (stamp s)) e (is_list calendars is (are_hashed digests hashed h)) = of_stamps h
+  where
+    of_stamps : Stamps o s.least s.files calendars digests e → MakesOnly (IsOutput (stamp s)) (IsOutput (stamp s)) e.acts
+    of_stamps (no_nonce failed nobody f) = only_text (IsOutput (stamp s)) (IsOutput (stamp s)) e NonceFault _ f
+    of_stamps (too_few targets asked few f) = subst (λ (z : Ending). MakesOnly (IsOutput (stamp s)) (IsOutput (stamp s)) z.acts) (sym f) tt
+    of_stamps (stamped targets asked enough f) = subst (λ (z : Ending). MakesOnly (IsOutput (stamp s)) (IsOutput (stamp s)) z.acts) (sym f)
+        (only_stamps (IsOutput (stamp s)) targets (good_trees o.outcomes) 0 s.files (λ j file at. (j, file, at, refl)))
+
+pub offline_plain : (o : Outside) (told : Option Names) (c : Option Command) (e : Ending) → IsOffline c → Answers o told c e → IsPlain e.acts
+offline_plain o told c e offline a = is_plain (IsOutputAsked c) (IsStampAsked c) (none_stamped c offline) e.acts (makes_only o told c e a)
 
 pub leaves_others : (happens : Outside → Type 0) (names : Names) (old new : Option Names) (command : Option Command) (stops_at : List ℕ → Type 0) (writing lost : Type 0)
     (taken now : Option (List ℕ)) (r : Status) → old ≡ Some names → Ends (Comes (AnswersAs happens old command) stops_at) writing lost old new taken now r
@@ -172,6 +259,6 @@ leaves_others happens names old new command stops_at writing lost taken now r to
       here : Ends (Comes (AnswersAs happens (Some names) command) stops_at) writing lost (Some names) new taken now r → Leaves names (IsOutputAsked command) new
       here (no_memory ran same kept) = (names, same, λ name other. refl)
       here (carried_out e (as_defined (o, heard, a)) k) =
-          carried_leaves writing lost e.status e.acts names (IsOutputAsked command) new taken now r (makes_only o (Some names) command e a) k
+          carried_leaves writing lost e.status e.acts names (IsOutputAsked command) (IsStampAsked command) new taken now r (makes_only o (Some names) command e a) k
       here (carried_out e (not_read name stops is) k) =
-          carried_leaves writing lost e.status e.acts names (IsOutputAsked command) new taken now r (only_text (IsOutputAsked command) e ReadFault _ is) k
+          carried_leaves writing lost e.status e.acts names (IsOutputAsked command) none new taken now r (only_text (IsOutputAsked command) none e ReadFault _ is) k

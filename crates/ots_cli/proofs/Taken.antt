@@ -1,5 +1,5 @@
 -- What a status says of the proofs that a command reads.
-use Rattle.std.proofs.Common.{◌≡◌, ℕ, true, false, List, [], ◌∷◌, Option, Some, None, inl, inr, sym, ap, subst, ◌∙◌}
+use Rattle.std.proofs.Common.{◌≡◌, ◌⊎◌, ℕ, true, false, List, [], ◌∷◌, Option, Some, None, inl, inr, sym, ap, subst, ◌∙◌}
 use Rattle.ots_outside.specs.Shelf.{Names}
 use Rattle.ots_ops.specs.declared.hash_op.HashOp.{HashOp}
 use Rattle.ots_tree.specs.declared.detached.Detached.{Detached}
@@ -7,17 +7,19 @@ use Rattle.ots_bitcoin.specs.HeaderTable.{Table}
 use Rattle.ots_eval.specs.declared.verdicts.Verdict.{Verdict}
 use Rattle.ots_eval.specs.declared.verdicts.Verdict.TheVariants.{Yes, NoDigest, NoPath}
 use Rattle.ots_cli.specs.declared.status.Status.{Status}
-use Rattle.ots_cli.specs.declared.status.Status.TheVariants.{Done, No, Usage, BadProof, NoFile, Exists, ReadFault, WriteFault, TooBig, BadHeaders, FileTooLong, BadAddress, Differs, OutOfMemory}
+use Rattle.ots_cli.specs.declared.status.Status.TheVariants.{Done, No, Usage, BadProof, NoFile, Exists, ReadFault, WriteFault, TooBig, BadHeaders, TooFew, NonceFault, FileTooLong, BadAddress, Differs, OutOfMemory}
 use Rattle.ots_cli.specs.Ending.{Ending, makes, printing}
-use Rattle.ots_cli.specs.Answer.{Answers, AnswersAs, Comes, is_list, is_bad, WritesAsked, asked_too_long, asked_made, no_file, refuses, is_given, is_refused, PrintsInfo, WithProof, WithTable, WithPerhapsTable, WithTarget, PrintsVerdict, Writes, too_long, is_made, Merges, differ, joined, VerifiesProof, VerifiesTarget, VerifiesBy}
+use Rattle.ots_cli.specs.Answer.{Answers, AnswersAs, Comes, RefusesInput, WithHashes, are_hashed, one_refused, is_list, is_bad, WritesAsked, asked_too_long, asked_made, no_file, refuses, is_given, is_refused, PrintsInfo, WithProof, WithTable, WithPerhapsTable, WithTarget, PrintsVerdict, Writes, too_long, is_made, Merges, differ, joined, VerifiesProof, VerifiesTarget, VerifiesBy}
 use Rattle.ots_cli.specs.Asking.{Outside}
+use Rattle.ots_address.specs.Address.{AddressParts}
+use Rattle.ots_cli.specs.Stamping.{Stamps, no_nonce, stamped, too_few}
 use Rattle.ots_upgrade.specs.declared.asking.AskedAt.{AskedAt}
 use Rattle.ots_cli.specs.CarriedOut.{Ends}
 use Rattle.ots_cli.proofs.Outcome.{Failed, MayEnd, only_prints, outcome}
-use Rattle.ots_cli.specs.Found.{too_big, bad_proof, cut, too_many}
+use Rattle.ots_cli.specs.Found.{RefusesTarget, too_big, bad_proof, cut, too_many}
 use Rattle.ots_cli.specs.Taken.{IsProof, TakesProofs, proofs_read}
 use Rattle.ots_cli.specs.Text.{verdict_status}
-use Rattle.ots_words.specs.Words.{Command, HeaderFile, info, canon, merge, prune, verify, upgrade}
+use Rattle.ots_words.specs.Words.{Command, HeaderFile, info, canon, merge, prune, verify, stamp, upgrade, Stamping}
 
 -- the status of an ending is this one, of which it is said
 of_status : (names : Names) (proofs : List (List ℕ)) (s t : Status) → s ≡ t → TakesProofs names proofs t → TakesProofs names proofs s
@@ -35,6 +37,8 @@ one_more names name rest ReadFault is h = tt
 one_more names name rest WriteFault is h = tt
 one_more names name rest TooBig is h = inr (is, h)
 one_more names name rest (BadHeaders n) is h = tt
+one_more names name rest (TooFew got wanted) is h = tt
+one_more names name rest NonceFault is h = tt
 one_more names name rest FileTooLong is h = (is, h)
 one_more names name rest (BadAddress place https) is h = tt
 one_more names name rest (Differs h d k e) is g = (is, g)
@@ -57,9 +61,13 @@ module _ (names : Names) (e : Ending) (s : Status) (may : MayEnd e s) where
       of_text (name ∷ rest) t _ f (of_status names (name ∷ rest) t (BadProof k) is (inl (b, at, (fits, has))))
 
   -- what comes behind the proofs
+  of_not_made : (s ≡ Exists) ⊎ (s ≡ TooBig) → TakesProofs names [] s
+  of_not_made (inl exists) = of_status names [] s Exists exists tt
+  of_not_made (inr long) = of_status names [] s TooBig long tt
+
   made : (name bytes : List ℕ) → e ≡ record { status = Done; acts = makes name bytes ∷ [] } → MayEnd e s → TakesProofs names [] s
   made name bytes f (inl same) = of_status names [] s Done (same ∙ ap (λ (z : Ending). z.status) f) tt
-  made name bytes f (inr (some, exists)) = of_status names [] s Exists exists tt
+  made name bytes f (inr not_made) = of_not_made not_made.1
 
   of_writing : (name : List ℕ) (r : Detached) → Writes name r e → TakesProofs names [] s
   of_writing name r (too_long long f) = of_text [] TooBig _ f tt
@@ -97,7 +105,7 @@ module _ (names : Names) (e : Ending) (s : Status) (may : MayEnd e s) where
   of_acts : (t : Status) → e.status ≡ t → TakesProofs names [] t → TakesProofs names [] s
   of_acts t is h = elim may [
     | inl same ↦ of_status names [] s t (same ∙ is) h
-    | inr (some, exists) ↦ of_status names [] s Exists exists tt
+    | inr not_made ↦ of_not_made not_made.1
   ]
 
   of_asked : (asked : List AskedAt) (to : List ℕ) (r : Detached) → WritesAsked asked to r e → TakesProofs names [] s
@@ -105,11 +113,27 @@ module _ (names : Names) (e : Ending) (s : Status) (may : MayEnd e s) where
   of_asked asked to r (asked_made true is file f) = of_acts Done (ap (λ (z : Ending). z.status) f) tt
   of_asked asked to r (asked_made false is file f) = of_acts No (ap (λ (z : Ending). z.status) f) tt
 
+  of_stamps : (o : Outside) (least : ℕ) (files : List (List ℕ)) (calendars : List AddressParts) (digests : List (List ℕ)) → Stamps o least files calendars digests e
+      → TakesProofs names [] s
+  of_stamps o least files calendars digests (no_nonce failed none f) = of_text [] NonceFault _ f tt
+  of_stamps o least files calendars digests (too_few targets asked few f) = of_acts (TooFew _ least) (ap (λ (z : Ending). z.status) f) tt
+  of_stamps o least files calendars digests (stamped targets asked enough f) = of_acts Done (ap (λ (z : Ending). z.status) f) tt
+
+  of_hashes : (o : Outside) (w : Stamping) (calendars : List AddressParts) → WithHashes (Some names) w.files (Stamps o w.least w.files calendars) e → TakesProofs names [] s
+  of_hashes o w calendars (are_hashed digests are h) = of_stamps o w.least w.files calendars digests h
+  of_hashes o w calendars (one_refused h) = of_one h.refused
+    where
+      of_one : {name : List ℕ} → RefusesInput (Some names) name RefusesTarget e → TakesProofs names [] s
+      of_one (no_file none f) = of_text [] NoFile _ f tt
+      of_one (refuses t has f) = of_text [] t _ f (of_status names [] t FileTooLong has.2.1 tt)
+
   takes : (o : Outside) (c : Command) → Answers o (Some names) (Some c) e → TakesProofs names (proofs_read c) s
   takes o (info name) h = of_proof name [] PrintsInfo (λ p printed. of_text [] Done _ printed.2 tt) h
   takes o (canon from to) h = of_proof from [] _ (λ p result. of_writing to result.0 result.2) h
   takes o (merge first second to) h = of_proof first (second ∷ []) _ (λ p. of_proof second [] _ (λ q. of_merging to p q)) h
   takes o (prune from to) h = of_proof from [] _ (λ p result. of_writing to result.0 result.2) h
+  takes o (stamp w) (is_list calendars is h) = of_hashes o w calendars h
+  takes o (stamp w) (is_bad place https is f) = of_text [] (BadAddress place https) _ f tt
   takes o (upgrade u) (is_list calendars is h) = of_proof u.proof [] _ (λ p completes. of_asked completes.0 u.to completes.1 completes.3) h
   takes o (upgrade u) (is_bad place https is f) = of_text (u.proof ∷ []) (BadAddress place https) _ f tt
   takes o (verify v) h =

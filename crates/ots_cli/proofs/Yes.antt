@@ -9,7 +9,7 @@ use Rattle.ots_eval.specs.declared.verdicts.Chain.TheVariants as chain
 use Rattle.ots_eval.specs.declared.verdicts.Verdict.{Verdict}
 use Rattle.ots_eval.specs.declared.verdicts.Verdict.TheVariants.{Yes, NoDigest, NoPath}
 use Rattle.ots_cli.specs.declared.status.Status.{Status}
-use Rattle.ots_cli.specs.declared.status.Status.TheVariants.{Done, No, Usage, BadProof, NoFile, Exists, ReadFault, WriteFault, TooBig, BadHeaders, FileTooLong, BadAddress, Differs, OutOfMemory}
+use Rattle.ots_cli.specs.declared.status.Status.TheVariants.{Done, No, Usage, BadProof, NoFile, Exists, ReadFault, WriteFault, TooBig, BadHeaders, TooFew, NonceFault, FileTooLong, BadAddress, Differs, OutOfMemory}
 use Rattle.ots_cli.specs.Ending.{Ending}
 use Rattle.ots_cli.specs.Asking.{Outside}
 use Rattle.ots_cli.specs.Answer.{Answers, AnswersAs, Comes, HasPerhapsTable, PrintsVerdict, Verifies, VerifiesBy, VerifiesProof, VerifiesTarget, WithPerhapsTable}
@@ -64,6 +64,8 @@ exactly says (BadProof f) to from = λ h. absurd (let clash = from h in cc)
 exactly says NoFile to from = λ h. absurd (let clash = from h in cc)
 exactly says Exists to from = λ h. absurd (let clash = from h in cc)
 exactly says TooBig to from = λ h. absurd (let clash = from h in cc)
+exactly says (TooFew got wanted) to from = λ h. absurd (let clash = from h in cc)
+exactly says NonceFault to from = λ h. absurd (let clash = from h in cc)
 exactly says (BadHeaders n) to from = λ h. absurd (let clash = from h in cc)
 exactly says (BadAddress place https) to from = λ h. absurd (let clash = from h in cc)
 exactly says FileTooLong to from = λ h. absurd (let clash = from h in cc)

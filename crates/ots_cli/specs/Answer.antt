@@ -1,5 +1,5 @@
 -- What a command answers: how it ends, by what is under the names that it reads.
-use Rattle.std.specs.Prelude.{◌≡◌, ◌<◌, ◌↔◌, ℕ, Bool, IsTrue, List, [], ◌∷◌, length, Option, Some, None}
+use Rattle.std.specs.Prelude.{◌≡◌, ◌<◌, ◌↔◌, ℕ, Bool, IsTrue, List, [], ◌∷◌, ◌++◌, length, Option, Some, None}
 use Rattle.ots_address.specs.Address.{AddressParts}
 use Rattle.ots_address.specs.AddressList.{IsBadAddress, IsListOf}
 use Rattle.ots_pending.specs.Bitcoin.{HasBitcoin}
@@ -24,13 +24,15 @@ use Rattle.ots_cli.specs.declared.status.Status.{Status}
 use Rattle.ots_cli.specs.declared.status.Status.TheVariants.{Done, Usage, NoFile, ReadFault, WriteFault, TooBig, BadAddress, Differs, OutOfMemory}
 use Rattle.ots_cli.specs.Ending.{Ending, makes, printing, prints, refused}
 use Rattle.ots_cli.specs.Refusal.{refusal_text}
-use Rattle.ots_cli.specs.Found.{IsUnder, HasUnder, IsHashOf, RefusesProof, RefusesTable, RefusesTarget}
+use Rattle.ots_cli.specs.Found.{AreHashed, IsUnder, HasUnder, IsHashOf, RefusesProof, RefusesTable, RefusesTarget}
 use Rattle.ots_info.specs.Listing.{IsInfoText}
 use Rattle.ots_cli.specs.Text.{verdict_status, verdict_text}
 use Rattle.ots_canon.specs.Join.{HaveOnePair, IsMergeOf}
 use Rattle.ots_cli.specs.Rewritten.{IsRewritten}
 use Rattle.ots_cli.specs.declared.rewriting.Rewriting.TheVariants.{Canon, Prune}
-use Rattle.ots_words.specs.Words.{Command, HeaderFile, Upgrading, Verification, info, canon, merge, prune, verify, upgrade}
+use Rattle.ots_cli.specs.Stamping.{Stamps}
+use Rattle.ots_cli.specs.declared.inputs.Submission.{Submission}
+use Rattle.ots_words.specs.Words.{Command, HeaderFile, Stamping, Upgrading, Verification, info, canon, merge, prune, verify, stamp, upgrade, texts}
 
 -- ---- where nothing of the outside fails
 
@@ -54,6 +56,16 @@ WithTable told file = WithInput told file.name (IsTableOf file.first) RefusesTab
 
 abbrev pub WithTarget : Option Names → List ℕ → HashOp → (List ℕ → Ending → Type 0) → Ending → Type 0
 WithTarget told name hash = WithInput told name (IsHashOf hash) RefusesTarget
+
+-- One of these names is the first that gives no digest.
+pub record RefusesOne (told : Option Names) (names : List (List ℕ)) (e : Ending) : Type 0 where
+  pub earlier : List (List ℕ)
+  pub name : List ℕ
+  pub later : List (List ℕ)
+  pub split : names ≡ earlier ++ name ∷ later
+  pub digests : List (List ℕ)
+  pub hashed : AreHashed told earlier digests
+  pub refused : RefusesInput told name RefusesTarget e
 
 -- the headers that may be given
 abbrev pub WithPerhapsTable : Option Names → Option HeaderFile → (Option Table → Ending → Type 0) → Ending → Type 0
@@ -143,6 +155,15 @@ Completes o calendars p to e = (asked : List AskedAt) × (r : Detached) × IsUpg
 abbrev pub Upgrades : Outside → Option Names → Upgrading → Ending → Type 0
 Upgrades o told u e = WithList u.calendars (λ calendars. WithProof told u.proof (λ p. Completes o calendars p u.to)) e
 
+-- Files are hashed in order, and the command goes on with their digests; or it ends at the first that is refused.
+pub data WithHashes (told : Option Names) (names : List (List ℕ)) (goes_on : List (List ℕ) → Ending → Type 0) (e : Ending) : Type 0 where
+  are_hashed : (digests : List (List ℕ)) → AreHashed told names digests → goes_on digests e → WithHashes told names goes_on e
+  one_refused : RefusesOne told names e → WithHashes told names goes_on e
+
+-- The list of calendars is read, and then the files are hashed.
+abbrev pub StampsFiles : Outside → Option Names → Stamping → Ending → Type 0
+StampsFiles o told s e = WithList s.calendars (λ calendars. WithHashes told s.files (Stamps o s.least s.files calendars)) e
+
 -- Words of no command's form are refused. What an ending rests on besides the names is what happens outside.
 abbrev pub Answers : Outside → Option Names → Option Command → Ending → Type 0
 Answers o told None e = e ≡ refused [] Usage
@@ -151,6 +172,7 @@ Answers o told (Some (canon from to)) e = WithProof told from (λ p. WritesOf to
 Answers o told (Some (merge first second to)) e = WithProof told first (λ p. WithProof told second (Merges to p)) e
 Answers o told (Some (prune from to)) e = WithProof told from (λ p. WritesOf to (IsRewritten Prune p)) e
 Answers o told (Some (verify v)) e = Verifies told v e
+Answers o told (Some (stamp s)) e = StampsFiles o told s e
 Answers o told (Some (upgrade u)) e = Upgrades o told u e
 
 -- The same, where it happened so outside.
@@ -159,11 +181,18 @@ AnswersAs happens told c e = (o : Outside) × happens o × Answers o told c e
 
 -- ---- what is decided of inputs
 
+abbrev pub DecidesStamps : Outside → Submission → Ending → Type 0
+DecidesStamps o s e = Stamps o s.least (texts s.files.items) s.calendars.items s.digests.items e
+
+abbrev pub StampsAs : (Outside → Type 0) → Submission → Ending → Type 0
+StampsAs happens s e = (o : Outside) × happens o × DecidesStamps o s e
+
 abbrev pub Decides : Outside → Inputs → Ending → Type 0
 Decides o (inputs.Info proof) e = PrintsInfo proof e
 Decides o (inputs.Rewrite way proof to) e = WritesOf to.now (IsRewritten way proof) e
 Decides o (inputs.Merge first second to) e = Merges to.now first second e
 Decides o (inputs.Verify v) e = PrintsVerdict v.proof v.bitcoin v.litecoin v.digest e
+Decides o (inputs.Stamp s) e = DecidesStamps o s e
 Decides o (inputs.Upgrade calendars proof to) e = Completes o calendars.items proof to.now e
 
 abbrev pub CompletesAs : (Outside → Type 0) → List AddressParts → Detached → List ℕ → Ending → Type 0

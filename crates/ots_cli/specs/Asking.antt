@@ -1,30 +1,44 @@
 -- What a run hears of calendars.
-use Rattle.std.specs.Prelude.{◌≡◌, ◌⊎◌, ℕ, List, [], Option, Some, None}
+use Rattle.std.specs.Prelude.{◌≡◌, ◌⊎◌, ℕ, List, [], length, map, Option, Some, None}
 use Rattle.ots_address.specs.Address.{AddressParts}
 use Rattle.ots_address.specs.AddressList.{IsListOf}
 use Rattle.ots_detached.specs.File.{IsFileOf}
 use Rattle.ots_outside.specs.Dialer.{DialerTold}
 use Rattle.ots_outside.specs.Shelf.{Names}
 use Rattle.ots_tree.specs.declared.detached.Detached.{Detached}
-use Rattle.ots_upgrade.specs.Conversation.{Converse, Question}
+use Rattle.ots_upgrade.specs.Conversation.{Converse, ConverseUpTo, Question}
 use Rattle.ots_upgrade.specs.Upgrading.{UpgradesUpTo}
 use Rattle.ots_upgrade.specs.declared.outcome.Outcome.{Outcome}
-use Rattle.ots_cli.specs.Found.{HasUnder}
-use Rattle.ots_words.specs.Words.{Command, Upgrading, info, canon, merge, prune, verify, upgrade}
+use Rattle.ots_merkle.specs.CalendarTree.{root}
+use Rattle.ots_upgrade.specs.declared.target.Target.{Target}
+use Rattle.ots_upgrade.specs.Stamped.{IsDepth, leaves}
+use Rattle.ots_upgrade.specs.Stamping.{to_stamp}
+use Rattle.ots_cli.specs.Drawing.{Draws, DrawsOrFails, DrawsSome}
+use Rattle.ots_cli.specs.Found.{AreHashed, HasUnder}
+use Rattle.ots_words.specs.Words.{Command, Stamping, Upgrading, info, canon, merge, prune, verify, stamp, upgrade}
 
 pub record Outside : Type 0 where
+  -- the nonces that were drawn, in order, where drawing did not fail
+  pub nonces : Option (List (List ℕ))
   -- what calendars were asked, in order
   pub questions : List Question
   -- what came of each conversation
   pub outcomes : List Outcome
 
--- nobody is asked
+-- nothing is drawn, and nobody is asked
 abbrev pub alone : Outside
-alone = record { questions = []; outcomes = [] }
+alone = record { nonces = Some []; questions = []; outcomes = [] }
 
--- These conversations were had between two states of a dialer.
-abbrev pub Heard : {D : Type 0} → (D → DialerTold) → (D → ℕ) → D → D → Outside → Type 0
-Heard told faults old new o = Converse told faults o.questions old new o.outcomes
+-- These conversations were had between two states of a dialer, and these nonces drawn between two of their source.
+pub record Happens {D N : Type 0} (told : D → DialerTold) (faults : D → ℕ) (left : N → Option (List ℕ)) (draw_faults : N → ℕ) (old new : D) (before now : N)
+    (o : Outside) : Type 0 where
+  pub heard : Converse told faults o.questions old new o.outcomes
+  pub drawn : DrawsOrFails left draw_faults o.nonces before now
+
+-- These conversations were had, and nothing was drawn.
+pub record Hears {D : Type 0} (told : D → DialerTold) (faults : D → ℕ) (old new : D) (o : Outside) : Type 0 where
+  pub heard : Converse told faults o.questions old new o.outcomes
+  pub none : o.nonces ≡ Some []
 
 -- No calendar is asked.
 abbrev pub IsOffline : Option Command → Type 0
@@ -34,6 +48,7 @@ IsOffline (Some (canon from to)) = Unit {0}
 IsOffline (Some (merge first second to)) = Unit {0}
 IsOffline (Some (prune from to)) = Unit {0}
 IsOffline (Some (verify v)) = Unit {0}
+IsOffline (Some (stamp s)) = ⊥
 IsOffline (Some (upgrade u)) = ⊥
 
 -- Of what the proof under a name asks these calendars, some was asked in order, the last of it perhaps in part.
@@ -44,12 +59,39 @@ pub record AsksUpTo {D : Type 0} (told : D → DialerTold) (faults : D → ℕ) 
   pub is_proof : HasUnder names u.proof (λ bytes. IsFileOf bytes proof)
   pub asks : UpgradesUpTo told faults calendars proof old new
 
+-- Nonces were drawn, one for each of these files, and of what calendars are then asked some was asked in order, the last of
+-- it perhaps in part.
+pub record StampsUpTo {D N : Type 0} (told : D → DialerTold) (faults : D → ℕ) (left : N → Option (List ℕ)) (names : Option Names) (s : Stamping) (old new : D)
+    (before now : N) : Type 0 where
+  pub calendars : List AddressParts
+  pub is_list : IsListOf s.calendars calendars
+  pub digests : List (List ℕ)
+  pub are_hashed : AreHashed names s.files digests
+  pub targets : List Target
+  pub digests_are : map (λ t. t.digest) targets ≡ digests
+  pub drawn : Draws left (map (λ t. t.nonce) targets) before now
+  pub depth : ℕ
+  pub depth_is : IsDepth (leaves targets) depth
+  pub asks : ConverseUpTo told faults (map (to_stamp (root (leaves targets)) depth) calendars) old new
+
+-- What a command draws, whatever its status is: a nonce for each file that is stamped, as far as it came.
+abbrev pub DrawsFor : {N : Type 0} → (N → Option (List ℕ)) → Option Command → N → N → Type 0
+DrawsFor left None old new = new ≡ old
+DrawsFor left (Some (info proof)) old new = new ≡ old
+DrawsFor left (Some (canon from to)) old new = new ≡ old
+DrawsFor left (Some (merge first second to)) old new = new ≡ old
+DrawsFor left (Some (prune from to)) old new = new ≡ old
+DrawsFor left (Some (verify v)) old new = new ≡ old
+DrawsFor left (Some (stamp s)) old new = DrawsSome left (length s.files) old new
+DrawsFor left (Some (upgrade u)) old new = new ≡ old
+
 -- What a command asks, whatever its status is: nothing, or some of what it is to ask.
-abbrev pub Asks : {D : Type 0} → (D → DialerTold) → (D → ℕ) → Option Names → Option Command → D → D → Type 0
-Asks told faults names None old new = new ≡ old
-Asks told faults names (Some (info proof)) old new = new ≡ old
-Asks told faults names (Some (canon from to)) old new = new ≡ old
-Asks told faults names (Some (merge first second to)) old new = new ≡ old
-Asks told faults names (Some (prune from to)) old new = new ≡ old
-Asks told faults names (Some (verify v)) old new = new ≡ old
-Asks told faults names (Some (upgrade u)) old new = (new ≡ old) ⊎ AsksUpTo told faults names u old new
+abbrev pub Asks : {D N : Type 0} → (D → DialerTold) → (D → ℕ) → (N → Option (List ℕ)) → Option Names → Option Command → D → D → N → N → Type 0
+Asks told faults left names None old new before now = new ≡ old
+Asks told faults left names (Some (info proof)) old new before now = new ≡ old
+Asks told faults left names (Some (canon from to)) old new before now = new ≡ old
+Asks told faults left names (Some (merge first second to)) old new before now = new ≡ old
+Asks told faults left names (Some (prune from to)) old new before now = new ≡ old
+Asks told faults left names (Some (verify v)) old new before now = new ≡ old
+Asks told faults left names (Some (stamp s)) old new before now = (new ≡ old) ⊎ StampsUpTo told faults left names s old new before now
+Asks told faults left names (Some (upgrade u)) old new before now = (new ≡ old) ⊎ AsksUpTo told faults names u old new

@@ -1,12 +1,16 @@
 -- How a command ends where nothing of the outside fails: a status, and what is done before, act by act.
 use Rattle.std.specs.Prelude.{ℕ, List, [], ◌∷◌}
+use Rattle.ots_tree.specs.declared.token.Token.{Token}
+use Rattle.ots_upgrade.specs.declared.target.Target.{Target}
 use Rattle.ots_cli.specs.declared.status.Status.{Status}
 use Rattle.ots_cli.specs.Refusal.{refusal_text}
 
--- A text is printed, or a file with these bytes is made under a name.
+-- A text is printed; or a file with these bytes is made under a name; or the proof of the i-th of these files, where
+-- calendars answered these trees, is made under a name.
 pub data Act : Type 0 where
   prints : (text : List ℕ) → Act
   makes : (name bytes : List ℕ) → Act
+  makes_stamp : (targets : List Target) (trees : List (List Token)) (i : ℕ) (name : List ℕ) → Act
 
 pub record Ending : Type 0 where
   pub status : Status

@@ -1,5 +1,5 @@
 -- What is found under a name, and what reading it answers.
-use Rattle.std.specs.Prelude.{◌≡◌, ◌+◌, ◌<◌, ◌≤◌, ℕ, List, length, Option, Some, None, Result, Ok, Err, IsSome}
+use Rattle.std.specs.Prelude.{◌≡◌, ◌+◌, ◌<◌, ◌≤◌, ℕ, List, [], ◌∷◌, length, Option, Some, None, Result, Ok, Err, IsSome}
 use Rattle.std.specs.FinMap as map
 use Rattle.ots_base.specs.declared.limits.TheConstants.{MAX_HEADER_FILE, MAX_PROOF_FILE, MAX_TARGET_FILE}
 use Rattle.ots_base.specs.Told.{IfTold}
@@ -8,6 +8,7 @@ use Rattle.ots_outside.specs.declared.shelf.OpenError.{OpenError}
 use Rattle.ots_outside.specs.declared.shelf.OpenError.TheVariants as opening
 use Rattle.ots_ops.specs.Hashed.{hashed}
 use Rattle.ots_ops.specs.declared.hash_op.HashOp.{HashOp}
+use Rattle.ots_ops.specs.declared.hash_op.HashOp.TheVariants.{Sha256}
 use Rattle.ots_reader.specs.declared.fault.Fault.{Fault}
 use Rattle.ots_detached.specs.FileFault.{HasFault}
 use Rattle.ots_detached.specs.declared.hashing.HashError.{HashError}
@@ -52,6 +53,13 @@ IsHashOf hash bytes digest = (length bytes ≤ MAX_TARGET_FILE) × (digest ≡ h
 
 abbrev pub RefusesTarget : List ℕ → Status → Type 0
 RefusesTarget bytes s = (MAX_TARGET_FILE < length bytes) × (s ≡ status.FileTooLong)
+
+-- These are the SHA-256 of what is under these names, in order, each of at most 2^40 bytes.
+abbrev pub AreHashed : Option Names → List (List ℕ) → List (List ℕ) → Type 0
+AreHashed told [] [] = Unit {0}
+AreHashed told [] (digest ∷ digests) = ⊥
+AreHashed told (name ∷ names) [] = ⊥
+AreHashed told (name ∷ names) (digest ∷ digests) = HasUnder told name (λ bytes. IsHashOf Sha256 bytes digest) × AreHashed told names digests
 
 -- ---- what reading answers
 

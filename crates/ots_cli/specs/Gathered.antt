@@ -1,12 +1,19 @@
 -- What reading names does to a shelf, and what it gives.
-use Rattle.std.specs.Prelude.{◌≡◌, ℕ, List, [], ◌∷◌, Option, Result, Ok, Err, IfOk, IfErr, IsErrOf}
+use Rattle.std.specs.Prelude.{◌≡◌, ◌⊎◌, ℕ, List, [], ◌∷◌, length, map, Option, Result, Ok, Err, IfOk, IfErr, IsErrOf}
 use Rattle.ots_address.specs.Address.{AddressParts}
 use Rattle.ots_address.specs.AddressList.{IsBadAddress, IsListOf}
 use Rattle.ots_outside.specs.Dialer.{DialerTold}
 use Rattle.ots_outside.specs.Shelf.{Names, NeverFalls, ShelfFaults, ShelfTold}
 use Rattle.ots_detached.specs.File.{IsFileOf}
 use Rattle.ots_upgrade.specs.Upgrading.{UpgradesUpTo}
-use Rattle.ots_words.specs.Words.{Command, Upgrading, info, canon, merge, prune, verify, upgrade}
+use Rattle.ots_merkle.specs.CalendarTree.{root}
+use Rattle.ots_upgrade.specs.Conversation.{ConverseUpTo}
+use Rattle.ots_upgrade.specs.declared.target.Target.{Target}
+use Rattle.ots_upgrade.specs.Stamped.{IsDepth, leaves}
+use Rattle.ots_upgrade.specs.Stamping.{to_stamp}
+use Rattle.ots_words.specs.Words.{Command, Stamping, Upgrading, info, canon, merge, prune, verify, stamp, upgrade, texts}
+use Rattle.ots_cli.specs.Drawing.{Draws, DrawsSome}
+use Rattle.ots_cli.specs.declared.inputs.Submission.{Submission}
 use Rattle.ots_cli.specs.declared.inputs.Inputs.{Inputs}
 use Rattle.ots_cli.specs.declared.inputs.Inputs.TheVariants as inputs
 use Rattle.ots_cli.specs.declared.ending.Ending.{Ending as Decided}
@@ -19,7 +26,7 @@ use Rattle.ots_cli.specs.Decided.{EndsAs}
 use Rattle.ots_cli.specs.Ending.{Ending, refused}
 use Rattle.ots_base.specs.declared.out_of_memory.OutOfMemory.{OutOfMemory as NoMemory}
 use Rattle.ots_cli.specs.Answer.{Comes, RefusesInput}
-use Rattle.ots_cli.specs.Found.{HasUnder, ReadsInput}
+use Rattle.ots_cli.specs.Found.{AreHashed, HasUnder, ReadsInput}
 use Rattle.ots_cli.specs.Opened.{Opens, OpensFront, OpensName, StopsAt}
 
 -- Why reading stopped at a name: it is refused with the status of the cause; or the shelf counted a fault there; or memory
@@ -95,13 +102,39 @@ pub record ComesToEnd (answers : Option Names → Ending → Type 0) (reads : Li
 
 -- ---- asking
 
+-- Nonces were drawn, one for each of these files, and of what calendars are then asked some was asked in order, the last of
+-- it perhaps in part.
+pub record SubmitsUpTo {D N : Type 0} (told : D → DialerTold) (faults : D → ℕ) (left : N → Option (List ℕ)) (s : Submission) (old new : D) (before now : N) : Type 0 where
+  pub targets : List Target
+  pub digests_are : map (λ t. t.digest) targets ≡ s.digests.items
+  pub drawn : Draws left (map (λ t. t.nonce) targets) before now
+  pub depth : ℕ
+  pub depth_is : IsDepth (leaves targets) depth
+  pub asks : ConverseUpTo told faults (map (to_stamp (root (leaves targets)) depth) s.calendars.items) old new
+
+-- Of what calendars are asked for files with their nonces, some was asked in order, the last of it perhaps in part.
+pub record Submits {D : Type 0} (told : D → DialerTold) (faults : D → ℕ) (s : Submission) (targets : List Target) (old new : D) : Type 0 where
+  pub depth : ℕ
+  pub depth_is : IsDepth (leaves targets) depth
+  pub asks : ConverseUpTo told faults (map (to_stamp (root (leaves targets)) depth) s.calendars.items) old new
+
 -- What is asked of inputs: nothing, or some of what a proof asks for.
-abbrev pub AsksFor : {D : Type 0} → (D → DialerTold) → (D → ℕ) → Inputs → D → D → Type 0
-AsksFor told faults (inputs.Info proof) old new = new ≡ old
-AsksFor told faults (inputs.Rewrite way proof to) old new = new ≡ old
-AsksFor told faults (inputs.Merge first second to) old new = new ≡ old
-AsksFor told faults (inputs.Verify v) old new = new ≡ old
-AsksFor told faults (inputs.Upgrade calendars proof to) old new = UpgradesUpTo told faults calendars.items proof old new
+abbrev pub AsksFor : {D N : Type 0} → (D → DialerTold) → (D → ℕ) → (N → Option (List ℕ)) → Inputs → D → D → N → N → Type 0
+AsksFor told faults left (inputs.Info proof) old new before now = new ≡ old
+AsksFor told faults left (inputs.Rewrite way proof to) old new before now = new ≡ old
+AsksFor told faults left (inputs.Merge first second to) old new before now = new ≡ old
+AsksFor told faults left (inputs.Verify v) old new before now = new ≡ old
+AsksFor told faults left (inputs.Stamp s) old new before now = (new ≡ old) ⊎ SubmitsUpTo told faults left s old new before now
+AsksFor told faults left (inputs.Upgrade calendars proof to) old new before now = UpgradesUpTo told faults calendars.items proof old new
+
+-- What is drawn for inputs: nothing, or a nonce for each file that is stamped, as far as it came.
+abbrev pub DrawsOf : {N : Type 0} → (N → Option (List ℕ)) → Inputs → N → N → Type 0
+DrawsOf left (inputs.Info proof) old new = new ≡ old
+DrawsOf left (inputs.Rewrite way proof to) old new = new ≡ old
+DrawsOf left (inputs.Merge first second to) old new = new ≡ old
+DrawsOf left (inputs.Verify v) old new = new ≡ old
+DrawsOf left (inputs.Stamp s) old new = DrawsSome left (length s.files.items) old new
+DrawsOf left (inputs.Upgrade calendars proof to) old new = new ≡ old
 
 -- Nobody is to be asked.
 abbrev pub AreOffline : Inputs → Type 0
@@ -109,6 +142,7 @@ AreOffline (inputs.Info proof) = Unit {0}
 AreOffline (inputs.Rewrite way proof to) = Unit {0}
 AreOffline (inputs.Merge first second to) = Unit {0}
 AreOffline (inputs.Verify v) = Unit {0}
+AreOffline (inputs.Stamp s) = ⊥
 AreOffline (inputs.Upgrade calendars proof to) = ⊥
 
 -- The calendars of the list are to be asked for the proof under the name.
@@ -117,7 +151,22 @@ SuitsUpgrade told u (inputs.Info proof) = ⊥
 SuitsUpgrade told u (inputs.Rewrite way proof to) = ⊥
 SuitsUpgrade told u (inputs.Merge first second to) = ⊥
 SuitsUpgrade told u (inputs.Verify v) = ⊥
+SuitsUpgrade told u (inputs.Stamp s) = ⊥
 SuitsUpgrade told u (inputs.Upgrade calendars proof to) = IsListOf u.calendars calendars.items × HasUnder told u.proof (λ bytes. IsFileOf bytes proof)
+
+-- The calendars of the list are to be asked for the files under these names.
+pub record IsSubmissionOf (told : Option Names) (s : Stamping) (i : Submission) : Type 0 where
+  pub is_list : IsListOf s.calendars i.calendars.items
+  pub hashed : AreHashed told s.files i.digests.items
+  pub files : texts i.files.items ≡ s.files
+
+abbrev pub SuitsStamp : Option Names → Stamping → Inputs → Type 0
+SuitsStamp told s (inputs.Info proof) = ⊥
+SuitsStamp told s (inputs.Rewrite way proof to) = ⊥
+SuitsStamp told s (inputs.Merge first second to) = ⊥
+SuitsStamp told s (inputs.Verify v) = ⊥
+SuitsStamp told s (inputs.Stamp i) = IsSubmissionOf told s i
+SuitsStamp told s (inputs.Upgrade calendars proof to) = ⊥
 
 -- whom these inputs of a command are for
 abbrev pub Suits : Option Names → Command → Inputs → Type 0
@@ -126,4 +175,5 @@ Suits told (canon from to) i = AreOffline i
 Suits told (merge first second to) i = AreOffline i
 Suits told (prune from to) i = AreOffline i
 Suits told (verify v) i = AreOffline i
+Suits told (stamp s) i = SuitsStamp told s i
 Suits told (upgrade u) i = SuitsUpgrade told u i

@@ -9,7 +9,10 @@ pub mod Ending
 pub mod Decided
 pub mod Answer
 pub mod Asking
+pub mod Drawing
+pub mod Stamping
 pub mod Yes
 pub mod Taken
 pub mod CarriedOut
+pub mod Complete
 pub mod Gathered

@@ -5,7 +5,7 @@ use Rattle.ots_base.specs.Cause.{Rose}
 use Rattle.ots_outside.specs.Shelf.{ShelfFaults}
 use Rattle.ots_cli.specs.declared.input.InputError.{InputError}
 use Rattle.ots_cli.specs.declared.input.InputError.TheVariants.{ReadFault}
-use Rattle.ots_words.specs.Words.{Command, HeaderFile, info, canon, merge, prune, verify, upgrade}
+use Rattle.ots_words.specs.Words.{Command, HeaderFile, info, canon, merge, prune, verify, stamp, upgrade}
 
 -- the name of headers that may be given
 abbrev pub names_of : Option HeaderFile → List (List ℕ)
@@ -19,6 +19,7 @@ names_read (Some (info proof)) = proof ∷ []
 names_read (Some (canon from to)) = from ∷ []
 names_read (Some (merge first second to)) = first ∷ second ∷ []
 names_read (Some (prune from to)) = from ∷ []
+names_read (Some (stamp s)) = s.files
 names_read (Some (upgrade u)) = u.proof ∷ []
 names_read (Some (verify v)) = v.bitcoin.name ∷ names_of v.litecoin ++ v.proof ∷ v.target ∷ []
 

@@ -2,7 +2,7 @@
 use Rattle.std.specs.Prelude.{ℕ, Bool, true, false, List, [], ◌++◌, codes, decimal}
 use Rattle.ots_reader.specs.Printed.{printed}
 use Rattle.ots_cli.specs.declared.status.Status.{Status}
-use Rattle.ots_cli.specs.declared.status.Status.TheVariants.{Done, No, Usage, BadProof, NoFile, Exists, ReadFault, WriteFault, TooBig, BadHeaders, FileTooLong, Differs, BadAddress, OutOfMemory}
+use Rattle.ots_cli.specs.declared.status.Status.TheVariants.{Done, No, Usage, BadProof, NoFile, Exists, ReadFault, WriteFault, TooBig, BadHeaders, TooFew, NonceFault, FileTooLong, Differs, BadAddress, OutOfMemory}
 use Rattle.ots_info.specs.Listing.{line, pair_words}
 
 abbrev pub usage_words : List ℕ
@@ -22,6 +22,8 @@ refusal_text name Exists = line (codes "exists " ++ name)
 refusal_text name ReadFault = line (codes "read fault " ++ name)
 refusal_text name TooBig = line (codes "too big " ++ name)
 refusal_text name (BadHeaders n) = line (codes "bad headers " ++ decimal n)
+refusal_text name (TooFew got wanted) = line (codes "too few " ++ decimal got ++ codes " of " ++ decimal wanted)
+refusal_text name NonceFault = line (codes "nonce fault")
 refusal_text name FileTooLong = line (codes "file too long " ++ name)
 refusal_text name (Differs first_hash first_digest second_hash second_digest) =
     line (codes "differs " ++ pair_words first_hash first_digest ++ codes " " ++ pair_words second_hash second_digest)

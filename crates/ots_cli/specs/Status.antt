@@ -1,7 +1,7 @@
 -- The numbers with which a program ends.
 use Rattle.std.specs.Prelude.{ℕ}
 use Rattle.ots_cli.specs.declared.status.Status.{Status}
-use Rattle.ots_cli.specs.declared.status.Status.TheVariants.{Done, No, Usage, BadProof, NoFile, Exists, ReadFault, WriteFault, TooBig, BadHeaders, FileTooLong, Differs, BadAddress, OutOfMemory}
+use Rattle.ots_cli.specs.declared.status.Status.TheVariants.{Done, No, Usage, BadProof, NoFile, Exists, ReadFault, WriteFault, TooBig, BadHeaders, TooFew, NonceFault, FileTooLong, Differs, BadAddress, OutOfMemory}
 
 abbrev pub number : Status → ℕ
 number Done = 0
@@ -14,6 +14,8 @@ number ReadFault = 6
 number WriteFault = 7
 number TooBig = 8
 number (BadHeaders length) = 9
+number (TooFew got wanted) = 10
+number NonceFault = 11
 number FileTooLong = 12
 number (Differs first_hash first_digest second_hash second_digest) = 13
 number (BadAddress place https) = 14

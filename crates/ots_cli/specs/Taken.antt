@@ -12,7 +12,7 @@ use Rattle.ots_detached.specs.FileFault.{HasFault}
 use Rattle.ots_cli.specs.declared.status.Status.{Status}
 use Rattle.ots_cli.specs.declared.status.Status.TheVariants.{Done, No, BadProof, Exists, TooBig, FileTooLong, Differs}
 use Rattle.ots_cli.specs.Found.{HasUnder}
-use Rattle.ots_words.specs.Words.{Command, info, canon, merge, prune, verify, upgrade}
+use Rattle.ots_words.specs.Words.{Command, info, canon, merge, prune, verify, stamp, upgrade}
 
 -- the names of the proofs that a command reads, in order
 abbrev pub proofs_read : Command → List (List ℕ)
@@ -21,6 +21,7 @@ proofs_read (canon from to) = from ∷ []
 proofs_read (merge first second to) = first ∷ second ∷ []
 proofs_read (prune from to) = from ∷ []
 proofs_read (verify v) = v.proof ∷ []
+proofs_read (stamp s) = []
 proofs_read (upgrade u) = u.proof ∷ []
 
 -- The bytes under the name spell a sound proof.

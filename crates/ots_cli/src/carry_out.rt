@@ -12,11 +12,18 @@ use crate::ending::{Acts, Ending, Text};
 use crate::output::{OutputError, make_file};
 use crate::status::Status;
 use crate::text::print_text;
+use crate::write_stamps::make_stamps;
 use ots_outside::{Failed, Shelf, Sink};
 use ots_tree::Detached;
+use std::alloc::Global;
 
 /// Prints and makes what a command ends with, and answers how that went.
-pub fn carry_out<S: Shelf, K: Sink>(ending: &Ending<'_>, shelf: &mut S, out: &mut K) -> Status
+pub fn carry_out<S: Shelf, K: Sink>(
+    alloc: Global,
+    ending: &Ending<'_>,
+    shelf: &mut S,
+    out: &mut K,
+) -> Status
     ensures ending { CarriesOutEnding ending.now (S.told shelf.old) (S.told shelf.new) (S.faults shelf.old) (S.faults shelf.new)
         (Rose (K.faults out.old) (K.faults out.new)) (K.taken out.old) (K.taken out.new) result }
     ensures sink { SinkStays K.faults K.same out.old out.new }
@@ -25,6 +32,10 @@ pub fn carry_out<S: Shelf, K: Sink>(ending: &Ending<'_>, shelf: &mut S, out: &mu
         Acts::Print(text) => print(text, &ending.status, out),
         Acts::Make(name, proof) => make(name, proof, &ending.status, shelf, out),
         Acts::RefuseBehind(text, name) => refuse_behind(text, name, &ending.status, out),
+        Acts::RefuseStamps(replies) => {
+            refuse_behind(&Text::Calendars(replies), "", &ending.status, out)
+        }
+        Acts::MakeStamps(stamped) => make_stamps(alloc, stamped, &ending.status, shelf, out),
         Acts::MakeBehind(text, name, proof, complete) => {
             make_behind(text, name, proof, *complete, &ending.status, shelf, out)
         }
@@ -110,7 +121,7 @@ fn make<S: Shelf, K: Sink>(
 }
 
 /// Prints the line of a refusal over a name.
-fn refuse<K: Sink>(name: &str, status: &Status, out: &mut K) -> Status
+pub fn refuse<K: Sink>(name: &str, status: &Status, out: &mut K) -> Status
     ensures printed { PrintsLast (Rose (K.faults out.old) (K.faults out.new)) status.now (refusal_text name.now status.now) (K.taken out.old) (K.taken out.new) result }
     ensures sink { SinkStays K.faults K.same out.old out.new }
 {

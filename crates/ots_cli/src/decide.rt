@@ -3,8 +3,8 @@
 ghost use Rattle.std.specs.Prelude.{◌≡◌, ◌<◌, ◌↔◌, IsTrue, length, IfOk};
 ghost use Rattle.ots_detached.specs.File.{file_of};
 ghost use Rattle.ots_cli.specs.Answer.{CompletesAs, DecidesAs, Merges, PrintsVerdict, Writes, WritesAsked};
-ghost use Rattle.ots_cli.specs.Asking.{Heard};
-ghost use Rattle.ots_cli.specs.Gathered.{AsksFor};
+ghost use Rattle.ots_cli.specs.Asking.{Happens, Hears};
+ghost use Rattle.ots_cli.specs.Gathered.{AsksFor, DrawsOf};
 ghost use Rattle.ots_upgrade.specs.Upgrading.{UpgradesUpTo};
 ghost use Rattle.ots_cli.specs.Decided.{EndsAs};
 ghost use Rattle.ots_cli.specs.declared.status.Status.TheVariants.{Differs};
@@ -12,6 +12,7 @@ ghost use Rattle.ots_cli.specs.declared.status.Status.TheVariants.{Differs};
 use crate::ending::{Acts, Ending, Text};
 use crate::inputs::{Evidence, Inputs};
 use crate::rewriting::rewritten;
+use crate::stamping::stamped;
 use crate::status::Status;
 use crate::text::{complete_status, verdict_status};
 use ots_address::Address;
@@ -19,20 +20,22 @@ use ots_base::{MAX_PROOF_FILE, OutOfMemory};
 use ots_canon::MergeError;
 use ots_detached::{file_length, written_file};
 use ots_eval::verdict;
-use ots_outside::Dialer;
+use ots_outside::{Dialer, Nonces};
 use ots_pending::has_bitcoin;
 use ots_tree::Detached;
 use ots_upgrade::{AskedList, Upgraded, upgrade_with};
 use std::alloc::Global;
 
 /// How the command ends that has these inputs.
-pub fn decide<'a, D: Dialer>(
+pub fn decide<'a, D: Dialer, N: Nonces>(
     alloc: Global,
     inputs: Inputs<'a>,
     dialer: &mut D,
+    nonces: &mut N,
 ) -> Result<Ending<'a>, OutOfMemory>
-    ensures decided { IfOk result (EndsAs (DecidesAs (Heard D.told D.faults dialer.old dialer.new) inputs.entry)) }
-    ensures asks { AsksFor D.told D.faults inputs.entry dialer.old dialer.new }
+    ensures decided { IfOk result (EndsAs (DecidesAs (Happens D.told D.faults N.left N.faults dialer.old dialer.new nonces.old nonces.new) inputs.entry)) }
+    ensures asks { AsksFor D.told D.faults N.left inputs.entry dialer.old dialer.new nonces.old nonces.new }
+    ensures draws { DrawsOf N.left inputs.entry nonces.old nonces.new }
 {
     match inputs {
         Inputs::Info(proof) => Ok(Ending {
@@ -45,6 +48,7 @@ pub fn decide<'a, D: Dialer>(
         }
         Inputs::Merge(first, second, to) => merged(alloc, &first, &second, to),
         Inputs::Verify(evidence) => judged(alloc, &evidence),
+        Inputs::Stamp(submission) => stamped(alloc, submission, dialer, nonces),
         Inputs::Upgrade(calendars, proof, to) => upgraded(alloc, &calendars, &proof, to, dialer),
     }
 }
@@ -64,7 +68,7 @@ fn written(to: &str, proof: Detached) -> Ending<'_>
 }
 
 /// Whether a proof has more bytes than a proof file may have.
-fn is_too_long(proof: &Detached) -> bool
+pub fn is_too_long(proof: &Detached) -> bool
     ensures { IsTrue result ↔ MAX_PROOF_FILE < length (file_of proof.now) }
 {
     file_length(proof) > MAX_PROOF_FILE as u64
@@ -124,7 +128,7 @@ fn upgraded<'a, D: Dialer>(
     to: &'a str,
     dialer: &mut D,
 ) -> Result<Ending<'a>, OutOfMemory>
-    ensures decided { IfOk result (EndsAs (CompletesAs (Heard D.told D.faults dialer.old dialer.new) calendars.now proof.now to.entry.now)) }
+    ensures decided { IfOk result (EndsAs (CompletesAs (Hears D.told D.faults dialer.old dialer.new) calendars.now proof.now to.entry.now)) }
     ensures asks { UpgradesUpTo D.told D.faults calendars.now proof.now dialer.old dialer.new }
 {
     let upgraded = upgrade_with(alloc, dialer, calendars, proof)?;

@@ -2,6 +2,7 @@
 ghost use Rattle.ots_cli.specs.Decided.{EndsAs, IsEnding};
 ghost use Rattle.ots_cli.specs.Ending.{refused};
 
+use crate::replies::{Replies, Stamped};
 use crate::status::Status;
 use ots_eval::Verdict;
 use ots_tree::Detached;
@@ -23,6 +24,10 @@ pub enum Acts<'a> {
     Make(&'a str, Detached),
     /// A text is printed, and then the line of the ending's status, a refusal over this name.
     RefuseBehind(Text<'a>, &'a str),
+    /// It is told what came of each calendar, and then comes the line of the ending's status.
+    RefuseStamps(Replies),
+    /// It is told what came of each calendar. Then the file of each proof is made, and that is told.
+    MakeStamps(Stamped<'a>),
     /// A text is printed, the file of a proof is made under a name, and it is told whether some path
     /// of the proof ends in Bitcoin.
     MakeBehind(Text<'a>, &'a str, Detached, bool),
@@ -39,6 +44,10 @@ pub enum Text<'a> {
     Refusal(&'a str),
     /// A line for each pair that a proof asks calendars for.
     Asked(AskedList),
+    /// A line for each calendar that was asked to timestamp files.
+    Calendars(&'a Replies),
+    /// That the proof of the file with this name was made.
+    Wrote(&'a str),
     /// Whether an upgraded proof has a path that ends in Bitcoin.
     Complete(bool),
 }

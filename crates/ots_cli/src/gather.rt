@@ -1,19 +1,20 @@
 //! The first step of a run: all that a command reads, in order.
 ghost use Rattle.std.specs.Prelude.{Some, IfOk};
 ghost use Rattle.std.specs.Option.{option_map};
-ghost use Rattle.ots_cli.specs.Answer.{Answers, Decides, HasPerhapsTable, PrintsVerdict, RefusesPerhapsTable, Verifies};
+ghost use Rattle.ots_cli.specs.Answer.{Answers, Decides, DecidesStamps, HasPerhapsTable, PrintsVerdict, RefusesPerhapsTable, StampsFiles, Verifies};
 ghost use Rattle.ots_cli.specs.Asking.{Outside};
 ghost use Rattle.ots_cli.specs.Ending.{Ending};
-ghost use Rattle.ots_cli.specs.Gathered.{Reads, Suits};
+ghost use Rattle.ots_cli.specs.Gathered.{IsSubmissionOf, Reads, Suits};
 ghost use Rattle.ots_cli.specs.Opened.{names_of, names_read};
-ghost use Rattle.ots_words.specs.Words.{read_as, read_header_file, read_verification, verify};
+ghost use Rattle.ots_words.specs.Words.{read_as, read_header_file, read_stamping, read_verification, texts, verify};
 
+use crate::hashing::hash_targets;
 use crate::input::{Stop, hash_target, read_headers, read_list, read_proof};
-use crate::inputs::{Evidence, Inputs};
+use crate::inputs::{Evidence, Inputs, Submission};
 use crate::rewriting::Rewriting;
 use ots_bitcoin::Headers;
 use ots_outside::Shelf;
-use ots_words::{Command, HeaderFile, Verification};
+use ots_words::{Command, HeaderFile, Stamping, Verification};
 use std::alloc::Global;
 
 /// All that a command reads, in order, or the first name that gave no input.
@@ -48,12 +49,36 @@ pub fn gather<'a, S: Shelf>(
             let evidence = gather_evidence(alloc, verification, shelf)?;
             Ok(Inputs::Verify(evidence))
         }
+        Command::Stamp(stamping) => {
+            let submission = gather_submission(alloc, stamping, shelf)?;
+            Ok(Inputs::Stamp(submission))
+        }
         Command::Upgrade(upgrading) => {
             let calendars = read_list(alloc, upgrading.calendars)?;
             let proof = read_proof(alloc, upgrading.proof, shelf)?;
             Ok(Inputs::Upgrade(calendars, proof, upgrading.to))
         }
     }
+}
+
+/// Files and the calendars that are asked to timestamp them.
+fn gather_submission<'a, S: Shelf>(
+    alloc: Global,
+    stamping: Stamping<'a>,
+    shelf: &mut S,
+) -> Result<Submission<'a>, Stop<'a>>
+    ensures reads { (o : Outside) → Reads (texts stamping.entry.files.items) (λ told s. (e : Ending) → DecidesStamps o s e → StampsFiles o told (read_stamping stamping.entry) e)
+        (λ told. StampsFiles o told (read_stamping stamping.entry)) (S.told shelf.old) (S.told shelf.new) (S.faults shelf.old) (S.faults shelf.new) result }
+    ensures suits { IfOk result (IsSubmissionOf (S.told shelf.old).names (read_stamping stamping.entry)) }
+{
+    let calendars = read_list(alloc, stamping.calendars)?;
+    let digests = hash_targets(alloc, &stamping.files, shelf)?;
+    Ok(Submission {
+        calendars,
+        least: stamping.least,
+        files: stamping.files,
+        digests,
+    })
 }
 
 /// All that a verdict rests on.

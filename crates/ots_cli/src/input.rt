@@ -16,13 +16,39 @@ use ots_outside::{OpenError, Shelf, SlotSource};
 use ots_reader::Fault;
 use ots_tree::Detached;
 use ots_words::HeaderFile;
-use std::alloc::Global;
+use std::alloc::{AllocError, AllocFailed, Global};
 
 /// Where reading stopped: a name that gave no input, and why.
 #[derive(Clone, Copy)]
 pub struct Stop<'a> {
     pub name: &'a str,
     pub cause: InputError,
+}
+
+impl<'a> From<AllocError> for Stop<'a> {
+    ghost use Rattle.ots_cli.specs.declared.input.InputError.TheVariants.{OutOfMemory};
+
+    ghost from_gives = { λ _ stop. stop.cause ≡ OutOfMemory };
+
+    fn from(_: AllocError) -> Self {
+        Stop {
+            name: "",
+            cause: InputError::OutOfMemory,
+        }
+    }
+}
+
+impl<'a, T: Drop> From<AllocFailed<T>> for Stop<'a> {
+    ghost use Rattle.ots_cli.specs.declared.input.InputError.TheVariants.{OutOfMemory};
+
+    ghost from_gives = { λ _ stop. stop.cause ≡ OutOfMemory };
+
+    fn from(_: AllocFailed<T>) -> Self {
+        Stop {
+            name: "",
+            cause: InputError::OutOfMemory,
+        }
+    }
 }
 
 /// Why a name gave no input.

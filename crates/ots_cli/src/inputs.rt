@@ -1,4 +1,8 @@
 //! What a command works on, once all of it is read.
+ghost use Rattle.std.specs.Prelude.{◌≡◌, ◌≤◌, length};
+ghost use Rattle.std.specs.List.{All};
+ghost use Rattle.ots_words.specs.declared.limits.TheConstants.{MAX_STAMPED};
+
 use crate::rewriting::Rewriting;
 use ots_address::Address;
 use ots_bitcoin::Headers;
@@ -16,8 +20,27 @@ pub enum Inputs<'a> {
     Merge(Detached, Detached, &'a str),
     /// `verify`: all that a verdict rests on.
     Verify(Evidence),
+    /// `stamp`: the files, and the calendars that are asked to timestamp them.
+    Stamp(Submission<'a>),
     /// `upgrade`: the calendars that may be asked, and the proof.
     Upgrade(Vec<Address>, Detached, &'a str),
+}
+
+/// Files that calendars are asked to timestamp.
+#[derive(Drop)]
+pub struct Submission<'a> {
+    pub calendars: Vec<Address>,
+    /// How many of the calendars have to do so.
+    pub least: u32,
+    /// The names of the files.
+    pub files: Vec<&'a str>,
+    /// The SHA-256 of each.
+    pub digests: Vec<Digest>,
+    pub ghost wanted: { 1 ≤ least },
+    pub ghost some: { 1 ≤ length files.items },
+    pub ghost most: { length files.items ≤ MAX_STAMPED },
+    pub ghost each: { length digests.items ≡ length files.items },
+    pub ghost sha256: { All (λ digest. length digest ≡ 32) digests.items },
 }
 
 /// What a verdict rests on.

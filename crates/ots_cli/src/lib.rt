@@ -9,13 +9,17 @@ mod carry_out;
 mod decide;
 mod ending;
 mod gather;
+mod hashing;
 mod input;
 mod inputs;
 mod output;
+mod replies;
 mod rewriting;
 mod run;
+mod stamping;
 mod status;
 mod text;
+mod write_stamps;
 
 pub use run::run_client;
 pub use status::Status;

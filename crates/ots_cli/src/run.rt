@@ -3,13 +3,14 @@ ghost use Rattle.std.specs.Prelude.{◌≡◌, ◌≢◌, ◌≤◌, ℕ, List, 
 ghost use Rattle.std.specs.declared.option.Option.{Option};
 ghost use Rattle.ots_base.specs.Cause.{Rose};
 ghost use Rattle.ots_cli.specs.Answer.{AnswersAs, Comes};
-ghost use Rattle.ots_cli.specs.Asking.{Asks, Heard, IsOffline};
+ghost use Rattle.ots_cli.specs.Asking.{Asks, DrawsFor, Happens, IsOffline};
 ghost use Rattle.ots_cli.specs.CarriedOut.{Ends, EndsExactly};
+ghost use Rattle.ots_cli.specs.Complete.{CanStamp, CanUpgrade, IsDoneUnlessFailed};
 ghost use Rattle.ots_cli.specs.Gathered.{ComesToEnd};
 ghost use Rattle.ots_cli.specs.Opened.{OpensFront, StopsAt, names_read};
 ghost use Rattle.ots_cli.specs.ReadsBack.{IsDoneOrNo, IsOutput, IsOutputAsked, Leaves, ReadsBack};
 ghost use Rattle.ots_cli.specs.Taken.{TakesProofs, proofs_read};
-ghost use Rattle.ots_words.specs.Words.{Command as Asked, Verification, asked, read_as, verify};
+ghost use Rattle.ots_words.specs.Words.{Command as Asked, Stamping, Upgrading, Verification, asked, read_as, stamp, upgrade, verify};
 ghost use Rattle.ots_cli.specs.Yes.{HasFiles, IsDoneExactlyWhere, SaysYes};
 ghost use Rattle.ots_bitcoin.specs.HeaderTable.{Table};
 ghost use Rattle.ots_tree.specs.declared.detached.Detached.{Detached};
@@ -30,9 +31,10 @@ use std::alloc::Global;
 /// order of reading does. Each has one line, or the command's text, but want of memory and a sink
 /// that failed.
 ///
-/// It opens the files that the command reads, in order, creates its output last, and changes no
-/// other name. `upgrade` asks calendars, each in a conversation of its own, before it makes its output;
-/// the other commands leave the dialer as it is. The nonces stay as they are.
+/// It opens the files that the command reads, in order, creates its outputs last, and changes no
+/// other name. `stamp` draws a nonce for each file. `stamp` and `upgrade` ask calendars, each in a
+/// conversation of its own, before they make an output. The other commands leave the dialer as it
+/// is, and all but `stamp` the nonces.
 pub fn run_client<S: Shelf, K: Sink, D: Dialer, N: Nonces>(
     alloc: Global,
     words: &[String],
@@ -47,9 +49,9 @@ pub fn run_client<S: Shelf, K: Sink, D: Dialer, N: Nonces>(
     ensures faults { NeverFalls (S.faults shelf.old) (S.faults shelf.new) }
     ensures out_faults { K.faults out.old ≤ K.faults out.new }
     ensures same { K.same out.old out.new }
-    ensures asks { Asks D.told D.faults (S.told shelf.old).names (asked words.now) dialer.old dialer.new }
-    ensures nonces { nonces.new ≡ nonces.old }
-    ensures ends { Ends (Comes (AnswersAs (Heard D.told D.faults dialer.old dialer.new) (S.told shelf.old).names (asked words.now))
+    ensures asks { Asks D.told D.faults N.left (S.told shelf.old).names (asked words.now) dialer.old dialer.new nonces.old nonces.new }
+    ensures nonces { DrawsFor N.left (asked words.now) nonces.old nonces.new }
+    ensures ends { Ends (Comes (AnswersAs (Happens D.told D.faults N.left N.faults dialer.old dialer.new nonces.old nonces.new) (S.told shelf.old).names (asked words.now))
         (StopsAt (names_read (asked words.now)) (S.told shelf.old).opened (S.told shelf.new).opened (S.faults shelf.old) (S.faults shelf.new)))
         (Rose (S.faults shelf.old).writing (S.faults shelf.new).writing) (Rose (K.faults out.old) (K.faults out.new))
         (S.told shelf.old).names (S.told shelf.new).names (K.taken out.old) (K.taken out.new) result }
@@ -60,46 +62,54 @@ pub fn run_client<S: Shelf, K: Sink, D: Dialer, N: Nonces>(
     ensures yes { (names : Names) (v : Verification) (bitcoin : Table) (litecoin : Option Table) (proof : Detached) (target : List ℕ)
         → (S.told shelf.old).names ≡ Some names → asked words.now ≡ Some (verify v) → HasFiles names v bitcoin litecoin proof target
         → IsDoneExactlyWhere (SaysYes proof target bitcoin litecoin) result }
+    ensures stamps { (names : Names) (s : Stamping) → (S.told shelf.old).names ≡ Some names → asked words.now ≡ Some (stamp s)
+        → CanStamp (Happens D.told D.faults N.left N.faults dialer.old dialer.new nonces.old nonces.new) names s → IsDoneUnlessFailed result }
+    ensures upgrades { (names : Names) (u : Upgrading) → (S.told shelf.old).names ≡ Some names → asked words.now ≡ Some (upgrade u)
+        → CanUpgrade (Happens D.told D.faults N.left N.faults dialer.old dialer.new nonces.old nonces.new) names u → IsDoneUnlessFailed result }
     ensures reads_back { (names : Names) (c : Asked) (to : List ℕ) → (S.told shelf.old).names ≡ Some names → asked words.now ≡ Some c
-        → IsOutput c to → IsDoneOrNo result → ReadsBack (Heard D.told D.faults dialer.old dialer.new) names c to (S.told shelf.new).names }
+        → IsOutput c to → IsDoneOrNo result → ReadsBack (Happens D.told D.faults N.left N.faults dialer.old dialer.new nonces.old nonces.new) names c to (S.told shelf.new).names }
 {
-    match come_to_end(alloc, words, shelf, dialer) {
-        Ok(ending) => carry_out(&ending, shelf, out),
+    match come_to_end(alloc, words, shelf, dialer, nonces) {
+        Ok(ending) => carry_out(alloc, &ending, shelf, out),
         Err(OutOfMemory) => Status::OutOfMemory,
     }
 }
 
 /// How these words end: all that they name is read, and it is decided what that comes to.
-fn come_to_end<'a, S: Shelf, D: Dialer>(
+fn come_to_end<'a, S: Shelf, D: Dialer, N: Nonces>(
     alloc: Global,
     words: &'a [String],
     shelf: &mut S,
     dialer: &mut D,
+    nonces: &mut N,
 ) -> Result<Ending<'a>, OutOfMemory>
-    ensures ends { ComesToEnd (λ told. AnswersAs (Heard D.told D.faults dialer.old dialer.new) told (asked words.entry.now)) (names_read (asked words.entry.now))
+    ensures ends { ComesToEnd (λ told. AnswersAs (Happens D.told D.faults N.left N.faults dialer.old dialer.new nonces.old nonces.new) told (asked words.entry.now)) (names_read (asked words.entry.now))
         (S.told shelf.old) (S.told shelf.new) (S.faults shelf.old) (S.faults shelf.new) result }
-    ensures asks { Asks D.told D.faults (S.told shelf.old).names (asked words.entry.now) dialer.old dialer.new }
+    ensures asks { Asks D.told D.faults N.left (S.told shelf.old).names (asked words.entry.now) dialer.old dialer.new nonces.old nonces.new }
+    ensures nonces { DrawsFor N.left (asked words.entry.now) nonces.old nonces.new }
 {
     match read_words(alloc, words) {
-        Ok(command) => end_of(alloc, command, shelf, dialer),
+        Ok(command) => end_of(alloc, command, shelf, dialer, nonces),
         Err(WordsError::Usage) => Ok(Ending::refused("", Status::Usage)),
         Err(WordsError::OutOfMemory) => Err(OutOfMemory),
     }
 }
 
 /// How a command ends.
-fn end_of<'a, S: Shelf, D: Dialer>(
+fn end_of<'a, S: Shelf, D: Dialer, N: Nonces>(
     alloc: Global,
     command: Command<'a>,
     shelf: &mut S,
     dialer: &mut D,
+    nonces: &mut N,
 ) -> Result<Ending<'a>, OutOfMemory>
-    ensures ends { ComesToEnd (λ told. AnswersAs (Heard D.told D.faults dialer.old dialer.new) told (Some (read_as command.entry))) (names_read (Some (read_as command.entry)))
+    ensures ends { ComesToEnd (λ told. AnswersAs (Happens D.told D.faults N.left N.faults dialer.old dialer.new nonces.old nonces.new) told (Some (read_as command.entry))) (names_read (Some (read_as command.entry)))
         (S.told shelf.old) (S.told shelf.new) (S.faults shelf.old) (S.faults shelf.new) result }
-    ensures asks { Asks D.told D.faults (S.told shelf.old).names (Some (read_as command.entry)) dialer.old dialer.new }
+    ensures asks { Asks D.told D.faults N.left (S.told shelf.old).names (Some (read_as command.entry)) dialer.old dialer.new nonces.old nonces.new }
+    ensures nonces { DrawsFor N.left (Some (read_as command.entry)) nonces.old nonces.new }
 {
     match gather(alloc, command, shelf) {
-        Ok(inputs) => decide(alloc, inputs, dialer),
+        Ok(inputs) => decide(alloc, inputs, dialer, nonces),
         Err(stop) => match stop.cause.status() {
             Some(status) => Ok(Ending::refused(stop.name, status)),
             None => Err(OutOfMemory),

@@ -24,11 +24,20 @@ pub enum Status {
     ReadFault,
     /// The shelf counted a fault while a file was created or written, or the sink counted one.
     WriteFault,
-    /// A proof file has more than 4,194,304 bytes: an input, or the result.
+    /// A proof file has more than 4,194,304 bytes: an input, or a result.
     TooBig,
     /// A file of headers has so many bytes: none, or no multiple of 80, or 83,886,081 where it has
     /// more than 83,886,080.
     BadHeaders(u64),
+    /// Fewer calendars timestamped the files than were wanted.
+    TooFew {
+        /// How many did.
+        got: u32,
+        /// How many were wanted.
+        wanted: u32,
+    },
+    /// The source of nonces counted a fault.
+    NonceFault,
     /// The file that a proof is about has more than 2^40 bytes.
     FileTooLong,
     /// Two proofs are of different digests, or their digests are made by different hashes.
@@ -69,6 +78,8 @@ impl Status {
             Status::WriteFault => 7,
             Status::TooBig => 8,
             Status::BadHeaders(_) => 9,
+            Status::TooFew { .. } => 10,
+            Status::NonceFault => 11,
             Status::FileTooLong => 12,
             Status::Differs { .. } => 13,
             Status::BadAddress { .. } => 14,

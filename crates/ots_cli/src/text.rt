@@ -8,14 +8,15 @@ ghost use Rattle.ots_printer.specs.Printing.{Puts};
 ghost use Rattle.ots_cli.specs.CarriedOut.{SinkStays};
 ghost use Rattle.ots_cli.specs.Decided.{IsTextOf};
 ghost use Rattle.ots_cli.specs.Refusal.{bad_words, refusal_text};
+ghost use Rattle.ots_cli.specs.Stamping.{wrote_text};
 ghost use Rattle.ots_cli.specs.Text.{complete_status, complete_text, verdict_status, verdict_text, yes_words};
-ghost use Rattle.ots_cli.specs.declared.status.Status.TheVariants.{BadAddress, BadProof, Differs};
+ghost use Rattle.ots_cli.specs.declared.status.Status.TheVariants.{BadAddress, BadProof, Differs, TooFew};
 
 use crate::ending::Text;
 use crate::status::Status;
 use ots_eval::{Chain, Verdict};
 use ots_info::{put_pair, put_proof};
-use ots_lines::put_asked;
+use ots_lines::{put_asked, put_calendars};
 use ots_ops::{Digest, HashOp};
 use ots_outside::{Failed, Sink};
 use ots_printer::Printer;
@@ -61,6 +62,8 @@ fn put_text<K: Sink>(text: &Text<'_>, status: &Status, out: &mut Printer<'_, K>)
         Text::Refusal(name) => put_refusal(name, status, out),
         Text::Asked(asked) => put_asked(asked.items(), out),
         Text::Complete(complete) => put_complete(*complete, out),
+        Text::Calendars(replies) => put_calendars(&replies.calendars, &replies.outcomes, out),
+        Text::Wrote(name) => put_wrote(name, out),
     }
 }
 
@@ -126,6 +129,16 @@ pub fn complete_status(complete: bool) -> Status
     if complete { Status::Done } else { Status::No }
 }
 
+/// Puts the line that tells that the proof of a file was made.
+fn put_wrote<K: Sink>(name: &str, out: &mut Printer<'_, K>)
+    ensures { Puts K.taken K.faults K.same (wrote_text name.now) out.old out.new }
+{
+    out.word("wrote ");
+    out.word(name);
+    out.word(".ots");
+    out.word("\n");
+}
+
 // ---- refusals
 
 /// Puts the line of a refusal over a name, or nothing where the status has none.
@@ -147,6 +160,8 @@ fn put_refusal<K: Sink>(name: &str, status: &Status, out: &mut Printer<'_, K>)
             out.number(*length);
             out.word("\n");
         }
+        Status::TooFew { got, wanted } => put_too_few(*got, *wanted, out),
+        Status::NonceFault => out.word("nonce fault\n"),
         Status::FileTooLong => put_line("file too long ", name, out),
         Status::BadAddress { place, https } => put_bad_address(*place, *https, out),
         Status::Differs {
@@ -199,6 +214,17 @@ fn bad_words(https: bool) -> &'static str
     } else {
         "bad address at "
     }
+}
+
+/// Puts the line for too few calendars.
+fn put_too_few<K: Sink>(got: u32, wanted: u32, out: &mut Printer<'_, K>)
+    ensures { Puts K.taken K.faults K.same (refusal_text [] (TooFew got wanted)) out.old out.new }
+{
+    out.word("too few ");
+    out.number(got as u64);
+    out.word(" of ");
+    out.number(wanted as u64);
+    out.word("\n");
 }
 
 /// Puts the line for two proofs that can't be joined.

@@ -26,23 +26,24 @@ pub fn run<S: Shelf, K: Sink>(
     out: &mut K,
 ) -> Result<Status, Fail> {
     let mut dialer = ScriptDialer::new(alloc, &[], NO_CALENDARS, &[])?;
-    run_with(alloc, words, shelf, out, &mut dialer)
+    let mut nonces = ListNonces::new(alloc, &[], &[])?;
+    run_with(alloc, words, shelf, out, &mut dialer, &mut nonces)
 }
 
-/// A run over any shelf and any sink, with these calendars and no nonces.
+/// A run over any shelf and any sink, with these calendars and nonces.
 fn run_with<S: Shelf, K: Sink>(
     alloc: Global,
     words: &[&str],
     shelf: &mut S,
     out: &mut K,
     dialer: &mut ScriptDialer,
+    nonces: &mut ListNonces,
 ) -> Result<Status, Fail> {
     let mut owned = Vec::new(alloc);
     for word in words {
         owned.push(word.to_string(alloc)?)?;
     }
-    let mut nonces = ListNonces::new(alloc, &[], &[])?;
-    Ok(run_client(alloc, &owned, shelf, out, dialer, &mut nonces))
+    Ok(run_client(alloc, &owned, shelf, out, dialer, nonces))
 }
 
 /// How a run ended, what the shelf holds then, and what was printed.
@@ -62,24 +63,39 @@ pub fn run_on(
     failing: &[u64],
     failing_writes: &[u64],
 ) -> Result<Ended, Fail> {
-    let mut shelf = shelf_with(alloc, files, failing)?;
+    let mut shelf = shelf_with(alloc, files, ONE_MORE, failing)?;
     let mut out = BytesSink::new(alloc, 20_000, failing_writes)?;
     let status = run(alloc, words, &mut shelf, &mut out)?;
     Ok(Ended { status, shelf, out })
 }
 
-/// A shelf that holds these files, and has room for one more and four slots. The calls that are listed
-/// fail.
-fn shelf_with(alloc: Global, files: &[(&str, &[u8])], failing: &[u64]) -> Result<MapShelf, Fail> {
+/// How many names more a shelf has room for, and how long a name may be.
+#[derive(Clone, Copy)]
+struct MoreNames(u8, u8);
+
+/// One output.
+const ONE_MORE: MoreNames = MoreNames(1, 1);
+
+/// The proofs of three files.
+const THREE_PROOFS: MoreNames = MoreNames(3, 5);
+
+/// A shelf that holds these files, and has room for so many names more and six slots. The calls that
+/// are listed fail.
+fn shelf_with(
+    alloc: Global,
+    files: &[(&str, &[u8])],
+    more: MoreNames,
+    failing: &[u64],
+) -> Result<MapShelf, Fail> {
     let mut longest = 256;
     for (_, bytes) in files {
         longest = bytes.len().max(longest);
     }
     let room = ShelfRoom {
-        names: files.len() + 1,
-        name_length: 1,
+        names: files.len() + more.0 as usize,
+        name_length: more.1 as usize,
         bytes: longest,
-        slots: 4,
+        slots: 6,
     };
     let mut shelf = MapShelf::new(alloc, room, failing)?;
     for (name, bytes) in files {
@@ -105,10 +121,28 @@ pub fn run_asking(
     replies: &[&[u8]],
     failing: Failing<'_>,
 ) -> Result<(Ended, ScriptDialer), Fail> {
-    let mut shelf = shelf_with(alloc, files, failing.shelf)?;
+    let mut shelf = shelf_with(alloc, files, ONE_MORE, failing.shelf)?;
     let mut out = BytesSink::new(alloc, 20_000, failing.writes)?;
     let mut dialer = ScriptDialer::new(alloc, replies, CALENDARS, failing.dialer)?;
-    let status = run_with(alloc, words, &mut shelf, &mut out, &mut dialer)?;
+    let mut nonces = ListNonces::new(alloc, &[], &[])?;
+    let status = run_with(alloc, words, &mut shelf, &mut out, &mut dialer, &mut nonces)?;
+    Ok((Ended { status, shelf, out }, dialer))
+}
+
+/// A run where the shelf holds these files and has room for the proofs of three, calendars give these
+/// replies and these nonces are drawn; and what was sent.
+pub fn run_stamping(
+    alloc: Global,
+    words: &[&str],
+    files: &[(&str, &[u8])],
+    replies: &[&[u8]],
+    failing: Failing<'_>,
+    nonces: &mut ListNonces,
+) -> Result<(Ended, ScriptDialer), Fail> {
+    let mut shelf = shelf_with(alloc, files, THREE_PROOFS, failing.shelf)?;
+    let mut out = BytesSink::new(alloc, 20_000, failing.writes)?;
+    let mut dialer = ScriptDialer::new(alloc, replies, CALENDARS, failing.dialer)?;
+    let status = run_with(alloc, words, &mut shelf, &mut out, &mut dialer, nonces)?;
     Ok((Ended { status, shelf, out }, dialer))
 }
 

@@ -7,9 +7,9 @@ use Rattle.ots_disk.specs.Moments.{before_step}
 use Rattle.ots_journal.specs.declared.entry.Entry.{Entry}
 use Rattle.ots_journal.specs.declared.errors.JournalError.{JournalError}
 use Rattle.ots_journal.specs.declared.errors.JournalError.TheVariants.{DiskFault, Full, OldVersion, NotAJournal, Damaged, OutOfMemory}
-use Rattle.ots_journal.specs.Image.{magic, open_gate, Stands}
+use Rattle.ots_journal.specs.Image.{magic, open_gate, Stands, StandsLong}
 use Rattle.ots_journal.specs.Journal.{Keeps}
-use Rattle.ots_journal.specs.Opening.{FoundTo, Refuses, OpenedFrom, StoodFor}
+use Rattle.ots_journal.specs.Opening.{FoundTo, Refuses, IsGate, OpenedFrom, StoodFor}
 
 zero_is_closed : 0 ≢ open_gate
 zero_is_closed is = absurd (omega (arith, is))
@@ -38,16 +38,23 @@ small_torn images settled fewer short c after =
 
 -- ---- a longer file
 
-pub found_stands : (bytes : List ℕ) (entries : List Entry) (place : ℕ) → 9 < length bytes → FoundTo bytes entries place → Stands bytes entries
-found_stands bytes entries place long f = inr (record {
-  long = long;
-  groups = f.read.groups;
-  gate = f.read.gate;
-  rest = f.read.rest;
-  begins = f.read.begins;
-  closed = f.closed;
-  joined = f.read.joined;
-})
+module _ (bytes : List ℕ) (entries : List Entry) (place : ℕ) (long : 9 < length bytes) (f : FoundTo bytes entries place) where
+  abbrev found_long : StandsLong bytes entries
+  found_long = record {
+    long = long;
+    groups = f.read.groups;
+    gate = f.read.gate;
+    rest = f.read.rest;
+    begins = f.read.begins;
+    closed = f.closed;
+    joined = f.read.joined;
+  }
+
+  pub found_stands : Stands bytes entries
+  found_stands = inr found_long
+
+  pub found_gate : IsGate bytes place
+  found_gate = inr (record { entries = entries; long = found_long; at = f.read.at })
 
 pub found_keeps : (later : List ℕ → Type 0) (bytes : List ℕ) (entries : List Entry) (place : ℕ) → FoundTo bytes entries place → ((c : List ℕ) → later c → c ≡ bytes) → Keeps later entries [] true place
 found_keeps later bytes entries place f only = record {

@@ -7,8 +7,8 @@ use Rattle.std.specs.Int.{w32, to_be_bytes, from_be_bytes}
 use Rattle.ots_journal.specs.declared.entry.Entry.{Entry}
 use Rattle.ots_journal.specs.declared.errors.JournalError.{JournalError}
 use Rattle.ots_journal.specs.declared.errors.JournalError.TheVariants.{DiskFault, Full, OldVersion, NotAJournal, Damaged, OutOfMemory}
-use Rattle.ots_journal.specs.Image.{magic, open_gate, entry_bytes, entries_bytes, group_body, group_bytes, FitsEntry, FitsGroup, entries_of, Stands, StandsLong}
-use Rattle.ots_journal.specs.Opening.{magic1, HasGroup, IsDamaged, Refuses, IsOfBytes}
+use Rattle.ots_journal.specs.Image.{magic, open_gate, entry_bytes, entries_bytes, group_body, group_bytes, FitsEntry, FitsGroup, entries_of, front, Stands, StandsLong}
+use Rattle.ots_journal.specs.Opening.{magic1, HasGroup, IsDamaged, Refuses, IsGate, IsOfBytes}
 use Rattle.ots_journal.proofs.GroupReading.{entries_bound, unique_rest}
 
 unique_group : (f h : List Entry) (xs ys : List ℕ) → FitsGroup f → FitsGroup h → group_body f ++ xs ≡ group_body h ++ ys → xs ≡ ys
@@ -98,7 +98,7 @@ same_group f h xs ys fits_f fits_h same =
     unique_entries f h fits_f.payloads fits_h.payloads (sym (take_at (entries_bytes f) xs n refl) ∙ ap (λ (l : List ℕ). take n l) rests ∙ take_at (entries_bytes h) ys n (sym is))
 
 walk_same : (fs hs : List (List Entry)) (g k : ℕ) (r s : List ℕ) → AllByRecursion FitsGroup fs → AllByRecursion FitsGroup hs
-    → flat_map group_bytes fs ++ g ∷ r ≡ flat_map group_bytes hs ++ k ∷ s → g ≢ open_gate → k ≢ open_gate → entries_of fs ≡ entries_of hs
+    → flat_map group_bytes fs ++ g ∷ r ≡ flat_map group_bytes hs ++ k ∷ s → g ≢ open_gate → k ≢ open_gate → fs ≡ hs
 walk_same [] [] g k r s fit_f fit_h same closed_g closed_k = refl
 walk_same [] (h ∷ hs) g k r s fit_f fit_h same closed_g closed_k = absurd (closed_g (head_is g open_gate r ((group_body h ++ flat_map group_bytes hs) ++ k ∷ s) same))
 walk_same (f ∷ fs) [] g k r s fit_f fit_h same closed_g closed_k = absurd (closed_k (sym (head_is open_gate k ((group_body f ++ flat_map group_bytes fs) ++ g ∷ r) s same)))
@@ -107,14 +107,26 @@ walk_same (f ∷ fs) (h ∷ hs) g k r s fit_f fit_h same closed_g closed_k =
     let ys = flat_map group_bytes hs ++ k ∷ s in
     let tails : group_body f ++ xs ≡ group_body h ++ ys =
     sym (append_assoc (group_body f) (flat_map group_bytes fs) (g ∷ r)) ∙ ap (λ (l : List ℕ). drop 1 l) same ∙ append_assoc (group_body h) (flat_map group_bytes hs) (k ∷ s) in
-    ap (λ (l : List Entry). l ++ entries_of fs) (same_group f h xs ys fit_f.0 fit_h.0 tails)
-    ∙ ap (λ (l : List Entry). h ++ l) (walk_same fs hs g k r s fit_f.1 fit_h.1 (unique_group f h xs ys fit_f.0 fit_h.0 tails) closed_g closed_k)
+    ap (λ (l : List Entry). l ∷ fs) (same_group f h xs ys fit_f.0 fit_h.0 tails)
+    ∙ ap (λ (l : List (List Entry)). h ∷ l) (walk_same fs hs g k r s fit_f.1 fit_h.1 (unique_group f h xs ys fit_f.0 fit_h.0 tails) closed_g closed_k)
+
+groups_once : (bytes : List ℕ) (es fs : List Entry) (first : StandsLong bytes es) (second : StandsLong bytes fs) → first.groups ≡ second.groups
+groups_once bytes es fs first second =
+    walk_same first.groups second.groups first.gate second.gate first.rest second.rest first.begins.fit second.begins.fit
+    (ap (λ (l : List ℕ). drop 8 l) (sym first.begins.whole ∙ second.begins.whole)) first.closed second.closed
 
 pub stands_once : (bytes : List ℕ) (es fs : List Entry) → Stands bytes es → Stands bytes fs → es ≡ fs
 stands_once bytes es fs first second = ⊎_elim
     (λ short. ⊎_elim (λ again. short.1 ∙ sym again.1) (λ long. absurd (omega (arith, short.0, long.long))) second)
     (λ long. ⊎_elim (λ short. absurd (omega (arith, short.0, long.long)))
-    (λ again. long.joined ∙ walk_same long.groups again.groups long.gate again.gate long.rest again.rest long.begins.fit again.begins.fit (ap (λ (l : List ℕ). drop 8 l) (sym long.begins.whole ∙ again.begins.whole)) long.closed again.closed ∙ sym again.joined) second)
+    (λ again. long.joined ∙ ap entries_of (groups_once bytes es fs long again) ∙ sym again.joined) second)
+    first
+
+pub gate_once : (bytes : List ℕ) (p q : ℕ) → IsGate bytes p → IsGate bytes q → p ≡ q
+gate_once bytes p q first second = ⊎_elim
+    (λ short. ⊎_elim (λ again. short.1 ∙ sym again.1) (λ long. let l = long.long.long in absurd (omega (arith, short.0, l))) second)
+    (λ long. ⊎_elim (λ short. let l = long.long.long in absurd (omega (arith, short.0, l)))
+    (λ again. long.at ∙ ap (λ (groups : List (List Entry)). length (front groups)) (groups_once bytes long.entries again.entries long.long again.long) ∙ sym again.at) second)
     first
 
 -- ---- one refusal at most

@@ -4,7 +4,7 @@ ghost use Rattle.ots_base.specs.Told.{IfTold};
 ghost use Rattle.ots_disk.specs.Disk.{LeavesOnly};
 ghost use Rattle.ots_journal.specs.declared.entry.Entry.{Entry};
 ghost use Rattle.ots_journal.specs.Image.{Stands, FitsGroup};
-ghost use Rattle.ots_journal.specs.Opening.{Refuses, OpenedFrom, StoodFor, IsFullOrCause, IsOfBytes};
+ghost use Rattle.ots_journal.specs.Opening.{Refuses, OpenedFrom, StoodFor, IsFullOrCause, IsGate, IsOfBytes};
 ghost use Rattle.ots_journal.specs.Journal.{JournalTold, StandsForEither, StandsNow, Refreshed, Unrefreshed, Appends, UsesRoom, Keeps, Puts, Settles};
 ghost use Rattle.ots_journal.specs.Stored.{staged_bytes};
 
@@ -62,6 +62,7 @@ impl<D: Disk> Journal<D> {
         requires most { limit ≤ 2 ^ 30 }
         ensures sure { IfOk result (λ j. (j.is_sure ≡ true) × (j.flight ≡ []) × (j.limit ≡ limit)) }
         ensures list { IfTold (D.bytes disk) (λ b. IfOk result (λ j. Stands b j.entries)) }
+        ensures gate { IfTold (D.bytes disk) (λ b. IfOk result (λ j. IsGate b j.gate)) }
         ensures images { IfOk result (λ j. (c : List ℕ) → D.images j.disk c → Stands c j.entries) }
         ensures why { IfTold (D.bytes disk) (λ b. IfErr result (λ r. Refuses limit b r.why)) }
         ensures full { IfTold (D.bytes disk) (λ b. limit < length b → MatchResult result (λ _. ⊥) (λ r. IsFullOrCause r.why)) }

@@ -1,7 +1,7 @@
 //! What the definitions say of bytes, beside what each call says.
 ghost use Rattle.std.specs.Prelude.{◌≡◌, ℕ, List};
 ghost use Rattle.ots_journal.specs.Image.{Stands};
-ghost use Rattle.ots_journal.specs.Opening.{Refuses, IsOfBytes};
+ghost use Rattle.ots_journal.specs.Opening.{Refuses, IsGate, IsOfBytes};
 ghost use Rattle.ots_journal.specs.Version1.{Stands1};
 ghost use Rattle.ots_journal.specs.declared.entry.Entry.{Entry};
 ghost use Rattle.ots_journal.specs.declared.errors.JournalError.{JournalError};
@@ -14,6 +14,11 @@ pub fn standing_is_not_refused()
 /// Bytes stand for one list at most.
 pub fn bytes_stand_once()
     ensures { (bytes : List ℕ) (first second : List Entry) → Stands bytes first → Stands bytes second → first ≡ second }
+{}
+
+/// Bytes have the next group's gate at one place at most.
+pub fn one_gate()
+    ensures { (bytes : List ℕ) (first second : ℕ) → IsGate bytes first → IsGate bytes second → first ≡ second }
 {}
 
 /// Bytes have one such refusal at most, and one damaged place.

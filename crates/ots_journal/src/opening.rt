@@ -4,7 +4,7 @@ ghost use Rattle.ots_base.specs.Told.{IfTold};
 ghost use Rattle.ots_disk.specs.Disk.{LeavesOnly};
 ghost use Rattle.ots_journal.specs.Image.{Stands};
 ghost use Rattle.ots_journal.specs.Journal.{Keeps};
-ghost use Rattle.ots_journal.specs.Opening.{Refuses, OpenedFrom, IsFullOrCause};
+ghost use Rattle.ots_journal.specs.Opening.{Refuses, OpenedFrom, IsFullOrCause, IsGate};
 
 use crate::device::write_durably;
 use crate::finding::{MAGIC_2, find_entries};
@@ -31,6 +31,7 @@ pub fn find_journal<D: Disk>(
     ensures within { IfOk result (λ s. s.size < limit) }
     ensures settled { IfOk result (λ s. (s.flight ≡ []) × (s.staged ≡ [])) }
     ensures list { IfTold (D.bytes disk.old) (λ b. IfOk result (λ s. Stands b s.entries)) }
+    ensures gate { IfTold (D.bytes disk.old) (λ b. IfOk result (λ s. IsGate b s.size)) }
     ensures why { IfTold (D.bytes disk.old) (λ b. IfErr result (Refuses limit b)) }
     ensures full { IfTold (D.bytes disk.old) (λ b. limit < length b → MatchResult result (λ _. ⊥) IsFullOrCause) }
     ensures stays { IfTold (D.bytes disk.old) (λ b. 9 < length b → D.bytes disk.new ≡ Some b) }

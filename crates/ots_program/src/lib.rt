@@ -4,32 +4,29 @@
 #![tactic(auto)]
 
 use ots_cli::{Status, run_client};
-use ots_io::{DirShelf, ListNonces, OutOfMemory, StdSink, TcpDialer};
+use ots_io::{DirShelf, RngNonces, StdSink, TcpDialer};
+use rand::rngs::SysRng;
 use std::alloc::{AllocError, Global};
-use std::io::{ErrorKind, Print};
-use std::net::Net;
+use std::io::ErrorKind;
 use std::process::ExitCode;
-use std::rt::{Env, Files};
-use std::time::Clock;
+use std::rt::Env;
 use std::{env, io};
 
 /// Runs the client on the words behind the program's name, over the files, standard output, sockets
-/// to calendars and no nonces, and answers the number of its status as an exit code.
-pub fn run_program(rt: &(impl Env + Files + Print + Net + Clock + AllocGlobal)) -> ExitCode {
+/// to calendars and the system's random source, and answers the number of its status as an exit
+/// code.
+pub fn run_program(rt: &HostRuntime) -> ExitCode {
     let status = run(rt, rt.alloc()).unwrap_or(Status::OutOfMemory);
     ExitCode::from(status.number())
 }
 
 // Runs the client over the real objects.
-fn run(
-    rt: &(impl Env + Files + Print + Net + Clock + AllocGlobal),
-    alloc: Global,
-) -> Result<Status, OutOfMemory> {
+fn run(rt: &HostRuntime, alloc: Global) -> Result<Status, AllocError> {
     let words = read_words(rt, alloc)?;
     let mut shelf = DirShelf::new(rt, alloc);
     let mut out = StdSink::new(io::writer(rt));
     let mut dialer = TcpDialer::new(rt, alloc);
-    let mut nonces = ListNonces::new(alloc, &[], &[])?;
+    let mut nonces = RngNonces::new(SysRng::new(rt));
     Ok(run_client(
         alloc,
         &words,

@@ -1,6 +1,15 @@
 mod Opened
+mod Putting
+mod Rounding
 mod Running
+mod Shelves
+mod Taking
 mod Tipping
 mod Listing
 mod Anchoring
+mod Gathering
 mod Inputs
+mod TreeLines
+mod Closing
+mod Carrying
+mod Migrating

@@ -10,7 +10,7 @@ use Rattle.ots_store.specs.Records.{Record, AnchorRecord, IsRecord, HasForm, anc
 use Rattle.ots_server_text.specs.Lines.{anchor_line}
 use Rattle.ots_server.specs.List.{lines_from, list_text, record_line}
 
-commits-append : (records more : List Record) → commits_of (records ++ more) ≡ commits_of records ++ commits_of more
+pub commits-append : (records more : List Record) → commits_of (records ++ more) ≡ commits_of records ++ commits_of more
 commits-append [] more = refl
 commits-append (r ∷ records) more = ap (λ (z : List (List ℕ)). commit_in r ++ z) (commits-append records more) ∙ sym (append_assoc (commit_in r) (commits_of records) (commits_of more))
 

@@ -18,7 +18,7 @@ use Rattle.ots_store.specs.Opening.{IfBad}
 use Rattle.ots_store.specs.Order.{FirstBad, records_of}
 use Rattle.ots_calendar.specs.Values.{FirstUntrue}
 use Rattle.ots_server_text.specs.declared.status.DaemonStatus.{DaemonStatus}
-use Rattle.ots_server.specs.Found.{AreEntries, AreWithin, Closes, Opens, HasRecords, MayClose, is_refused, disk_failed, no_memory, RefusesBook, RefusesStore, journal_status, store_status}
+use Rattle.ots_server.specs.Found.{AreEntries, AreWithin, Closes, HasGate, Opens, HasRecords, MayClose, is_refused, disk_failed, no_memory, RefusesBook, RefusesStore, journal_status, store_status}
 
 -- what is not longer
 pub not_long : (told : Option (List ℕ)) → IfTold told (λ bytes. MAX_JOURNAL < length bytes → ⊥) → AreWithin told
@@ -49,13 +49,14 @@ module _ (told : Option (List ℕ)) (disk : Type 0) where
 
 module _ {D : Type 0} (bytes : D → Option (List ℕ)) (faults clock : D → ℕ) (images : D → List ℕ → Type 0) (images_since : D → ℕ → List ℕ → Type 0) (disk : D) where
   -- the store of a journal that was opened
-  pub store_opened : (j k : JournalTold D) → k ≡ j → j.is_sure ≡ true → j.limit ≡ MAX_JOURNAL → IfTold (bytes disk) (λ b. MAX_JOURNAL < length b → ⊥) → AreEntries (bytes disk) j.entries
+  pub store_opened : (j k : JournalTold D) → k ≡ j → j.is_sure ≡ true → j.limit ≡ MAX_JOURNAL → IfTold (bytes disk) (λ b. MAX_JOURNAL < length b → ⊥) → AreEntries (bytes disk) j.entries → HasGate (bytes disk) j.gate
       → ((c : List ℕ) → images j.disk c → Stands c j.entries) → LeavesOnly clock images_since disk j.disk (OpenedFrom (images disk)) → faults disk ≤ faults j.disk → InRecords j.entries
       → Opens bytes faults clock images images_since disk k
-  store_opened j k same sure limit long stand each moments later are = subst (Opens bytes faults clock images images_since disk) (sym same) (record {
+  store_opened j k same sure limit long stand gate each moments later are = subst (Opens bytes faults clock images images_since disk) (sym same) (record {
     sure = sure;
     limit = limit;
     has = record { within = not_long (bytes disk) long; stand = stand; records = are };
+    gate = gate;
     each = each;
     moments = moments;
     later = later;

@@ -1,5 +1,5 @@
 -- A task on the book of a disk, from opening it on; and a whole run.
-use Rattle.std.proofs.Common.{◌≡◌, ◌≤◌, inl, inr, ℕ, List, [], length, Option, refl, sym, ap, subst, arith}
+use Rattle.std.proofs.Common.{◌≡◌, ◌⊎◌, ◌≤◌, inl, inr, ℕ, List, [], length, Option, refl, sym, ap, subst, ◌∙◌, arith}
 use Rattle.ots_base.specs.Cause.{Rose}
 use Rattle.ots_block.specs.Block.{Contents}
 use Rattle.ots_disk.specs.Disk.{LeavesOnly}
@@ -18,12 +18,13 @@ use Rattle.ots_server.specs.declared.task.Task.{Task}
 use Rattle.ots_server.specs.List.{list_text}
 use Rattle.ots_server.specs.Task.{TaskAdds, TaskAnswers}
 use Rattle.ots_server.specs.Tip.{TipAnswers}
-use Rattle.ots_server.specs.Answer.{Answers, IsUsage, ListAnswers, MayAdd, WithBook, is_opened, is_refused as not_opened}
-use Rattle.ots_server.specs.Ending.{Comes, as_defined, not_read, disk_failed, no_memory, Ending, Ends, done, nowhere, refused}
+use Rattle.ots_server.specs.Answer.{Answers, IsReady, IsUsage, ListAnswers, MayAdd, MayDraw, WithBook, WithJournal, is_opened, is_refused as not_opened}
+use Rattle.ots_server.specs.Batch.{Outside, RoundAnswers}
+use Rattle.ots_server.specs.Ending.{Comes, as_defined, not_read, disk_failed, no_memory, Completes, Ending, Ends, NoFaults, done, nowhere, refused}
 use Rattle.ots_outside.specs.Shelf.{Names, ShelfFaults, ShelfTold}
 use Rattle.ots_server.specs.Anchor.{AnchorAnswers}
-use Rattle.ots_server.specs.Files.{ReadsShelf, StopsAt, names_read}
-use Rattle.ots_server.specs.Found.{AreEntries, Closes, MayClose, is_refused, disk_failed as failed, no_memory as no_room, OpensBook, RefusesBook}
+use Rattle.ots_server.specs.Files.{ReadsShelf, StopsAt, not_opened, opened_last, names_read}
+use Rattle.ots_server.specs.Found.{AreEntries, Closes, MayClose, is_refused, disk_failed as failed, no_memory as no_room, HasBook, Opens, OpensBook, RefusesBook}
 use Rattle.ots_server.specs.Moments.{IsOnlyImage, OpenedOrRan, StandsWith}
 use Rattle.ots_server.specs.Printed.{PrintsLast}
 
@@ -37,42 +38,54 @@ comes_as e p rose (not_read name at is) = not_read name at is
 comes_as e p rose (disk_failed fault is) = disk_failed (rose fault) is
 comes_as e p rose (no_memory is) = no_memory is
 
--- ---- a task on a book
+-- ---- what is done on a journal that was opened
 
 module _ {D : Type 0} (bytes : D → Option (List ℕ)) (faults clock : D → ℕ) (images : D → List ℕ → Type 0) (images_since : D → ℕ → List ℕ → Type 0) where
+  module _ (Has : Option (List ℕ) → List Entry → Type 0) (Refuses : Option (List ℕ) → DaemonStatus → Type 0) (answers : ℕ → List Entry → Ending → Type 0) (printing : Type 0) (taken now : Option (List ℕ)) (r : DaemonStatus) where
+    pub journal_ends : (disk : D) (j : JournalTold D) (last new : D) → new ≡ last → Opens bytes faults clock images images_since disk j → Has (bytes disk) j.entries
+        → Ends (Comes (answers j.gate j.entries) nowhere (Rose (faults j.disk) (faults last))) (images last) printing taken now r
+        → Ends (Comes (WithJournal Has Refuses (bytes disk) answers) nowhere (Rose (faults disk) (faults new))) (images new) printing taken now r
+    journal_ends disk j last new same opens has h =
+        subst (λ (z : D). Ends (Comes (WithJournal Has Refuses (bytes disk) answers) nowhere (Rose (faults disk) (faults z))) (images z) printing taken now r) (sym same) (record {
+          ending = h.ending;
+          comes = comes_as h.ending (λ a. is_opened j.gate j.entries has opens.gate a) (rose_later (faults disk) (faults j.disk) (faults last) opens.later) h.comes;
+          stand = h.stand;
+          printed = h.printed;
+        })
+
+    pub no_journal : (disk new : D) (s : DaemonStatus) → Closes bytes faults clock images images_since Refuses disk new s
+        → PrintsLast printing s (refusal_text [] s) taken now r
+        → Ends (Comes (WithJournal Has Refuses (bytes disk) answers) nowhere (Rose (faults disk) (faults new))) (images new) printing taken now r
+    no_journal disk new s closes printed = record { ending = refused [] s; comes = by closes.why; stand = tt; printed = printed }
+      where
+        by : MayClose (Refuses (bytes disk)) (Rose (faults disk) (faults new)) s → Comes (WithJournal Has Refuses (bytes disk) answers) nowhere (Rose (faults disk) (faults new)) (refused [] s)
+        by (is_refused h) = as_defined (not_opened s h refl)
+        by (failed rose is) = disk_failed rose (ap (refused []) is)
+        by (no_room is) = no_memory (ap (refused []) is)
+
   module _ (answers : ℕ → List Entry → Ending → Type 0) (printing : Type 0) (taken now : Option (List ℕ)) (r : DaemonStatus) where
     pub opened_ends : (disk : D) (j : JournalTold D) (last new : D) → new ≡ last → OpensBook bytes faults clock images images_since disk j
         → Ends (Comes (answers j.gate j.entries) nowhere (Rose (faults j.disk) (faults last))) (images last) printing taken now r
         → Ends (Comes (WithBook (bytes disk) answers) nowhere (Rose (faults disk) (faults new))) (images new) printing taken now r
     opened_ends disk j last new same opens h =
-        subst (λ (z : D). Ends (Comes (WithBook (bytes disk) answers) nowhere (Rose (faults disk) (faults z))) (images z) printing taken now r) (sym same) (record {
-          ending = h.ending;
-          comes = comes_as h.ending (λ a. is_opened j.gate j.entries (record { store = opens.store.has; are_true = opens.are_true }) a)
-              (rose_later (faults disk) (faults j.disk) (faults last) opens.store.later) h.comes;
-          stand = h.stand;
-          printed = h.printed;
-        })
+        journal_ends HasBook RefusesBook answers printing taken now r disk j last new same opens.store (record { store = opens.store.has; are_true = opens.are_true }) h
 
     pub closed_ends : (disk new : D) (s : DaemonStatus) → Closes bytes faults clock images images_since RefusesBook disk new s
         → PrintsLast printing s (refusal_text [] s) taken now r
         → Ends (Comes (WithBook (bytes disk) answers) nowhere (Rose (faults disk) (faults new))) (images new) printing taken now r
-    closed_ends disk new s closes printed = record { ending = refused [] s; comes = by closes.why; stand = tt; printed = printed }
-      where
-        by : MayClose (RefusesBook (bytes disk)) (Rose (faults disk) (faults new)) s → Comes (WithBook (bytes disk) answers) nowhere (Rose (faults disk) (faults new)) (refused [] s)
-        by (is_refused h) = as_defined (not_opened s h refl)
-        by (failed rose is) = disk_failed rose (ap (refused []) is)
-        by (no_room is) = no_memory (ap (refused []) is)
+    closed_ends disk new s closes printed = no_journal HasBook RefusesBook answers printing taken now r disk new s closes printed
+
+  pub journal_moments : (adds : List Entry → List Entry → Type 0) (disk : D) (j : JournalTold D) (last new : D) → new ≡ last → Opens bytes faults clock images images_since disk j
+      → LeavesOnly clock images_since j.disk last (StandsWith (adds j.entries) j.entries)
+      → LeavesOnly clock images_since disk new (OpenedOrRan (bytes disk) (images disk) adds)
+  journal_moments adds disk j last new same opens ran =
+      subst (λ (z : D). LeavesOnly clock images_since disk z (OpenedOrRan (bytes disk) (images disk) adds)) (sym same)
+      (joined clock images_since disk j.disk last _ _ _ opens.moments ran (λ c h. inl h) (λ c h. inr (j.entries, opens.has.stand, h)))
 
   pub opened_moments : (adds : List Entry → List Entry → Type 0) (disk : D) (j : JournalTold D) (last new : D) → new ≡ last → OpensBook bytes faults clock images images_since disk j
       → LeavesOnly clock images_since j.disk last (StandsWith (adds j.entries) j.entries)
       → LeavesOnly clock images_since disk new (OpenedOrRan (bytes disk) (images disk) adds)
-  opened_moments adds disk j last new same opens ran =
-      subst (λ (z : D). LeavesOnly clock images_since disk z (OpenedOrRan (bytes disk) (images disk) adds)) (sym same)
-      (joined clock images_since disk j.disk last _ _ _ opens.store.moments ran (λ c h. inl h) (λ c h. inr (j.entries, opens.store.has.stand, h)))
-
-  pub closed_moments : (adds : List Entry → List Entry → Type 0) (disk new : D) (s : DaemonStatus) → Closes bytes faults clock images images_since RefusesBook disk new s
-      → LeavesOnly clock images_since disk new (OpenedOrRan (bytes disk) (images disk) adds)
-  closed_moments adds disk new s closes = weaker clock images_since disk new _ _ closes.moments (λ c h. inl h)
+  opened_moments adds disk j last new same opens ran = journal_moments adds disk j last new same opens.store ran
 
 -- ---- a task on a sure book
 
@@ -107,21 +120,27 @@ list_ends gate entries listed disk images printing taken now r is stand printed 
 
 -- ---- by what the words ask for
 
-module _ (names : Option Names) (told : Option (List ℕ)) (o p : Option Command) (is : o ≡ p) where
+module _ (happens : Outside → Type 0) (faulted : Type 0) (names : Option Names) (told : Option (List ℕ)) (o p : Option Command) (is : o ≡ p) where
   pub asked_ends : (stops : List ℕ → Type 0) (disk : Type 0) (images : List ℕ → Type 0) (printing : Type 0) (taken now : Option (List ℕ)) (r : DaemonStatus)
-      → Ends (Comes (Answers names told p) stops disk) images printing taken now r → Ends (Comes (Answers names told o) stops disk) images printing taken now r
-  asked_ends stops disk images printing taken now r h = subst (λ (z : Option Command). Ends (Comes (Answers names told z) stops disk) images printing taken now r) (sym is) h
+      → Ends (Comes (Answers happens faulted names told p) stops disk) images printing taken now r → Ends (Comes (Answers happens faulted names told o) stops disk) images printing taken now r
+  asked_ends stops disk images printing taken now r h = subst (λ (z : Option Command). Ends (Comes (Answers happens faulted names told z) stops disk) images printing taken now r) (sym is) h
 
   pub asked_reads : (old new : Option (List (List ℕ))) (before after : ShelfFaults) (disk : Type 0) (images : List ℕ → Type 0) (printing : Type 0) (taken now : Option (List ℕ)) (r : DaemonStatus)
-      → Ends (Comes (Answers names told p) (StopsAt (names_read p) old new before after) disk) images printing taken now r
-      → Ends (Comes (Answers names told o) (StopsAt (names_read o) old new before after) disk) images printing taken now r
+      → Ends (Comes (Answers happens faulted names told p) (StopsAt (names_read p) old new before after) disk) images printing taken now r
+      → Ends (Comes (Answers happens faulted names told o) (StopsAt (names_read o) old new before after) disk) images printing taken now r
   asked_reads old new before after disk images printing taken now r h =
-      subst (λ (z : Option Command). Ends (Comes (Answers names told z) (StopsAt (names_read z) old new before after) disk) images printing taken now r) (sym is) h
+      subst (λ (z : Option Command). Ends (Comes (Answers happens faulted names told z) (StopsAt (names_read z) old new before after) disk) images printing taken now r) (sym is) h
 
   pub asked_moments : {D : Type 0} (clock : D → ℕ) (images_since : D → ℕ → List ℕ → Type 0) (images : List ℕ → Type 0) (old new : D)
-      → LeavesOnly clock images_since old new (OpenedOrRan told images (MayAdd names p)) → LeavesOnly clock images_since old new (OpenedOrRan told images (MayAdd names o))
+      → LeavesOnly clock images_since old new (OpenedOrRan told images (MayAdd happens names p)) → LeavesOnly clock images_since old new (OpenedOrRan told images (MayAdd happens names o))
   asked_moments clock images_since images old new h =
-      subst (λ (z : Option Command). LeavesOnly clock images_since old new (OpenedOrRan told images (MayAdd names z))) (sym is) h
+      subst (λ (z : Option Command). LeavesOnly clock images_since old new (OpenedOrRan told images (MayAdd happens names z))) (sym is) h
+
+  pub asked_nonces : (same : Type 0) → same ⊎ MayDraw happens names p → same ⊎ MayDraw happens names o
+  asked_nonces same h = subst (λ (z : Option Command). same ⊎ MayDraw happens names z) (sym is) h
+
+pub asked_ready : (names : Option Names) (o p : Option Command) → o ≡ p → (same : Type 0) → same ⊎ IsReady names p → same ⊎ IsReady names o
+asked_ready names o p is same h = subst (λ (z : Option Command). same ⊎ IsReady names z) (sym is) h
 
 pub asked_shelf : (o p : Option Command) → o ≡ p → (old new : ShelfTold) (before after : ShelfFaults) (r : DaemonStatus)
     → ReadsShelf (names_read p) old new before after r → ReadsShelf (names_read o) old new before after r
@@ -162,3 +181,31 @@ crash_leaves told images adds entries one c (inl (inr (short, (d, image, also)))
 crash_leaves told images adds entries one c (inr (found, are, stands)) =
     let stand : Stands one.bytes found = subst (λ (z : Option (List ℕ)). AreEntries z found) one.is_told are in
     subst (λ (z : List Entry). StandsWith (adds z) z c) (stands_once one.bytes found entries stand one.stand) stands
+
+-- ---- a round, by the journal's limit
+
+pub round_within : (happens : Outside → Type 0) (faulted : Type 0) (limit most : ℕ) (key uri : List ℕ) (digests : List (List ℕ)) (gate : ℕ) (entries : List Entry) (disk : Type 0) (images : List ℕ → Type 0) (printing : Type 0)
+    (taken now : Option (List ℕ)) (r : DaemonStatus) → limit ≡ most → Ends (Comes (RoundAnswers happens faulted limit key uri digests gate entries) nowhere disk) images printing taken now r
+    → Ends (Comes (RoundAnswers happens faulted most key uri digests gate entries) nowhere disk) images printing taken now r
+round_within happens faulted limit most key uri digests gate entries disk images printing taken now r is h =
+    subst (λ (z : ℕ). Ends (Comes (RoundAnswers happens faulted z key uri digests gate entries) nowhere disk) images printing taken now r) is h
+
+-- ---- where nothing failed
+
+still_read : (names : List (List ℕ)) (old new : Option (List (List ℕ))) (before now : ShelfFaults) (name : List ℕ) (disk out : Type 0) → NoFaults before now disk out → StopsAt names old new before now name → ⊥
+still_read names old new before now name disk out well (not_opened earlier later is opened rose) = well.opening rose
+still_read names old new before now name disk out well (opened_last earlier later is opened rose) = well.reading rose
+
+pub completes : (answers : Ending → Type 0) (names : List (List ℕ)) (old new : Option (List (List ℕ))) (before after : ShelfFaults) (disk : Type 0) (images : List ℕ → Type 0) (printing : Type 0)
+    (taken now : Option (List ℕ)) (r : DaemonStatus) → Ends (Comes answers (StopsAt names old new before after) disk) images printing taken now r → NoFaults before after disk printing → Completes answers r
+completes answers names old new before after disk images printing taken now r h well = by h.comes (status h.printed)
+  where
+    status : PrintsLast printing h.ending.status h.ending.text taken now r → r ≡ h.ending.status
+    status (inl whole) = whole.1
+    status (inr part) = absurd (well.out_well part.0)
+
+    by : Comes answers (StopsAt names old new before after) disk h.ending → r ≡ h.ending.status → Completes answers r
+    by (as_defined a) is = inr (h.ending, a, is)
+    by (not_read name at ended) is = absurd (still_read names old new before after name disk printing well at)
+    by (disk_failed fault ended) is = absurd (well.disk_well fault)
+    by (no_memory ended) is = inl (is ∙ ap (λ (z : Ending). z.status) ended)

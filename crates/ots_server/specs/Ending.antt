@@ -1,5 +1,7 @@
 -- How a run ends.
-use Rattle.std.specs.Prelude.{◌≡◌, ℕ, List, [], Option, Some, None}
+use Rattle.std.specs.Prelude.{◌≡◌, ◌⊎◌, ℕ, List, [], Option, Some, None}
+use Rattle.ots_base.specs.Cause.{Rose}
+use Rattle.ots_outside.specs.Shelf.{ShelfFaults}
 use Rattle.ots_journal.specs.declared.entry.Entry.{Entry}
 use Rattle.ots_journal.specs.Image.{Stands}
 use Rattle.ots_server_text.specs.Refusal.{refusal_text}
@@ -50,3 +52,14 @@ pub record Ends (may : Ending → Type 0) (images : List ℕ → Type 0) (printi
   pub comes : may ending
   pub stand : AllStand images ending.entries
   pub printed : PrintsLast printing ending.status ending.text taken now r
+
+-- No call of the outside failed.
+pub record NoFaults (before now : ShelfFaults) (disk out : Type 0) : Type 0 where
+  pub opening : ¬ Rose before.opening now.opening
+  pub reading : ¬ Rose before.reading now.reading
+  pub disk_well : ¬ disk
+  pub out_well : ¬ out
+
+-- The status is that of an ending as it is defined, or memory ran out.
+abbrev pub Completes : (Ending → Type 0) → DaemonStatus → Type 0
+Completes answers r = (r ≡ OutOfMemory) ⊎ ((e : Ending) × answers e × (r ≡ e.status))

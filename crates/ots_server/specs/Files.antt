@@ -11,11 +11,11 @@ use Rattle.ots_server_words.specs.Words.{Command, serve, batch, tip, anchor, lis
 abbrev pub names_read : Option Command → List (List ℕ)
 names_read None = []
 names_read (Some (serve asked)) = []
-names_read (Some (batch asked)) = []
+names_read (Some (batch asked)) = asked.key ∷ asked.digests ∷ []
 names_read (Some tip) = []
 names_read (Some (anchor asked)) = asked.block ∷ []
 names_read (Some list) = []
-names_read (Some (migrate old)) = []
+names_read (Some (migrate old)) = old ∷ []
 
 -- Of these names, the first ones were opened, in order.
 abbrev pub OpensFront : List (List ℕ) → Option (List (List ℕ)) → Option (List (List ℕ)) → Type 0

@@ -9,7 +9,7 @@ use Rattle.ots_journal.specs.declared.errors.JournalError.TheVariants as why
 use Rattle.ots_journal.specs.declared.limits.TheConstants.{MAX_JOURNAL}
 use Rattle.ots_journal.specs.Image.{Stands}
 use Rattle.ots_journal.specs.Journal.{JournalTold}
-use Rattle.ots_journal.specs.Opening.{IsFullOrCause, OpenedFrom, Refuses}
+use Rattle.ots_journal.specs.Opening.{IsFullOrCause, IsGate, OpenedFrom, Refuses}
 use Rattle.ots_store.specs.declared.errors.StoreError.{StoreError}
 use Rattle.ots_store.specs.declared.errors.StoreError.TheVariants as store
 use Rattle.ots_store.specs.Order.{FirstBad, records_of}
@@ -35,6 +35,10 @@ store_status store.OutOfMemory = OutOfMemory
 -- They stand for these entries.
 abbrev pub AreEntries : Option (List ℕ) → List Entry → Type 0
 AreEntries told entries = IfTold told (λ bytes. Stands bytes entries)
+
+-- The next group is put at this gate.
+abbrev pub HasGate : Option (List ℕ) → ℕ → Type 0
+HasGate told gate = IfTold told (λ bytes. IsGate bytes gate)
 
 -- There are no more of them than a journal may have.
 abbrev pub AreWithin : Option (List ℕ) → Type 0
@@ -101,6 +105,7 @@ pub record Opens {D : Type 0} (bytes : D → Option (List ℕ)) (faults clock : 
   pub sure : j.is_sure ≡ true
   pub limit : j.limit ≡ MAX_JOURNAL
   pub has : HasRecords (bytes disk) j.entries
+  pub gate : HasGate (bytes disk) j.gate
   pub each : (c : List ℕ) → images j.disk c → Stands c j.entries
   pub moments : LeavesOnly clock images_since disk j.disk (OpenedFrom (images disk))
   pub later : faults disk ≤ faults j.disk

@@ -1,10 +1,16 @@
 pub mod Anchor
 pub mod Answer
+pub mod Batch
+pub mod Carrying
 pub mod Ending
 pub mod Files
 pub mod Found
 pub mod List
+pub mod Migrate
 pub mod Moments
 pub mod Printed
+pub mod Reading
+pub mod Round
 pub mod Task
 pub mod Tip
+pub mod Trees

@@ -6,12 +6,16 @@
 #![tactic(auto)]
 
 mod anchor;
+mod batch;
 mod list;
+mod migrate;
 mod opening;
 mod printing;
+mod reading;
 mod run;
 mod task;
 mod tip;
+mod trees;
 
 pub use ots_server_text::DaemonStatus;
 pub use run::{Returned, run_calendar};

@@ -1,5 +1,5 @@
 //! Opening the journal.
-ghost use Rattle.std.specs.Prelude.{◌≡◌, IfErr, IfOk};
+ghost use Rattle.std.specs.Prelude.{◌≡◌, [], IfErr, IfOk};
 ghost use Rattle.ots_store.specs.Order.{records_of};
 ghost use Rattle.ots_server.specs.Found.{Closes, HasBadForm, HasBadValue, Opens, OpensBook, RefusesBook, RefusesStore, journal_status, store_status};
 
@@ -20,6 +20,8 @@ pub struct Closed<D: Disk> {
 /// The book on a disk.
 pub fn open_book<D: Disk>(alloc: Global, disk: D) -> Result<Book<D>, Closed<D>>
     ensures ok { IfOk result (λ b. OpensBook D.bytes D.faults D.clock D.images D.images_since disk b.store.journal) }
+    ensures waiting { IfOk result (λ b. b.tickets.waiting ≡ []) }
+    ensures settled { IfOk result (λ b. b.tickets.settled ≡ []) }
     ensures err { IfErr result (λ c. Closes D.bytes D.faults D.clock D.images D.images_since RefusesBook disk c.disk c.why) }
 {
     match open_store(alloc, disk) {

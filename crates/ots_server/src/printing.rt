@@ -8,7 +8,7 @@ ghost use Rattle.ots_server.specs.Printed.{PrintsLast, SinkStays, text_of};
 
 use ots_outside::{Failed, Sink};
 use ots_printer::Printer;
-use ots_server_text::{DaemonStatus, put_anchored, put_refusal, put_tip};
+use ots_server_text::{DaemonStatus, put_anchored, put_migrated, put_refusal, put_tip};
 use ots_store::Tip;
 
 /// A text with which a run ends, but for those that are long.
@@ -20,6 +20,8 @@ pub enum Text<'a> {
     Tip(Tip),
     /// The line of an anchor that was stored: its first index, its count, and the block's height.
     Anchored(u64, u64, u64),
+    /// The line of a journal that was carried over: how many entries it has.
+    Migrated(u64),
 }
 
 /// Prints the line of a refusal over a name, with which a run ends.
@@ -69,5 +71,6 @@ fn put_text<K: Sink>(text: &Text<'_>, status: &DaemonStatus, out: &mut Printer<'
         Text::Refusal(name) => put_refusal(name, status, out),
         Text::Tip(tip) => put_tip(tip.first, tip.count, &tip.root, out),
         Text::Anchored(first, count, height) => put_anchored(*first, *count, *height, out),
+        Text::Migrated(count) => put_migrated(*count, out),
     }
 }

@@ -1,24 +1,31 @@
 //! What is done on a book, once all that the words name is read.
-ghost use Rattle.std.specs.Prelude.{◌≡◌, ◌≤◌, ℕ, List, true};
+ghost use Rattle.std.specs.Prelude.{◌≡◌, ◌⊎◌, ◌≤◌, ℕ, List, true};
+ghost use Rattle.std.specs.List.{AllByRecursion};
 ghost use Rattle.ots_base.specs.Cause.{Rose};
 ghost use Rattle.ots_disk.specs.Disk.{LeavesOnly};
-ghost use Rattle.ots_journal.specs.Image.{Stands};
+ghost use Rattle.ots_journal.specs.Image.{FitsEntry, Stands};
 ghost use Rattle.ots_journal.specs.declared.limits.TheConstants.{MAX_JOURNAL};
-ghost use Rattle.ots_server.specs.Answer.{WithBook};
+ghost use Rattle.ots_server.specs.Answer.{WithBook, WithStore};
+ghost use Rattle.ots_server.specs.Batch.{AddsRound, DrawsFor, Happens, RoundAnswers};
 ghost use Rattle.ots_server.specs.Ending.{Comes, Ends, nowhere};
+ghost use Rattle.ots_server.specs.Migrate.{AddsFront, MigrateAnswers};
 ghost use Rattle.ots_server.specs.Moments.{OpenedOrRan, StandsWith};
 ghost use Rattle.ots_server.specs.Printed.{SinkStays};
+ghost use Rattle.ots_server.specs.Round.{IsRound};
 ghost use Rattle.ots_server.specs.Task.{Fits, TaskAdds, TaskAnswers};
 
 use crate::anchor::anchor;
+use crate::batch::{Round, batch};
 use crate::list::list;
-use crate::opening::open_book;
+use crate::migrate::migrate;
+use crate::opening::{open_book, open_store};
 use crate::printing::refuse;
 use crate::tip::tip;
 use ots_block::Block;
 use ots_calendar::Book;
 use ots_disk::Disk;
-use ots_outside::Sink;
+use ots_journal::Entry;
+use ots_outside::{Clock, Nonces, Sink};
 use ots_server_text::DaemonStatus;
 use std::alloc::Global;
 
@@ -52,6 +59,66 @@ pub fn run_task<D: Disk, K: Sink>(
             let mut book = book;
             let status = do_task(task, &mut book, out);
             (status, book.into_disk())
+        }
+        Err(closed) => {
+            let status = refuse("", closed.why, out);
+            (status, closed.disk)
+        }
+    }
+}
+
+/// Opens the book on a disk, and puts digests under one commitment in it.
+pub fn run_round<D: Disk, K: Sink, C: Clock, N: Nonces>(
+    alloc: Global,
+    round: &Round,
+    disk: D,
+    out: &mut K,
+    clock: &mut C,
+    nonces: &mut N,
+) -> (DaemonStatus, D)
+    requires { IsRound round.now.digests.items }
+    ensures ends { Ends (Comes (WithBook (D.bytes disk) (RoundAnswers (Happens (C.coming clock.old) (N.left nonces.old) (N.left nonces.new)) (Rose (N.faults nonces.old) (N.faults nonces.new))
+        MAX_JOURNAL round.now.key round.now.uri round.now.digests.items)) nowhere (Rose (D.faults disk) (D.faults result.1)))
+        (D.images result.1) (Rose (K.faults out.old) (K.faults out.new)) (K.taken out.old) (K.taken out.new) result.0 }
+    ensures moments { LeavesOnly D.clock D.images_since disk result.1 (OpenedOrRan (D.bytes disk) (D.images disk)
+        (AddsRound (Happens (C.coming clock.old) (N.left nonces.old) (N.left nonces.new)) round.now.key round.now.digests.items)) }
+    ensures later { D.faults disk ≤ D.faults result.1 }
+    ensures nonces { (nonces.new ≡ nonces.old) ⊎ DrawsFor (Happens (C.coming clock.old) (N.left nonces.old) (N.left nonces.new)) round.now.digests.items }
+    ensures nonce_faults { N.faults nonces.old ≤ N.faults nonces.new }
+    ensures sink { SinkStays K.faults K.same out.old out.new }
+{
+    match open_book(alloc, disk) {
+        Ok(book) => {
+            let mut book = book;
+            let status = batch(alloc, round, &mut book, clock, nonces, out);
+            (status, book.into_disk())
+        }
+        Err(closed) => {
+            let status = refuse("", closed.why, out);
+            (status, closed.disk)
+        }
+    }
+}
+
+/// Opens the store on a disk, and carries the entries of an old journal over into it.
+pub fn run_carry<D: Disk, K: Sink>(
+    alloc: Global,
+    old: &[Entry],
+    disk: D,
+    out: &mut K,
+) -> (DaemonStatus, D)
+    requires { AllByRecursion FitsEntry old.now }
+    ensures ends { Ends (Comes (WithStore (D.bytes disk) (MigrateAnswers MAX_JOURNAL old.now)) nowhere (Rose (D.faults disk) (D.faults result.1)))
+        (D.images result.1) (Rose (K.faults out.old) (K.faults out.new)) (K.taken out.old) (K.taken out.new) result.0 }
+    ensures moments { LeavesOnly D.clock D.images_since disk result.1 (OpenedOrRan (D.bytes disk) (D.images disk) (AddsFront old.now)) }
+    ensures later { D.faults disk ≤ D.faults result.1 }
+    ensures sink { SinkStays K.faults K.same out.old out.new }
+{
+    match open_store(alloc, disk) {
+        Ok(store) => {
+            let mut store = store;
+            let status = migrate(old, &mut store, out);
+            (status, store.into_disk())
         }
         Err(closed) => {
             let status = refuse("", closed.why, out);

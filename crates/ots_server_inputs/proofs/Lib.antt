@@ -1,2 +1,6 @@
+mod Addressed
 mod Blocks
+mod Lining
+mod Olds
 mod Reading
+mod Digesting

@@ -69,12 +69,12 @@ error_is told name limit (Err x) e is why = subst (λ (z : FileError). FileAnswe
 
 -- ---- what is made of it
 
-opened_or : (A : Type 0) (name : List ℕ) (old new : Option (List (List ℕ))) (before now : ShelfFaults) (t : Type 0) (stop : Stop) → IsOpenedOrNot name old new before now t
+pub opened_or : (A : Type 0) (name : List ℕ) (old new : Option (List (List ℕ))) (before now : ShelfFaults) (t : Type 0) (stop : Stop) → IsOpenedOrNot name old new before now t
     → OpensInput {A = A} name old new (Err stop)
 opened_or A name old new before now t stop (inl none) = inl none.0
 opened_or A name old new before now t stop (inr one) = inr one.0
 
-fault_at : (name : List ℕ) (old new : Option (List (List ℕ))) (before now : ShelfFaults) (t : Type 0) → t → IsOpenedOrNot name old new before now t → FaultAt name old new before now
+pub fault_at : (name : List ℕ) (old new : Option (List (List ℕ))) (before now : ShelfFaults) (t : Type 0) → t → IsOpenedOrNot name old new before now t → FaultAt name old new before now
 fault_at name old new before now t faulted (inl none) = inl (none.0, none.1 faulted)
 fault_at name old new before now t faulted (inr one) = inr (one.0, one.1 faulted)
 

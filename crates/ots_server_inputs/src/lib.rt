@@ -1,9 +1,19 @@
-//! The files that the commands of `otsd` read.
+//! What the commands of `otsd` read before the journal: the calendar's address, and files.
 #![tactic(auto)]
 
+mod address;
 mod block;
+mod digests;
 mod file;
+mod key;
+mod lines;
+mod old;
 mod stop;
 
+pub use address::read_uri;
 pub use block::read_block;
+pub use digests::read_digests;
+pub use key::read_key;
+pub use lines::{MAX_LINE, MAX_LINES};
+pub use old::read_old;
 pub use stop::Stop;

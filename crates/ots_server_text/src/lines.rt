@@ -1,10 +1,15 @@
 //! The lines of the commands.
-ghost use Rattle.std.specs.Prelude.{◌≡◌};
+ghost use Rattle.std.specs.Prelude.{◌≡◌, ◌≤◌, length, take};
+ghost use Rattle.hex.specs.Hex.{encode_lower};
 ghost use Rattle.ots_printer.specs.Printing.{Puts};
 ghost use Rattle.ots_server_text.specs.Lines.{anchor_line, anchored_line, commit_line, migrated_line, tip_line, tree_line};
+ghost use Rattle.ots_tree.specs.Wire.{spell, spelled};
 
+use ots_attest::{MAX_SPELLED_ATTESTATION, spell_attestation};
+use ots_ops::{MAX_SPELLED_OP, spell_op};
 use ots_outside::Sink;
 use ots_printer::Printer;
+use ots_tree::{Token, Tree};
 
 /// Puts the line of a commitment, by its index among the commitments.
 pub fn put_commit<K: Sink>(index: u64, commitment: &[u8], out: &mut Printer<'_, K>)
@@ -73,12 +78,49 @@ pub fn put_migrated<K: Sink>(count: u64, out: &mut Printer<'_, K>)
     out.word("\n");
 }
 
-/// Puts the line of a tree by its bytes, behind the index of the commitment that it leads to.
-pub fn put_tree<K: Sink>(index: u64, tree: &[u8], out: &mut Printer<'_, K>)
-    ensures { Puts K.taken K.faults K.same (tree_line index tree.now) out.old out.new }
+/// Puts the line of a tree, behind the index of the commitment that it leads to. It takes no memory.
+pub fn put_tree<K: Sink>(index: u64, tree: &Tree, out: &mut Printer<'_, K>)
+    ensures { Puts K.taken K.faults K.same (tree_line index (spelled tree.now)) out.old out.new }
 {
     out.number(index);
     out.word(" ");
-    out.hex(tree);
+    put_tokens(tree.tokens(), out);
     out.word("\n");
+}
+
+/// Puts the spellings of tokens in hexadecimal digits.
+fn put_tokens<K: Sink>(tokens: &[Token], out: &mut Printer<'_, K>)
+    ensures { Puts K.taken K.faults K.same (encode_lower (spelled tokens.now)) out.old out.new }
+{
+    let mut room = [0; MAX_SPELLED_ATTESTATION];
+    for token in tokens {
+        let length = spell_token(token, &mut room);
+        out.hex(&room[..length]);
+    }
+}
+
+/// Writes the spelling of a token at the front, and answers how many bytes it has.
+fn spell_token(token: &Token, room: &mut [u8]) -> usize
+    requires { MAX_SPELLED_ATTESTATION ≤ length room.old }
+    ensures in_range { result ≤ length room.old }
+    ensures spelled { take result room.new ≡ spell token.now }
+{
+    match token {
+        Token::Fork => {
+            room[0] = 0xff;
+            1
+        }
+        Token::Op(op) => {
+            let Some(front) = room.first_chunk_mut::<MAX_SPELLED_OP>() else {
+                unreachable!();
+            };
+            spell_op(op, front)
+        }
+        Token::Attestation(attestation) => {
+            let Some(front) = room.first_chunk_mut::<MAX_SPELLED_ATTESTATION>() else {
+                unreachable!();
+            };
+            spell_attestation(attestation, front)
+        }
+    }
 }

@@ -1,19 +1,19 @@
 -- Tickets among others: their places, and what is made of them one after another.
-use Rattle.std.proofs.Common.{◌≡◌, ℕ, zero, suc, ◌+◌, ◌<◌, Bool, true, false, cond, List, [], ◌∷◌, ◌++◌, length, take, drop, map, get_or, set, refl, sym, ap, subst, ◌∙◌, arith}
-use Rattle.std.proofs.lemmas.List.{take_more, take_more_set, map-append, drop-set-lt, drop-drop}
+use Rattle.std.proofs.Common.{◌≡◌, ℕ, zero, suc, ◌+◌, ◌^◌, ◌<◌, ◌≤◌, Bool, true, false, cond, List, [], ◌∷◌, ◌++◌, length, take, drop, map, get_or, set, refl, sym, ap, subst, ◌∙◌, arith}
+use Rattle.std.proofs.lemmas.List.{take_more, take_more_set, length-map, map-append, drop-set-lt, drop-drop}
 use Rattle.std.proofs.lemmas.Option.{get_or_from_slice_get, slice_get-get_or}
 use Rattle.std.specs.List.{AllByRecursion}
 use Rattle.std.specs.Prelude.{slice_get}
 use Rattle.ots_merkle.specs.CalendarTree.{path}
-use Rattle.ots_merkle.proofs.PathLaws.{path_leads}
+use Rattle.ots_merkle.proofs.PathLaws.{path_leads, path_short}
 use Rattle.ots_round.specs.declared.ticket.Ticket.{Ticket}
-use Rattle.ots_round.specs.Round.{leaves, round_commitment}
+use Rattle.ots_round.specs.Round.{leaf, leaves, round_commitment}
 use Rattle.ots_round.proofs.Leading.{leads_in_round}
 use Rattle.ots_tickets.specs.declared.settled.Settled.{Settled}
 use Rattle.ots_tickets.specs.Ready.{at_index}
 use Rattle.ots_tickets.specs.Search.{IsPlace}
 use Rattle.ots_tickets.specs.Numbers.{Fits}
-use Rattle.ots_tickets.specs.Tickets.{Leads, NoneIs, TakesOne, OneIs, settles_from, settles}
+use Rattle.ots_tickets.specs.Tickets.{Leads, IsShort, NoneIs, TakesOne, OneIs, settles_from, settles}
 
 all_push : {A : Type 0} (P : A → Type 0) (xs : List A) (x : A) → AllByRecursion P xs → P x → AllByRecursion P (xs ++ x ∷ [])
 all_push P [] x all one = (one, tt)
@@ -139,6 +139,17 @@ settles_lead index key second tickets fit = leads_from index key second tickets 
 pub lead_index : (index : ℕ) (xs : List Settled) → AllByRecursion Leads xs → AllByRecursion Leads (map (at_index index) xs)
 lead_index index [] all = tt
 lead_index index (x ∷ xs) all = (all.0, lead_index index xs all.1)
+
+-- ---- how long their ways are
+
+pub settles_short : (index : ℕ) (c : List ℕ) (all : List Ticket) (s : ℕ) (tickets : List Ticket) → length all ≤ 2 ^ 16 → AllByRecursion IsShort (settles_from index c (leaves all) s tickets)
+settles_short index c all s [] few = tt
+settles_short index c all s (t ∷ tickets) few =
+    (path_short 16 (leaves all) s (let n : length (leaves all) ≤ 2 ^ 16 = omega (arith, length-map all leaf) in n), settles_short index c all (suc s) tickets few)
+
+pub short_index : (index : ℕ) (xs : List Settled) → AllByRecursion IsShort xs → AllByRecursion IsShort (map (at_index index) xs)
+short_index index [] all = tt
+short_index index (x ∷ xs) all = (all.0, short_index index xs all.1)
 
 -- what holds of all holds of one
 pub all_at : {A : Type 0} (P : A → Type 0) (xs : List A) (i : ℕ) (d : A) → i < length xs → AllByRecursion P xs → P (get_or xs i d)

@@ -1,5 +1,5 @@
 -- What the calls on tickets do.
-use Rattle.std.specs.Prelude.{◌≡◌, ◌⊎◌, ℕ, Bool, true, false, List, ◌∷◌, Some}
+use Rattle.std.specs.Prelude.{◌≡◌, ◌⊎◌, ◌≤◌, ℕ, Bool, true, false, List, ◌∷◌, length, Some}
 use Rattle.ots_attest.specs.declared.attestation.Attestation.TheVariants.{Pending}
 use Rattle.ots_ops.specs.Value.{value}
 use Rattle.ots_ops.specs.declared.op.Op.{Op}
@@ -45,6 +45,7 @@ pub record LeadsTo (ticket : Ticket) (uri : List ℕ) (tree : List Token) (recei
   pub rest : List Op
   pub tree_is : tree ≡ pre (lone (Append ticket.nonce ∷ Sha256 ∷ rest) (Pending uri))
   pub leads : value (Append ticket.nonce ∷ Sha256 ∷ rest) ticket.leaf ≡ Some receipt.commitment
+  pub few : length rest ≤ 34
 
 pub record WithdrawsSettled (ticket : Ticket) (old new : TicketsTold) : Type 0 where
   pub one : Settled

@@ -4,7 +4,7 @@ use Rattle.std.specs.List.{AllByRecursion}
 use Rattle.ots_round.specs.declared.ticket.Ticket.{Ticket}
 use Rattle.ots_tickets.specs.declared.tickets.TheConstants.{MAX_WAITING}
 use Rattle.ots_tickets.specs.declared.settled.Settled.{Settled}
-use Rattle.ots_tickets.specs.Tickets.{Leads}
+use Rattle.ots_tickets.specs.Tickets.{Leads, IsShort}
 
 -- A digest has at most 64 bytes, and a nonce 16.
 pub record Fits (t : Ticket) : Type 0 where
@@ -17,4 +17,5 @@ pub record AreNumbered (next : ℕ) (waiting : List Ticket) (settled : List Sett
   pub waiting_below : AllByRecursion (λ (t : Ticket). t.number < next) waiting
   pub waiting_fit : AllByRecursion Fits waiting
   pub leading : AllByRecursion Leads settled
+  pub short : AllByRecursion IsShort settled
   pub settled_below : AllByRecursion (λ (s : Settled). s.ticket.number < next) settled

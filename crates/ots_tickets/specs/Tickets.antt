@@ -1,5 +1,5 @@
 -- Tickets that wait, and tickets whose round is closed.
-use Rattle.std.specs.Prelude.{◌≡◌, ◌≢◌, ℕ, suc, List, [], ◌∷◌, ◌++◌, Some}
+use Rattle.std.specs.Prelude.{◌≡◌, ◌≢◌, ◌≤◌, ℕ, suc, List, [], ◌∷◌, ◌++◌, length, Some}
 use Rattle.std.specs.List.{AllByRecursion}
 use Rattle.ots_merkle.specs.CalendarTree.{path}
 use Rattle.ots_ops.specs.Value.{value}
@@ -32,6 +32,10 @@ settles key second index tickets = settles_from index (round_commitment key seco
 -- The way of a settled ticket leads from its digest to the commitment of its receipt.
 abbrev pub Leads : Settled → Type 0
 Leads s = value (way s.ticket.nonce s.path s.receipt.commitment) s.ticket.leaf ≡ Some s.receipt.commitment
+
+-- A tree over as many tickets as may wait has 16 levels above its leaves, and a step on a path is two operations.
+abbrev pub IsShort : Settled → Type 0
+IsShort s = length s.path ≤ 32
 
 -- ---- one ticket
 

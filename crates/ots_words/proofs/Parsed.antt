@@ -13,7 +13,7 @@ use Rattle.clap.proofs.WalkLemmas.{both}
 use Rattle.ots_words.specs.declared.arguments.Argument.{Argument}
 use Rattle.ots_words.specs.Words.{Command, Described, argument, arguments_of, command_in, described, is_taken, read_form, simple, with_arguments, word_of}
 use Rattle.ots_words.specs.declared.words.Form.{Form}
-use Rattle.ots_words.specs.declared.words.Form.TheVariants.{Info, Canon, Merge, Prune, Verify, Upgrade}
+use Rattle.ots_words.specs.declared.words.Form.TheVariants.{Info, Canon, Merge, Prune, Verify, Stamp, Upgrade}
 
 pub none_added : (app : App) (name : Text) (arguments : List Argument) → app ≡ new_app name → with_arguments app (map described (drop 0 arguments)) ≡ simple name (map described arguments)
 unfolding simple
@@ -63,6 +63,7 @@ are_simple Canon = refl
 are_simple Merge = refl
 are_simple Prune = refl
 are_simple Verify = refl
+are_simple Stamp = refl
 are_simple Upgrade = refl
 
 -- what was taken, and not

@@ -1,22 +1,27 @@
 -- The form of the words, each seen as its bytes. The first word picks the command. Which words follow it is said by a
 -- simple command of the library clap, whose arguments have one value each; words that clap takes for something else, as
 -- a call for help, are of no form.
-use Rattle.std.specs.Prelude.{ℕ, ◌^◌, ◌&&◌, Bool, true, List, [], ◌∷◌, map, String, string_bytes, bytes_eq, nat_lt, codes, decimal, Option, Some, None, if◌then◌else◌}
+use Rattle.std.specs.Prelude.{ℕ, ◌^◌, ◌&&◌, ◌||◌, Bool, true, not, length, List, [], ◌∷◌, map, String, string_bytes, bytes_eq, nat_lt, codes, decimal, Option, Some, None, if◌then◌else◌}
 use Rattle.std.specs.Str.Parse.{digits_value}
 use Rattle.std.specs.Option.{option_map, option_and_then}
 use Rattle.std.specs.declared.alloc.Global.{Global}
+use Rattle.std.specs.Borrow.{Bor}
+use Rattle.std.specs.List.{list_all}
+use Rattle.clap.specs.Lexer.{usize_max}
 use Rattle.clap.specs.Walk.{Row, is_empty}
-use Rattle.clap.specs.Words.{App, Rule, fault_of, first_of, matches_of, new_app, new_rule, with_rule}
-use Rattle.clap.specs.declared.builder.action.ArgAction.TheVariants.{Set}
+use Rattle.clap.specs.Words.{App, Rule, all_of, fault_of, first_of, matches_of, new_app, new_rule, with_rule}
+use Rattle.clap.specs.declared.builder.action.ArgAction.TheVariants.{Append, Set}
 use Rattle.ots_words.specs.declared.command.Command.{Command as Read}
 use Rattle.ots_words.specs.declared.command.Command.TheVariants as read
 use Rattle.ots_words.specs.declared.words.Form.{Form}
-use Rattle.ots_words.specs.declared.words.Form.TheVariants.{Info, Canon, Merge, Prune, Verify, Upgrade}
+use Rattle.ots_words.specs.declared.words.Form.TheVariants.{Info, Canon, Merge, Prune, Verify, Stamp, Upgrade}
 use Rattle.ots_words.specs.declared.arguments.Argument.{Argument}
 use Rattle.ots_words.specs.declared.arguments.Kind.{Kind}
-use Rattle.ots_words.specs.declared.arguments.Kind.TheVariants.{Positional, Required, Optional}
+use Rattle.ots_words.specs.declared.arguments.Kind.TheVariants.{Positional, Required, Optional, Several}
 use Rattle.ots_words.specs.declared.command.HeaderFile.{HeaderFile as ReadHeaderFile}
+use Rattle.ots_words.specs.declared.command.Stamping.{Stamping as ReadStamping}
 use Rattle.ots_words.specs.declared.command.Upgrading.{Upgrading as ReadUpgrading}
+use Rattle.ots_words.specs.declared.limits.TheConstants.{MAX_STAMPED, MAX_WANTED}
 use Rattle.ots_words.specs.declared.command.Verification.{Verification as ReadVerification}
 
 -- a file of headers, and the height of its first one
@@ -30,6 +35,12 @@ pub record Verification : Type 0 where
   pub proof : List ℕ
   pub bitcoin : HeaderFile
   pub litecoin : Option HeaderFile
+
+-- the list of calendars as it was given, how many of them have to timestamp the files, and the files
+pub record Stamping : Type 0 where
+  pub calendars : List ℕ
+  pub least : ℕ
+  pub files : List (List ℕ)
 
 -- the list of calendars as it was given, the proof, and the name under which it is written
 pub record Upgrading : Type 0 where
@@ -49,16 +60,20 @@ pub data Command : Type 0 where
   prune : List ℕ → List ℕ → Command
   -- say whether the proof confirms the file
   verify : Verification → Command
+  -- make a proof of each file that calendars timestamp
+  stamp : Stamping → Command
   -- ask calendars to complete the proof
   upgrade : Upgrading → Command
 
 -- ---- the words as clap reads them
 
--- An argument by its name: one that is given by its place, or an option, behind its name with two dashes. All but the optional ones are required.
+-- An argument by its name: one that is given by its place, or an option, behind its name with two dashes. All but the
+-- optional ones are required. All have one value, but one that is given by its place may have several.
 abbrev pub argument : List ℕ → Kind → Rule
 argument name Positional = record (new_rule name) { required = true; action = Some Set }
 argument name Required = record (new_rule name) { long = Some name; required = true; action = Some Set }
 argument name Optional = record (new_rule name) { long = Some name; action = Some Set }
+argument name Several = record (new_rule name) { required = true; action = Some Append; range = Some (record { start_inclusive = 1; end_inclusive = usize_max }) }
 
 abbrev pub Described : Type 0
 Described = List ℕ × Kind
@@ -86,11 +101,12 @@ word_of Canon = codes "canon"
 word_of Merge = codes "merge"
 word_of Prune = codes "prune"
 word_of Verify = codes "verify"
+word_of Stamp = codes "stamp"
 word_of Upgrade = codes "upgrade"
 
 -- info PROOF; canon IN OUT; merge A B OUT; prune IN OUT;
 -- verify FILE PROOF HEADERS --from N, and perhaps --litecoin FILE --litecoin-from M;
--- upgrade --calendars LIST IN OUT
+-- stamp --calendars LIST --min M FILE..; upgrade --calendars LIST IN OUT
 abbrev pub arguments_of : Form → List Described
 arguments_of Info = (codes "proof", Positional) ∷ []
 arguments_of Canon = (codes "in", Positional) ∷ (codes "out", Positional) ∷ []
@@ -98,6 +114,7 @@ arguments_of Merge = (codes "a", Positional) ∷ (codes "b", Positional) ∷ (co
 arguments_of Prune = (codes "in", Positional) ∷ (codes "out", Positional) ∷ []
 arguments_of Verify = (codes "file", Positional) ∷ (codes "proof", Positional) ∷ (codes "headers", Positional)
     ∷ (codes "from", Required) ∷ (codes "litecoin", Optional) ∷ (codes "litecoin-from", Optional) ∷ []
+arguments_of Stamp = (codes "calendars", Required) ∷ (codes "min", Required) ∷ (codes "files", Several) ∷ []
 arguments_of Upgrade = (codes "in", Positional) ∷ (codes "out", Positional) ∷ (codes "calendars", Required) ∷ []
 
 abbrev pub form_of : List ℕ → Option Form
@@ -107,6 +124,7 @@ form_of word =
     else if bytes_eq word (word_of Merge) then Some Merge
     else if bytes_eq word (word_of Prune) then Some Prune
     else if bytes_eq word (word_of Verify) then Some Verify
+    else if bytes_eq word (word_of Stamp) then Some Stamp
     else if bytes_eq word (word_of Upgrade) then Some Upgrade
     else None
 
@@ -153,6 +171,33 @@ verification_in rows =
     (name_in rows (codes "proof")))
     (name_in rows (codes "file"))
 
+-- how many calendars are wanted: a number from 1 on
+abbrev pub wanted : List ℕ → Option ℕ
+wanted word = option_and_then (λ n. if nat_lt 0 n && not (nat_lt MAX_WANTED n) then Some n else None) (number word)
+
+-- the texts behind references
+abbrev pub texts : List (Bor (List ℕ)) → List (List ℕ)
+texts = map (λ s. s.now)
+
+-- at least one name, not too many, and each of a file
+abbrev pub some_names : List (List ℕ) → Option (List (List ℕ))
+some_names names =
+    if is_empty names || nat_lt MAX_STAMPED (length names) then None
+    else if list_all (λ name. not (is_empty name)) names then Some names else None
+
+abbrev pub names_in : List Row → List ℕ → Option (List (List ℕ))
+names_in rows id = option_and_then some_names (all_of id rows)
+
+abbrev pub wanted_calendars_in : List Row → Option (List ℕ × ℕ)
+wanted_calendars_in rows =
+    option_and_then (λ calendars. option_map (λ least. (calendars, least)) (option_and_then wanted (first_of (codes "min") rows)))
+    (first_of (codes "calendars") rows)
+
+abbrev pub stamping_in : List Row → Option Stamping
+stamping_in rows =
+    option_and_then (λ w. option_map (λ files. record { calendars = w.0; least = w.1; files = files }) (names_in rows (codes "files")))
+    (wanted_calendars_in rows)
+
 abbrev pub upgrading_in : List Row → Option Upgrading
 upgrading_in rows =
     option_and_then (λ calendars. option_and_then (λ proof. option_map (λ to. record { calendars = calendars; proof = proof; to = to })
@@ -167,6 +212,7 @@ command_in Canon rows = with_two canon (name_in rows (codes "in")) (name_in rows
 command_in Merge rows = option_and_then (λ a. with_two (merge a) (name_in rows (codes "b")) (name_in rows (codes "out"))) (name_in rows (codes "a"))
 command_in Prune rows = with_two prune (name_in rows (codes "in")) (name_in rows (codes "out"))
 command_in Verify rows = option_map verify (verification_in rows)
+command_in Stamp rows = option_map stamp (stamping_in rows)
 command_in Upgrade rows = option_map upgrade (upgrading_in rows)
 
 unfoldable pub read_form : Form → List (List ℕ) → Option Command
@@ -191,6 +237,9 @@ read_verification v = record {
   litecoin = option_map read_header_file v.litecoin;
 }
 
+abbrev pub read_stamping : ReadStamping → Stamping
+read_stamping s = record { calendars = s.calendars.now; least = s.least; files = texts s.files.items }
+
 abbrev pub read_upgrading : ReadUpgrading → Upgrading
 read_upgrading u = record { calendars = u.calendars.now; proof = u.proof.now; to = u.to.now }
 
@@ -200,6 +249,7 @@ read_as (read.Canon from to) = canon from.now to.now
 read_as (read.Merge first second to) = merge first.now second.now to.now
 read_as (read.Prune from to) = prune from.now to.now
 read_as (read.Verify v) = verify (read_verification v)
+read_as (read.Stamp s) = stamp (read_stamping s)
 read_as (read.Upgrade u) = upgrade (read_upgrading u)
 
 -- what these words ask for, each seen as its bytes

@@ -2,9 +2,10 @@
 ghost use Rattle.std.specs.Prelude.{◌≡◌, ◌≢◌, None, Some, false, true, map, string_bytes, IfErr, IfOk};
 ghost use Rattle.std.specs.Option.{option_map};
 ghost use Rattle.clap.specs.Words.{first_of, found_of, is_simple_and_free, matches_of, rows_of, rule_of};
-ghost use Rattle.ots_words.specs.Words.{argument, described, header_file, is_taken, name_in, nonempty, number, perhaps_header_file_of, read_header_file, simple};
+ghost use Rattle.ots_words.specs.Words.{argument, described, header_file, is_taken, name_in, names_in, nonempty, number, some_names, texts, wanted, perhaps_header_file_of, read_header_file, simple};
 
 use crate::command::HeaderFile;
+use crate::limits::{MAX_STAMPED, MAX_WANTED};
 use crate::words::WordsError;
 use clap::error::ErrorKind;
 use clap::{Arg, ArgAction, ArgMatches};
@@ -19,9 +20,12 @@ pub enum Kind {
     Required,
     /// As an option that may be absent.
     Optional,
+    /// By its place, once or more. No other place comes behind it.
+    Several,
 }
 
-/// An argument of a command by its name, which has one value.
+/// An argument of a command by its name, which has one value, or one or more where it is given
+/// several times.
 #[derive(Clone, Copy)]
 pub struct Argument(pub &'static str, pub Kind);
 
@@ -63,6 +67,10 @@ impl Argument {
             Kind::Positional => argument.action(ArgAction::Set).required(true),
             Kind::Required => argument.action(ArgAction::Set).long(name).required(true),
             Kind::Optional => argument.action(ArgAction::Set).long(name),
+            Kind::Several => argument
+                .action(ArgAction::Append)
+                .num_args(1..)
+                .required(true),
         }
     }
 }
@@ -72,6 +80,40 @@ pub fn value<'a>(matches: &ArgMatches<'a>, name: &str) -> Option<&'a str>
     ensures { option_map (λ s. s.now) result ≡ first_of name.now (rows_of (found_of matches.now)) }
 {
     matches.get_str(name)
+}
+
+/// The names of files that an argument gives, where there are at most [`MAX_STAMPED`] and none is
+/// empty.
+pub fn file_names<'m, 'a>(matches: &'m ArgMatches<'a>, name: &str) -> Option<&'m [&'a str]>
+    ensures { option_map (λ s. texts s.now) result ≡ names_in (rows_of (found_of matches.now)) name.now }
+{
+    some_names(matches.get_strs(name)?)
+}
+
+/// Names of which there are some, at most [`MAX_STAMPED`], and none is empty.
+fn some_names<'m, 'a>(names: &'m [&'a str]) -> Option<&'m [&'a str]>
+    ensures { option_map (λ s. texts s.now) result ≡ some_names (texts names.entry.now) }
+{
+    if names.is_empty() || names.len() > MAX_STAMPED {
+        return None;
+    }
+    for name in names {
+        if name.is_empty() {
+            return None;
+        }
+    }
+    Some(names)
+}
+
+/// How many calendars are wanted, by a word: 1 to [`MAX_WANTED`].
+pub fn wanted(word: &str) -> Option<u32>
+    ensures { result ≡ wanted word.now }
+{
+    let wanted = number(word)?;
+    if wanted == 0 || wanted > MAX_WANTED {
+        return None;
+    }
+    Some(wanted as u32)
 }
 
 /// The name of a file that an argument gives, where it isn't empty.

@@ -1,8 +1,9 @@
 //! The commands.
-ghost use Rattle.std.specs.Prelude.{◌-◌, ◌^◌, ◌≤◌};
+ghost use Rattle.std.specs.Prelude.{◌-◌, ◌^◌, ◌≤◌, length};
+ghost use Rattle.ots_words.specs.declared.limits.TheConstants.{MAX_STAMPED};
 
 /// What the words ask for.
-#[derive(Clone, Copy)]
+#[derive(Drop)]
 pub enum Command<'a> {
     /// `info PROOF`: print what this proof says.
     Info(&'a str),
@@ -14,9 +15,26 @@ pub enum Command<'a> {
     Prune(&'a str, &'a str),
     /// `verify FILE PROOF HEADERS --from N`: say whether the proof confirms the file.
     Verify(Verification<'a>),
+    /// `stamp --calendars LIST --min M FILE..`: make a proof of each of these files that calendars
+    /// timestamp.
+    Stamp(Stamping<'a>),
     /// `upgrade --calendars LIST IN OUT`: ask calendars to complete the proof under the first name,
     /// and write that as the second.
     Upgrade(Upgrading<'a>),
+}
+
+/// What `stamp` is to do.
+#[derive(Drop)]
+pub struct Stamping<'a> {
+    /// The list of calendar addresses, as it was given.
+    pub calendars: &'a str,
+    /// How many calendars have to timestamp the files, 1 to 16.
+    pub least: u32,
+    /// The files, at least one and at most [`MAX_STAMPED`](crate::MAX_STAMPED).
+    pub files: Vec<&'a str>,
+    pub ghost wanted: { 1 ≤ least },
+    pub ghost some: { 1 ≤ length files.items },
+    pub ghost most: { length files.items ≤ MAX_STAMPED },
 }
 
 /// What `upgrade` is to do.

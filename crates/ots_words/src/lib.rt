@@ -3,7 +3,9 @@
 
 mod arguments;
 mod command;
+mod limits;
 mod words;
 
-pub use command::{Command, HeaderFile, Upgrading, Verification};
+pub use command::{Command, HeaderFile, Stamping, Upgrading, Verification};
+pub use limits::{MAX_STAMPED, MAX_WANTED};
 pub use words::{WordsError, read_words};

@@ -1,13 +1,14 @@
 //! The words of the command line.
-ghost use Rattle.std.specs.Prelude.{◌≡◌, None, Some, map, string_bytes, MatchResult};
+ghost use Rattle.std.specs.Prelude.{◌≡◌, None, Some, map, string_bytes, IfOk, MatchResult};
 ghost use Rattle.std.specs.Option.{option_map};
 ghost use Rattle.clap.specs.Words.{found_of, rows_of};
-ghost use Rattle.ots_words.specs.Words.{arguments_of, command_in, command_of, described, form_of, read_as, read_form, read_verification, read_upgrading, upgrading_in, verification_in, word_of};
+ghost use Rattle.ots_words.specs.Words.{arguments_of, command_in, command_of, described, form_of, read_as, read_form, read_stamping, read_upgrading, read_verification, stamping_in, upgrading_in, verification_in, wanted_calendars_in, word_of};
 
 use crate::arguments::{
-    Argument, Kind, file_name, header_file, litecoin_file, read_arguments, value,
+    Argument, Kind, file_name, file_names, header_file, litecoin_file, read_arguments, value,
+    wanted,
 };
-use crate::command::{Command, Upgrading, Verification};
+use crate::command::{Command, Stamping, Upgrading, Verification};
 use clap::ArgMatches;
 use std::alloc::{AllocError, Global};
 
@@ -19,6 +20,7 @@ enum Form {
     Merge,
     Prune,
     Verify,
+    Stamp,
     Upgrade,
 }
 
@@ -52,6 +54,33 @@ fn verification<'a>(matches: &ArgMatches<'a>) -> Option<Verification<'a>>
         bitcoin: header_file(value(matches, "headers")?, value(matches, "from")?)?,
         litecoin: litecoin_file(value(matches, "litecoin"), value(matches, "litecoin-from"))?,
     })
+}
+
+/// What `stamp` is to do, by the values of its arguments.
+fn stamping<'a>(alloc: Global, matches: &ArgMatches<'a>) -> Result<Option<Stamping<'a>>, AllocError>
+    ensures { IfOk result (λ found. option_map read_stamping found ≡ stamping_in (rows_of (found_of matches.now))) }
+{
+    let Some((calendars, least)) = wanted_calendars(matches) else {
+        return Ok(None);
+    };
+    let Some(files) = file_names(matches, "files") else {
+        return Ok(None);
+    };
+    Ok(Some(Stamping {
+        calendars,
+        least,
+        files: files.to_vec(alloc)?,
+    }))
+}
+
+/// The calendars that are to stamp, and how many of them have to.
+fn wanted_calendars<'a>(matches: &ArgMatches<'a>) -> Option<(&'a str, u32)>
+    ensures { option_map (λ r. (r.0.now, r.1)) result ≡ wanted_calendars_in (rows_of (found_of matches.now)) }
+{
+    Some((
+        value(matches, "calendars")?,
+        wanted(value(matches, "min")?)?,
+    ))
 }
 
 /// What `upgrade` is to do, by the values of its arguments.
@@ -91,6 +120,13 @@ static VERIFY: [Argument; 6] = [
     Argument("litecoin-from", Kind::Optional),
 ];
 
+/// The arguments of `stamp`.
+static STAMP: [Argument; 3] = [
+    Argument("calendars", Kind::Required),
+    Argument("min", Kind::Required),
+    Argument("files", Kind::Several),
+];
+
 /// The arguments of `upgrade`.
 static UPGRADE: [Argument; 3] = [
     Argument("in", Kind::Positional),
@@ -109,6 +145,7 @@ impl Form {
             "merge" => Some(Form::Merge),
             "prune" => Some(Form::Prune),
             "verify" => Some(Form::Verify),
+            "stamp" => Some(Form::Stamp),
             "upgrade" => Some(Form::Upgrade),
             _ => None,
         }
@@ -124,6 +161,7 @@ impl Form {
             Form::Merge => "merge",
             Form::Prune => "prune",
             Form::Verify => "verify",
+            Form::Stamp => "stamp",
             Form::Upgrade => "upgrade",
         }
     }
@@ -137,21 +175,27 @@ impl Form {
             Form::Canon | Form::Prune => REWRITING.as_slice(),
             Form::Merge => MERGE.as_slice(),
             Form::Verify => VERIFY.as_slice(),
+            Form::Stamp => STAMP.as_slice(),
             Form::Upgrade => UPGRADE.as_slice(),
         }
     }
 
     /// The command with the values that the words give its arguments.
-    fn command_in<'a>(self, matches: &ArgMatches<'a>) -> Option<Command<'a>>
-        ensures { option_map read_as result ≡ command_in self (rows_of (found_of matches.now)) }
+    fn command_in<'a>(
+        self,
+        alloc: Global,
+        matches: &ArgMatches<'a>,
+    ) -> Result<Option<Command<'a>>, AllocError>
+        ensures { IfOk result (λ found. option_map read_as found ≡ command_in self (rows_of (found_of matches.now))) }
     {
         match self {
-            Form::Info => info(matches),
-            Form::Canon => canon(matches),
-            Form::Merge => merge(matches),
-            Form::Prune => prune(matches),
-            Form::Verify => verification(matches).map(Command::Verify),
-            Form::Upgrade => upgrading(matches).map(Command::Upgrade),
+            Form::Info => Ok(info(matches)),
+            Form::Canon => Ok(canon(matches)),
+            Form::Merge => Ok(merge(matches)),
+            Form::Prune => Ok(prune(matches)),
+            Form::Verify => Ok(verification(matches).map(Command::Verify)),
+            Form::Stamp => Ok(stamping(alloc, matches)?.map(Command::Stamp)),
+            Form::Upgrade => Ok(upgrading(matches).map(Command::Upgrade)),
         }
     }
 }
@@ -208,7 +252,7 @@ fn read_form<'a>(alloc: Global, form: Form, words: &'a [String]) -> Result<Comma
         (λ e. e ≡ WordsError.Usage → read_form form (map string_bytes words.entry.now) ≡ None) }
 {
     let matches = read_arguments(alloc, form.word(), form.arguments(), words)?;
-    let found = form.command_in(&matches);
+    let found = form.command_in(alloc, &matches)?;
     match found {
         Some(command) => Ok(command),
         None => Err(WordsError::Usage),

@@ -53,7 +53,7 @@ returns-in_err-evidence-in-Verify-clause-reads g c = λ o. of_command o (ap read
 
 pub returns-in_err-calendars-in-Upgrade-clause-reads : goal.returns-in_err-calendars-in-Upgrade-clause-reads
 returns-in_err-calendars-in-Upgrade-clause-reads g c = λ o. of_command o (ap read_as c.in-Upgrade.is)
-    (handed_on _ c.from_residual-in_err-calendars-in-Upgrade.ensures.1 (list_refused o _ _ c.in_err-calendars-in-Upgrade.ensures))
+    (handed_on _ c.from_residual-in_err-calendars-in-Upgrade.ensures.1 (list_refused _ _ c.in_err-calendars-in-Upgrade.ensures))
 
 pub returns-in_err-proof-in-Upgrade-clause-reads : goal.returns-in_err-proof-in-Upgrade-clause-reads
 returns-in_err-proof-in-Upgrade-clause-reads g c = λ o. of_command o (ap read_as c.in-Upgrade.is)
@@ -65,3 +65,10 @@ returns-in_ok-proof-in-Upgrade-clause-reads g c = λ o. of_command o (ap read_as
     (then_reads {part = λ told. Completes o c.in_ok-calendars-in-Upgrade.calendars.items c.in_ok-proof-in-Upgrade.proof c.in-Upgrade.upgrading.to.now}
     (λ e h. is_list _ c.in_ok-calendars-in-Upgrade.ensures (is_given c.in_ok-proof-in-Upgrade.proof c.in_ok-proof-in-Upgrade.ensures.given h))
     c.in_ok-proof-in-Upgrade.ensures (reads_none (λ e h. h)))
+
+pub returns-in_ok-submission-in-Stamp-clause-reads : goal.returns-in_ok-submission-in-Stamp-clause-reads
+returns-in_ok-submission-in-Stamp-clause-reads g c = λ o. of_command o (ap read_as c.in-Stamp.is) (reads_as (λ h. h) (c.in_ok-submission-in-Stamp.ensures.reads o))
+
+pub returns-in_err-submission-in-Stamp-clause-reads : goal.returns-in_err-submission-in-Stamp-clause-reads
+returns-in_err-submission-in-Stamp-clause-reads g c = λ o. of_command o (ap read_as c.in-Stamp.is)
+    (handed_on _ c.from_residual-in_err-submission-in-Stamp.ensures.1 (stop_as (c.in_err-submission-in-Stamp.ensures.reads o)))

@@ -1,6 +1,5 @@
-use Rattle.std.proofs.Common.{map, string_bytes, refl}
 use Rattle.ots_words.specs.Words.{asked}
-use Rattle.ots_cli.proofs.Asked.{asks_none}
+use Rattle.ots_cli.proofs.Asked.{nothing}
 use Rattle.ots_cli.proofs.Gathering.{end_of_command, usage_ends}
 use Rattle.ots_cli.proofs.run.come_to_end.Goals as goal
 
@@ -8,4 +7,4 @@ pub returns-in-Ok-clause-ends : goal.returns-in-Ok-clause-ends
 returns-in-Ok-clause-ends g c = end_of_command _ c.in-Ok.ensures c.end_of.ensures.ends
 
 pub returns-in-Err-Usage-clause-ends : goal.returns-in-Err-Usage-clause-ends
-returns-in-Err-Usage-clause-ends g c = usage_ends _ refl (asked c.args.words.now) (c.in-Err-Usage.ensures c.in-Err-Usage.field-0-is) c.refused.ensures
+returns-in-Err-Usage-clause-ends g c = usage_ends _ (nothing g.D.Dialer.told g.D.Dialer.faults g.N.Nonces.left g.N.Nonces.faults _ _) (asked c.args.words.now) (c.in-Err-Usage.ensures c.in-Err-Usage.field-0-is) c.refused.ensures

@@ -1,6 +1,7 @@
 use Rattle.std.proofs.Common.{◌∙◌, refl}
 use Rattle.ots_cli.proofs.Carrying.{run_ends, run_faults}
 use Rattle.ots_cli.proofs.OneAnswer as one
+use Rattle.ots_cli.proofs.Completeness.{stamp_completes, upgrade_completes}
 use Rattle.ots_cli.proofs.ReadsBack.{leaves_others, reads_back}
 use Rattle.ots_cli.proofs.Taken.{are_taken}
 use Rattle.ots_cli.proofs.Yes.{done_exactly}
@@ -34,3 +35,11 @@ returns-in-Ok-clause-reads_back g c = λ names command to told asks out done.
 
 pub returns-in-Err-clause-leaves : goal.returns-in-Err-clause-leaves
 returns-in-Err-clause-leaves g c = λ names told. (names, c.in-Err.ensures.ends.names ∙ told, λ name other. refl)
+
+pub returns-in-Ok-clause-stamps : goal.returns-in-Ok-clause-stamps
+returns-in-Ok-clause-stamps g c = λ names s told asks can.
+    stamp_completes _ names _ _ _ _ _ _ _ s can _ _ told asks (run_ends _ _ _ _ _ _ _ _ _ _ _ _ _ c.in-Ok.ensures.ends c.carry_out.ensures.ending)
+
+pub returns-in-Ok-clause-upgrades : goal.returns-in-Ok-clause-upgrades
+returns-in-Ok-clause-upgrades g c = λ names u told asks can.
+    upgrade_completes _ names _ _ _ _ _ _ _ u can _ _ told asks (run_ends _ _ _ _ _ _ _ _ _ _ _ _ _ c.in-Ok.ensures.ends c.carry_out.ensures.ending)

@@ -2,11 +2,11 @@ use Rattle.std.proofs.Common.{◌≡◌, ◌≤◌, ℕ, List, [], inl, length, 
 use Rattle.std.proofs.lemmas.List.{length-take-le}
 use Rattle.ots_disk.specs.Moments.{joined, if_told}
 use Rattle.ots_journal.specs.Image.{Stands}
-use Rattle.ots_journal.specs.Opening.{FoundTo}
+use Rattle.ots_journal.specs.Opening.{FoundTo, IsGate}
 use Rattle.ots_journal.specs.Stored.{entries_at}
 use Rattle.ots_journal.specs.declared.entry.Entry.{Entry}
 use Rattle.ots_journal.proofs.Refreshing.{told_at}
-use Rattle.ots_journal.proofs.Found.{empty_keeps, found_keeps, found_stands, small_torn}
+use Rattle.ots_journal.proofs.Found.{empty_keeps, found_gate, found_keeps, found_stands, small_torn}
 use Rattle.ots_journal.proofs.Places.{entries_cut}
 use Rattle.ots_journal.proofs.opening.find_journal.Goals as goal
 
@@ -68,3 +68,29 @@ returns-clause-list g c =
     let stands : Stands bytes c.of_file-2.result.entries = subst (λ (es : List Entry). Stands bytes es) (sym entries)
     (found_stands bytes (entries_at bytes places) gate (omega (arith, c.in_ok-bytes.ensures.size, c.if-length-le-EMPTY_JOURNAL.false)) f) in
     subst (λ (x : List ℕ). Stands x c.of_file-2.result.entries) same stands)
+
+pub returns-then-length-le-EMPTY_JOURNAL-clause-gate : goal.returns-then-length-le-EMPTY_JOURNAL-clause-gate
+returns-then-length-le-EMPTY_JOURNAL-clause-gate g c =
+    let told = g.D.Disk.bytes c.args.disk.now in
+    if_told told _ (λ b is. inl (
+      omega (arith, told_at told _ b is c.in_ok-length.ensures.length, c.if-length-le-EMPTY_JOURNAL.true),
+      c.of_file.ensures.size ∙ ap length c.in_ok-magic.ensures,
+    ))
+
+pub returns-clause-gate : goal.returns-clause-gate
+returns-clause-gate g c =
+    let d = g.D.Disk in
+    let old = c.args.disk.now in
+    let mid = c.settled_length.new.disk in
+    let bytes = c.in_ok-bytes.bytes.items in
+    let places = c.in_ok-found.found.places.items in
+    let gate = c.in_ok-found.found.gate in
+    let f : FoundTo bytes (entries_at bytes places) gate = rw c.deref.ensures.value at c.in_ok-found.ensures.ok in
+    let size : c.of_file-2.result.size ≡ gate = c.of_file-2.ensures.size ∙ ap length c.truncate.ensures.items ∙ length-take-le gate bytes (omega (arith, f.within)) in
+    if_told (d.bytes old) _ (λ b told.
+    let is : d.bytes mid ≡ Some b = c.settled_length.ensures.same ∙ told in
+    let long = told_at (d.bytes old) _ b told c.in_ok-length.ensures.length in
+    let same : bytes ≡ b = told_at (d.bytes mid) _ b is c.in_ok-bytes.ensures.bytes (sym long) in
+    let at : IsGate bytes c.of_file-2.result.size = subst (IsGate bytes) (sym size)
+    (found_gate bytes (entries_at bytes places) gate (omega (arith, c.in_ok-bytes.ensures.size, c.if-length-le-EMPTY_JOURNAL.false)) f) in
+    subst (λ (x : List ℕ). IsGate x c.of_file-2.result.size) same at)

@@ -1,4 +1,8 @@
-use Rattle.ots_server.proofs.Inputs.{block_given, block_moments, block_stops, reads_given, reads_refused}
+use Rattle.std.proofs.Common.{inr}
+use Rattle.ots_block.specs.Block.{IsBlock}
+use Rattle.ots_server_inputs.specs.Block.{RefusesBlock}
+use Rattle.ots_server.specs.Answer.{is_given}
+use Rattle.ots_server.proofs.Inputs.{given_ends, given_moments, input_comes, reads_given, reads_refused, stop_ends}
 use Rattle.ots_server.proofs.Running.{idle_moments, uncalled}
 use Rattle.ots_server.proofs.run.run_anchor.Goals as goal
 
@@ -8,19 +12,23 @@ run_task-requires g c =
     (c.args.asked.height_small, is.some, is.transactions.most)
 
 pub returns-in-Ok-clause-ends : goal.returns-in-Ok-clause-ends
-returns-in-Ok-clause-ends g c = block_given _ _ _ _ _ _ _ _ _ _ c.in-Ok.block c.in-Ok.ensures.answer c.run_task.ensures.ends
+returns-in-Ok-clause-ends g c = given_ends _ _ _ _ _ _ _ _ _ (λ e h. is_given c.in-Ok.block c.in-Ok.ensures.answer h) c.run_task.ensures.ends
 
 pub returns-in-Ok-clause-moments : goal.returns-in-Ok-clause-moments
-returns-in-Ok-clause-moments g c = block_moments g.D.Disk.clock g.D.Disk.images_since _ _ _ _ _ _ _ c.in-Ok.block c.in-Ok.ensures.answer c.run_task.ensures.moments
+returns-in-Ok-clause-moments g c = given_moments g.D.Disk.clock g.D.Disk.images_since _ _ _ _ _ _
+    (λ entries added h. record { block = c.in-Ok.block; has_block = c.in-Ok.ensures.answer; adds = h }) c.run_task.ensures.moments
 
 pub returns-in-Ok-clause-shelf : goal.returns-in-Ok-clause-shelf
 returns-in-Ok-clause-shelf g c = reads_given c.in-Ok.block _ c.in-Ok.ensures
 
 pub returns-in-Err-clause-ends : goal.returns-in-Err-clause-ends
-returns-in-Err-clause-ends g c = block_stops _ _ _ _ _ _ _ _ _ _ _ _ _ c.in-Err.stop c.in-Err.ensures.answer c.refuse_input-status.ensures.printed
+returns-in-Err-clause-ends g c = stop_ends _ _ _ _ _ _ _ _ c.in-Err.stop (input_comes IsBlock RefusesBlock _ _ _ _ _ _ _ _ c.in-Err.stop c.in-Err.ensures.answer) c.refuse_input-status.ensures.printed
 
 pub returns-in-Err-clause-moments : goal.returns-in-Err-clause-moments
 returns-in-Err-clause-moments g c = idle_moments g.D.Disk.clock g.D.Disk.images_since _ _ _ _ _ (uncalled g.D.Disk.clock g.D.Disk.images g.D.Disk.images_since g.met.D.Disk.only_now c.args.disk)
 
 pub returns-in-Err-clause-shelf : goal.returns-in-Err-clause-shelf
 returns-in-Err-clause-shelf g c = reads_refused c.in-Err.stop _ c.refuse_input-status.ensures.memory c.in-Err.ensures
+
+pub returns-in-Ok-clause-untouched : goal.returns-in-Ok-clause-untouched
+returns-in-Ok-clause-untouched g c = inr (c.in-Ok.block, c.in-Ok.ensures.answer)

@@ -1,4 +1,3 @@
-use Rattle.std.proofs.Common.{sym}
 use Rattle.ots_server_inputs.proofs.Blocks.{block_refused}
 use Rattle.ots_server_inputs.proofs.block.block_of.Goals as goal
 

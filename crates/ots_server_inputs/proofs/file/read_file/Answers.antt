@@ -1,5 +1,5 @@
 use Rattle.std.proofs.Common.{rules}
-use Rattle.ots_server_inputs.proofs.Reading.{bytes_read, bytes_refused, error_is}
+use Rattle.ots_server_inputs.proofs.Reading.{bytes_refused, error_is}
 use Rattle.ots_server_inputs.proofs.file.read_file.Goals as goal
 
 pub returns-in_err-read : goal.returns-in_err-read

@@ -16,9 +16,9 @@ returns-in_err-matches c =
 pub returns-in-Some : goal.returns-in-Some
 returns-in-Some c =
     form_taken c.args.form _ _ _ _ _ c.word.ensures c.arguments.ensures c.in_ok-matches.ensures.taken c.in_ok-matches.ensures.values
-    (sym c.command_in-found.ensures ∙ ap (option_map read_as) c.in-Some.is)
+    (sym c.in_ok-found.ensures ∙ ap (option_map read_as) c.in-Some.is)
 
 pub returns : goal.returns
 returns c = λ usage.
     form_taken c.args.form _ _ _ _ _ c.word.ensures c.arguments.ensures c.in_ok-matches.ensures.taken c.in_ok-matches.ensures.values
-    (sym c.command_in-found.ensures ∙ ap (option_map read_as) c.in-None.is)
+    (sym c.in_ok-found.ensures ∙ ap (option_map read_as) c.in-None.is)

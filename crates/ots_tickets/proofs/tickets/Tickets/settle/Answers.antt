@@ -1,11 +1,11 @@
-use Rattle.std.proofs.Common.{◌<◌, length, arith, List, sym, ap, subst}
+use Rattle.std.proofs.Common.{◌<◌, ◌≤◌, ◌^◌, length, arith, List, sym, ap, subst}
 use Rattle.std.specs.List.{AllByRecursion}
 use Rattle.ots_round.specs.declared.ticket.Ticket.{Ticket}
 use Rattle.ots_round.specs.Round.{leaves, round_commitment}
 use Rattle.ots_tickets.specs.declared.settled.Settled.{Settled}
 use Rattle.ots_tickets.specs.Numbers.{Fits}
-use Rattle.ots_tickets.specs.Tickets.{Leads, TicketsTold}
-use Rattle.ots_tickets.proofs.Places.{settles_below, below_index, all_either, settles_lead, lead_index}
+use Rattle.ots_tickets.specs.Tickets.{Leads, IsShort, TicketsTold}
+use Rattle.ots_tickets.proofs.Places.{settles_below, below_index, all_either, settles_lead, lead_index, settles_short, short_index}
 use Rattle.ots_tickets.proofs.tickets.Tickets.settle.Goals as goal
 
 pub invariant_of-self : goal.invariant_of-self
@@ -22,10 +22,14 @@ invariant_of-self c =
     let fit : AllByRecursion Fits waiting = subst (λ (x : TicketsTold). AllByRecursion Fits x.waiting) c.self.view_is c.self.invariant.waiting_fit in
     let lead : AllByRecursion Leads c.args.made.settled.items = subst (AllByRecursion Leads) (sym same.2.settled_are) (settles_lead 0 same.0 same.1 waiting fit) in
     let stored_lead : AllByRecursion Leads c.stored_at-settled.result.items = subst (AllByRecursion Leads) (sym c.stored_at-settled.ensures.items) (lead_index c.args.index c.args.made.settled.items lead) in
+    let few : length waiting ≤ 2 ^ 16 = subst (λ (x : TicketsTold). length x.waiting ≤ 2 ^ 16) c.self.view_is c.self.invariant.few in
+    let short : AllByRecursion IsShort c.args.made.settled.items = subst (AllByRecursion IsShort) (sym same.2.settled_are) (settles_short 0 (round_commitment same.0 same.1 waiting) waiting 0 waiting few) in
+    let stored_short : AllByRecursion IsShort c.stored_at-settled.result.items = subst (AllByRecursion IsShort) (sym c.stored_at-settled.ensures.items) (short_index c.args.index c.args.made.settled.items short) in
     record {
       few = omega (arith, ap length c.clear.ensures.items);
       waiting_fit = subst (AllByRecursion Fits) (sym c.clear.ensures.items) tt;
       leading = subst (AllByRecursion Leads) (sym c.append.ensures.items) (all_either Leads _ c.self.inside.settled.items c.stored_at-settled.result.items c.self.invariant.leading stored_lead);
+      short = subst (AllByRecursion IsShort) (sym c.append.ensures.items) (all_either IsShort _ c.self.inside.settled.items c.stored_at-settled.result.items c.self.invariant.short stored_short);
       waiting_below = subst (AllByRecursion (λ (t : Ticket). t.number < next)) (sym c.clear.ensures.items) tt;
       settled_below = subst (AllByRecursion Below) (sym c.append.ensures.items) (all_either Below _ c.self.inside.settled.items c.stored_at-settled.result.items c.self.invariant.settled_below stored);
     }

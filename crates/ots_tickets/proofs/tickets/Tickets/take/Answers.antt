@@ -1,4 +1,4 @@
-use Rattle.std.proofs.Common.{◌≡◌, inl, inr, refl, sym, ap, subst, get_or, take, drop, List, [], ◌∷◌, ◌++◌, ◌∙◌}
+use Rattle.std.proofs.Common.{◌≡◌, inl, inr, refl, sym, ap, subst, get_or, take, drop, List, [], ◌∷◌, ◌++◌, ◌∙◌, arith, length-append}
 use Rattle.std.proofs.lemmas.Option.{slice_get-get_or}
 use Rattle.std.specs.Prelude.{Some}
 use Rattle.ots_attest.specs.declared.attestation.Attestation.TheVariants.{Pending}
@@ -14,7 +14,7 @@ use Rattle.ots_tickets.specs.Search.{IsPlace}
 use Rattle.ots_tree.specs.declared.token.Token.{Token}
 use Rattle.ots_tickets.specs.declared.tickets.Taken.TheVariants as taken
 use Rattle.ots_tickets.specs.Calls.{tree_of}
-use Rattle.ots_tickets.specs.Tickets.{TicketsTold, Waits, IsSettled, Leads, NoneIs, TakesOne}
+use Rattle.ots_tickets.specs.Tickets.{TicketsTold, Waits, IsSettled, Leads, IsShort, NoneIs, TakesOne}
 use Rattle.ots_tickets.proofs.Places.{takes_at, one_at, any_default, all_at}
 use Rattle.ots_tickets.proofs.tickets.Tickets.take.Goals as goal
 use Rattle.ots_tickets.proofs.tickets.Tickets.take.Goals.{in-Some-place_of_waiting, in-None-place_of_waiting}
@@ -46,11 +46,13 @@ returns-in_ok-tree-in-Some-clause-leads c =
     let here : get_or xs i one ≡ one = sym c.remove-settled.ensures.value in
     let is : one.ticket ≡ t = subst (IsSettled t) here (place.is (get_or xs i one) (slice_get-get_or xs i one place.inside)) in
     let leads : Leads one = subst Leads here (all_at Leads xs i one place.inside c.self.invariant.leading) in
+    let short : IsShort one = subst IsShort here (all_at IsShort xs i one place.inside c.self.invariant.short) in
     let way_is : way one.ticket.nonce one.path one.receipt.commitment ≡ way t.nonce one.path one.receipt.commitment = ap (λ (x : Ticket). way x.nonce one.path one.receipt.commitment) is in
     record {
       rest = one.path ++ Prepend (take 4 one.receipt.commitment) ∷ Append (drop 36 one.receipt.commitment) ∷ [];
       tree_is = c.in_ok-tree-in-Some.ensures ∙ ap (λ (x : Settled). tree_of x c.args.uri.now) read ∙ ap (λ (ops : List Op). pre (lone ops (Pending c.args.uri.now))) way_is;
       leads = subst (λ (x : Ticket). value (way x.nonce one.path one.receipt.commitment) x.leaf ≡ Some one.receipt.commitment) is leads;
+      few = omega (arith, length-append one.path (Prepend (take 4 one.receipt.commitment) ∷ Append (drop 36 one.receipt.commitment) ∷ []));
     }
 
 pub returns-after-place_of_waiting-clause-takes : goal.returns-after-place_of_waiting-clause-takes

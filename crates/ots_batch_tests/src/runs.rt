@@ -1,0 +1,142 @@
+// Runs of the calendar over objects in memory.
+use hex::decode;
+use ots_disk::{DiskRoom, MemoryDisk};
+use ots_io::{BytesLink, BytesSink, FixedClock, ListAccepter, ListNonces, MapShelf, ShelfRoom};
+use ots_server::{DaemonStatus, run_calendar};
+use std::alloc::Global;
+use std::collections::VecDeque;
+use std::test::Fail;
+
+const ROOM: DiskRoom = DiskRoom {
+    calls: 100,
+    write: 8000,
+    file: 40000,
+};
+
+/// The words of a batch over the files `k` and `d`.
+pub const BATCH: [&str; 7] = [
+    "j",
+    "batch",
+    "--key",
+    "k",
+    "--uri",
+    "http://127.0.0.1:14788",
+    "d",
+];
+
+/// The words of a migration of the file `d`.
+pub const MIGRATE: [&str; 3] = ["j", "migrate", "d"];
+
+/// What a run is done on: the journal's bytes, the files `k` and `d`, the nonces, the second, and
+/// which calls of the disk, of the shelf, of the nonces and of the sink fail.
+#[derive(Clone, Copy)]
+pub struct On<'a> {
+    pub journal: &'a [u8],
+    pub key: &'a [u8],
+    pub file: &'a [u8],
+    pub nonces: &'a [u8],
+    pub second: u64,
+    pub disk: &'a [u64],
+    pub shelf: &'a [u64],
+    pub draws: &'a [u64],
+    pub sink: &'a [u64],
+}
+
+impl<'a> On<'a> {
+    /// No call fails, and the key is 64 times the letter k.
+    pub fn new(journal: &'a [u8], file: &'a [u8], nonces: &'a [u8]) -> On<'a> {
+        On {
+            journal,
+            key: &[b'k'; 64],
+            file,
+            nonces,
+            second: 1_700_000_000,
+            disk: &[],
+            shelf: &[],
+            draws: &[],
+            sink: &[],
+        }
+    }
+
+    /// A migration of this file, where these calls of the disk fail.
+    pub fn migrating(journal: &'a [u8], file: &'a [u8], disk: &'a [u64]) -> On<'a> {
+        On {
+            journal,
+            key: &[b'k'; 64],
+            file,
+            nonces: &[],
+            second: 1_700_000_000,
+            disk,
+            shelf: &[],
+            draws: &[],
+            sink: &[],
+        }
+    }
+}
+
+/// How a run ended, what was printed, and the disk.
+#[derive(Drop)]
+pub struct Ended {
+    pub status: DaemonStatus,
+    pub out: BytesSink,
+    pub disk: MemoryDisk,
+}
+
+/// The bytes of hexadecimal digits.
+pub fn bytes_of(alloc: Global, digits: &str) -> Result<Vec<u8>, Fail> {
+    match decode(alloc, digits) {
+        Ok(bytes) => Ok(bytes),
+        Err(_) => Err(Fail::from("digits")),
+    }
+}
+
+/// A run on these objects.
+pub fn run_on(alloc: Global, words: &[&str], on: &On<'_>) -> Result<Ended, Fail> {
+    let mut owned = Vec::new(alloc);
+    for word in words {
+        owned.push(word.to_string(alloc)?)?;
+    }
+    let room = ShelfRoom {
+        names: 3,
+        name_length: 1,
+        bytes: 1000,
+        slots: 2,
+    };
+    let mut shelf = MapShelf::new(alloc, room, on.shelf)?;
+    shelf.put("k", on.key)?;
+    shelf.put("d", on.file)?;
+    let mut out = BytesSink::new(alloc, 20_000, on.sink)?;
+    let links: VecDeque<BytesLink> = VecDeque::new(alloc);
+    let (status, returned) = run_calendar(
+        alloc,
+        &owned,
+        MemoryDisk::new(alloc, on.journal, ROOM, on.disk)?,
+        &mut shelf,
+        &mut out,
+        ListAccepter::new(alloc, links, &[])?,
+        FixedClock { second: on.second },
+        ListNonces::new(alloc, on.nonces, on.draws)?,
+    );
+    Ok(Ended {
+        status,
+        out,
+        disk: returned.disk,
+    })
+}
+
+/// Whether a run ends with this number and prints this.
+pub fn ends(ended: &Ended, number: u8, text: &str) -> bool {
+    ended.status.number() == number && ended.out.bytes() == text.as_bytes()
+}
+
+/// Whether a run ends so, and calls no disk.
+pub fn refuses(
+    alloc: Global,
+    words: &[&str],
+    on: &On<'_>,
+    number: u8,
+    text: &str,
+) -> Result<bool, Fail> {
+    let ended = run_on(alloc, words, on)?;
+    Ok(ends(&ended, number, text) && ended.disk.calls().is_empty())
+}

@@ -1,0 +1,7 @@
+use Rattle.std.proofs.Common.{subst, rules}
+use Rattle.ots_upgrade.specs.Stamped.{AreSoundBelow, IsGatheredBelow}
+use Rattle.ots_cli.proofs.stamping.answered.Goals as goal
+
+pub new-requires-clause-sound : goal.new-requires-clause-sound
+new-requires-clause-sound c = subst (IsGatheredBelow c.args.batch) c.in-Some.is
+    (c.in_ok-good.ensures.below c.args.batch (subst (AreSoundBelow c.args.batch) (search rules) c.requires.sound))

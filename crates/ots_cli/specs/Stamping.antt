@@ -1,0 +1,85 @@
+-- What `stamp` does: files are hashed, each with a nonce of its own, calendars are asked to timestamp the root over all of
+-- them, and each file's proof is made. Source: the client of the reference library (opentimestamps-client,
+-- otsclient/cmds.py, stamp_command and create_timestamp).
+use Rattle.std.specs.Prelude.{◌≡◌, ◌<◌, ◌≤◌, ℕ, List, [], ◌∷◌, ◌++◌, codes, length, map, slice_get, suc, zip, Some, None}
+use Rattle.std.specs.List.{flat_map}
+use Rattle.ots_address.specs.Address.{AddressParts}
+use Rattle.ots_info.specs.Listing.{line}
+use Rattle.ots_lines.specs.Lines.{calendar_line}
+use Rattle.ots_merkle.specs.CalendarTree.{root}
+use Rattle.ots_tree.specs.declared.detached.Detached.{Detached}
+use Rattle.ots_tree.specs.declared.token.Token.{Token}
+use Rattle.ots_upgrade.specs.declared.outcome.Outcome.{Outcome}
+use Rattle.ots_upgrade.specs.declared.target.Target.{Target}
+use Rattle.ots_upgrade.specs.Stamped.{Gathers, IsDepth, IsSoundBelow, IsStampOf, good_trees, leaves}
+use Rattle.ots_upgrade.specs.Stamping.{to_stamp}
+use Rattle.ots_cli.specs.Asking.{Outside}
+use Rattle.ots_cli.specs.Ending.{Act, Ending, makes_stamp, prints, refused}
+use Rattle.ots_cli.specs.Refusal.{refusal_text}
+use Rattle.ots_cli.specs.declared.status.Status.TheVariants.{Done, NonceFault, TooFew}
+
+-- ---- the files
+
+-- the name of a file's proof
+abbrev pub proof_name : List ℕ → List ℕ
+proof_name name = name ++ codes ".ots"
+
+-- ---- what is asked
+
+-- Each of these files has its digest and the nonce that was drawn for it, and each calendar was sent the root over them.
+pub record AreAsked (o : Outside) (calendars : List AddressParts) (digests : List (List ℕ)) (targets : List Target) : Type 0 where
+  pub digests_are : map (λ t. t.digest) targets ≡ digests
+  pub nonces_are : o.nonces ≡ Some (map (λ t. t.nonce) targets)
+  pub depth : ℕ
+  pub depth_is : IsDepth (leaves targets) depth
+  pub questions_are : o.questions ≡ map (to_stamp (root (leaves targets)) depth) calendars
+
+-- ---- what comes of it
+
+-- a line for each calendar
+abbrev pub calendars_text : List AddressParts → List Outcome → List ℕ
+calendars_text calendars outcomes = flat_map calendar_line (zip calendars outcomes)
+
+-- it is told that a file was made
+abbrev pub wrote_text : List ℕ → List ℕ
+wrote_text name = line (codes "wrote " ++ proof_name name)
+
+-- This is the proof of the i-th file, where these trees were answered.
+abbrev pub IsStampAt : List Target → List (List Token) → ℕ → Detached → Type 0
+IsStampAt targets trees i proof = (t : Target) × (slice_get targets i ≡ Some t) × IsStampOf targets i t trees proof
+
+-- files whose proofs are to be made, and what came of asking each calendar
+pub record StampedFiles : Type 0 where
+  pub calendars : List AddressParts
+  pub outcomes : List Outcome
+  pub files : List (List ℕ)
+  pub targets : List Target
+
+-- the proof of each file is made in order, from the i-th on, and that is told
+abbrev pub stamp_acts : List Target → List (List Token) → ℕ → List (List ℕ) → List Act
+stamp_acts targets trees i [] = []
+stamp_acts targets trees i (name ∷ names) =
+    makes_stamp targets trees i (proof_name name) ∷ prints (wrote_text name) ∷ stamp_acts targets trees (suc i) names
+
+-- No nonce could be drawn, and that is told before any calendar is asked. Or what came of each calendar is printed. Then it
+-- is told that too few of them timestamped the files, or each file's proof is made.
+pub data Stamps (o : Outside) (least : ℕ) (files : List (List ℕ)) (calendars : List AddressParts) (digests : List (List ℕ)) (e : Ending) : Type 0 where
+  no_nonce : o.nonces ≡ None → o.questions ≡ [] → e ≡ refused [] NonceFault → Stamps o least files calendars digests e
+  too_few : (targets : List Target) → AreAsked o calendars digests targets → length (good_trees o.outcomes) < least
+      → e ≡ record {
+        status = TooFew (length (good_trees o.outcomes)) least;
+        acts = prints (calendars_text calendars o.outcomes) ∷ prints (refusal_text [] (TooFew (length (good_trees o.outcomes)) least)) ∷ [];
+      } → Stamps o least files calendars digests e
+  stamped : (targets : List Target) → AreAsked o calendars digests targets → least ≤ length (good_trees o.outcomes)
+      → e ≡ record {
+        status = Done;
+        acts = prints (calendars_text calendars o.outcomes) ∷ stamp_acts targets (good_trees o.outcomes) 0 files;
+      } → Stamps o least files calendars digests e
+
+-- ---- for the code
+
+-- What is kept of files that calendars timestamped: one tree has the paths of all good answers, and is sound below the root.
+pub record KeepsStamped (files : List (List ℕ)) (targets : List Target) (outcomes : List Outcome) (good : List Token) : Type 0 where
+  pub count : length files ≡ length targets
+  pub sound : IsSoundBelow targets good
+  pub gathers : Gathers (good_trees outcomes) good

@@ -1,0 +1,92 @@
+//! What came of asking calendars to timestamp files.
+ghost use Rattle.std.specs.Prelude.{◌≡◌, ◌<◌, [], length, slice_index_or, IfOk};
+ghost use Rattle.ots_cli.specs.Stamping.{IsStampAt};
+ghost use Rattle.ots_words.specs.Words.{texts};
+ghost use Rattle.ots_upgrade.specs.Stamped.{Gathers, IsSoundBelow, good_trees};
+
+use ots_address::Address;
+use ots_base::OutOfMemory;
+use ots_tree::{Detached, Tree};
+use ots_upgrade::{Batch, Outcome};
+use std::alloc::Global;
+use std::marker::Model;
+
+/// What came of asking calendars.
+#[derive(Drop)]
+pub struct Replies {
+    pub calendars: Vec<Address>,
+    /// What came of asking each of them.
+    pub outcomes: Vec<Outcome>,
+    pub ghost each: { length outcomes.items ≡ length calendars.items },
+}
+
+/// Files that calendars have timestamped, whose proofs are still to be made.
+///
+/// Contracts see the names of the files, what is stamped, and what came of asking each calendar.
+#[derive(Drop)]
+pub struct Stamped<'a> {
+    replies: Replies,
+    files: Vec<&'a str>,
+    batch: Batch,
+    good: Tree,
+}
+
+impl<'a> Model for Stamped<'a> {
+    ghost use Rattle.ots_cli.specs.Stamping.{KeepsStamped, StampedFiles};
+    ghost use Rattle.ots_words.specs.Words.{texts};
+
+    ghost Value = { StampedFiles };
+
+    ghost view = { λ s. record { calendars = s.replies.calendars.items; outcomes = s.replies.outcomes.items; files = texts s.files.items; targets = s.batch } };
+
+    ghost invariant = { λ s. KeepsStamped (texts s.files.items) s.batch s.replies.outcomes.items s.good };
+}
+
+impl<'a> Stamped<'a> {
+    /// Files of a batch that were timestamped, where the good trees of all calendars are gathered in
+    /// one.
+    pub fn new(replies: Replies, files: Vec<&'a str>, batch: Batch, good: Tree) -> Stamped<'a>
+        requires count { length files.items ≡ length batch }
+        requires sound { IsSoundBelow batch good }
+        requires gathers { Gathers (good_trees replies.outcomes.items) good }
+        ensures { result ≡ record { calendars = replies.calendars.items; outcomes = replies.outcomes.items; files = texts files.entry.items; targets = batch } }
+    {
+        Stamped {
+            replies,
+            files,
+            batch,
+            good,
+        }
+    }
+
+    /// What came of asking the calendars.
+    pub fn replies(&self) -> &Replies
+        ensures calendars { result.now.calendars.items ≡ self.now.calendars }
+        ensures outcomes { result.now.outcomes.items ≡ self.now.outcomes }
+    {
+        &self.replies
+    }
+
+    /// How many files there are.
+    pub fn count(&self) -> usize
+        ensures { result ≡ length self.now.files }
+    {
+        self.files.len()
+    }
+
+    /// The name of one of the files.
+    pub fn name(&self, i: usize) -> &'a str
+        requires { i < length self.now.files }
+        ensures { result.now ≡ slice_index_or self.now.files i [] }
+    {
+        self.files[i]
+    }
+
+    /// The proof of one of the files.
+    pub fn proof(&self, alloc: Global, i: usize) -> Result<Detached, OutOfMemory>
+        requires { i < length self.now.files }
+        ensures { IfOk result (IsStampAt self.now.targets (good_trees self.now.outcomes) i) }
+    {
+        self.batch.proof(alloc, i, &self.good)
+    }
+}

@@ -1,0 +1,17 @@
+-- A file that is a journal of version 1 or none.
+use Rattle.std.specs.Prelude.{◌≡◌, ◌<◌, ℕ, List, length, Vec}
+use Rattle.std.specs.declared.alloc.Global.{Global}
+use Rattle.ots_journal.specs.declared.entry.Entry.{Entry}
+use Rattle.ots_journal.specs.declared.errors.OldError.TheVariants as old
+use Rattle.ots_journal.specs.declared.limits.TheConstants.{MAX_JOURNAL}
+use Rattle.ots_journal.specs.Version1.{Refuses1, Stands1}
+use Rattle.ots_server_text.specs.declared.status.DaemonStatus.{DaemonStatus}
+use Rattle.ots_server_text.specs.declared.status.DaemonStatus.TheVariants.{Damaged, NotAJournal, TooBig}
+
+abbrev pub AreOldEntries : List ℕ → Vec Entry Global → Type 0
+AreOldEntries bytes entries = Stands1 bytes entries.items
+
+pub data RefusesOld (bytes : List ℕ) (s : DaemonStatus) : Type 0 where
+  too_big : MAX_JOURNAL < length bytes → s ≡ TooBig → RefusesOld bytes s
+  no_journal : Refuses1 bytes old.NotAJournal → s ≡ NotAJournal → RefusesOld bytes s
+  damaged : (place : ℕ) → Refuses1 bytes (old.Damaged place) → s ≡ Damaged place → RefusesOld bytes s

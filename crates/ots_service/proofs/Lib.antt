@@ -1,0 +1,7 @@
+mod Answering
+mod Closes
+mod Held
+mod Receipts
+mod Sent
+mod Short
+mod Withdrawn

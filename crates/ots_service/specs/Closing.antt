@@ -1,0 +1,25 @@
+-- What a book is left with where the round of a ticket is closed. It serves the code alone.
+use Rattle.std.specs.Prelude.{◌≡◌, ◌⊎◌, ◌≤◌, ℕ, ◌+◌, List, ◌++◌, length}
+use Rattle.ots_calendar.specs.Book.{BookTold}
+use Rattle.ots_shared.specs.Records.{StartsWith}
+use Rattle.ots_round.specs.declared.ticket.Ticket.{Ticket}
+use Rattle.ots_tickets.specs.Tickets.{TicketsTold, IsSettled, OneIs, Waits, settles}
+
+-- Records are added at the end alone, the limit stays, and no more tickets wait than before.
+pub record Goes {D : Type 0} (old new : BookTold D) : Type 0 where
+  pub records : StartsWith new.store.records old.store.records
+  pub limit : new.store.journal.limit ≡ old.store.journal.limit
+  pub waiting : length new.tickets.waiting ≤ length old.tickets.waiting
+
+-- How many tickets are kept: those that wait, and those whose round is closed.
+abbrev pub kept : TicketsTold → ℕ
+kept t = length t.waiting + length t.settled
+
+-- The ticket is one of them.
+abbrev pub IsKept : Ticket → TicketsTold → Type 0
+IsKept ticket t = OneIs (Waits ticket) t.waiting ⊎ OneIs (IsSettled ticket) t.settled
+
+-- All that waited are settled by one round.
+pub record Closed {D : Type 0} (key : List ℕ) (second : ℕ) (old new : BookTold D) : Type 0 where
+  pub index : ℕ
+  pub settled : new.tickets.settled ≡ old.tickets.settled ++ settles key second index old.tickets.waiting

@@ -1,0 +1,2 @@
+/// The most workers of one server.
+pub const MAX_WORKERS: u32 = 64;

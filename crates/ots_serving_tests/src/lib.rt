@@ -1,0 +1,10 @@
+//! What no clause of `ots_serving` says: that several connections are served at once, that each gets
+//! its reply, and that no more are accepted than were asked for.
+#![tactic(auto)]
+
+#[cfg(test)]
+mod forms;
+#[cfg(test)]
+mod runs;
+#[cfg(test)]
+mod tests;

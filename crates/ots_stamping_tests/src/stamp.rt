@@ -1,0 +1,283 @@
+// Files that calendars are asked to timestamp. The first and the third hold `Hello World!` and LF, the second `abc`.
+// Leaves and roots were computed with Python's hashlib.
+use ots_cli_runs::{Ended, Failing, HEAD, HEAD_OF_ABC, file_of, run_stamping};
+use ots_io::{ListNonces, ScriptDialer};
+use std::alloc::Global;
+use std::process::Abort;
+use std::test::Fail;
+
+const FIRST: (&str, &[u8]) = ("a", b"Hello World!\n");
+
+const SECOND: (&str, &[u8]) = ("b", b"abc");
+
+const THIRD: (&str, &[u8]) = ("c", b"Hello World!\n");
+
+/// Nonces for three files.
+const NONCES: &[u8] = b"AAAAAAAAAAAAAAAABBBBBBBBBBBBBBBBCCCCCCCCCCCCCCCC";
+
+/// SHA-256 of each file's digest and nonce.
+const FIRST_LEAF: &[u8] =
+    b"W4\xac\x18\xee%W\xdcu0\xee\xadt\xf0\xb3.\xc0\xae\xdd)U\xf7\xb4\xe1\x5c\xf4\x94y`\x97sQ";
+
+const SECOND_LEAF: &[u8] =
+    b"\xc2.\xe8\x0d\xda\x9b\x0al4H{0\xd9*\x0f\xd6-E\x22\xa0\x88\x84\xe0\x9b\x18\x10\xc23Z\xf5\xec#";
+
+const THIRD_LEAF: &[u8] =
+    b"4`\x04Dx\x05\xe0\x89\xdaJL\xf1\xf8\xc0q\xfe\xc5$\x09\x0d\xc0\x0a\x10H\xad\xf2\xac\x9cBa\x04\xbb";
+
+/// SHA-256 of the first two leaves, and of that and the third.
+const FIRST_TWO: &[u8] =
+    b"r\xe4Wj;\xfc\x0a\xb2u\xd8\xeam79\xf0\xb0\xc6\x8e\x86:\xf5\xab\xcf\xe9\x03%\x08\x02\xd4\x8cgX";
+
+const ROOT: &[u8] =
+    b"\xcd\xcf\x9f\xc4\xfe\x92\xaeF=\x106\x89`f\xa0\xce\xfb\xf5\xd6\xef\x8e\xdbj\xdc\xd7\x98.\x85\x8f\x99H\x87";
+
+/// The request for a root, up to its body.
+const REQUEST_HEAD: &[u8] = b"POST /digest HTTP/1.1\r\n\
+    Host: 127.0.0.1:14788\r\n\
+    Accept: application/vnd.opentimestamps.v1\r\n\
+    Content-Type: application/octet-stream\r\n\
+    Content-Length: 32\r\n\
+    Connection: close\r\n\r\n";
+
+/// A calendar's tree: SHA-256, and the Bitcoin block 7.
+const TREE: &[u8] = b"\x08\0\x05\x88\x96\x0d\x73\xd7\x19\x01\x01\x07";
+
+const REPLY: &[u8] = b"HTTP/1.1 200 OK\r\nContent-Length: 12\r\n\r\n\
+    \x08\0\x05\x88\x96\x0d\x73\xd7\x19\x01\x01\x07";
+
+/// The tree of a calendar in whose round the root was alone: its nonce, the time, its MAC, and its
+/// pending attestation. 68 bytes.
+const ROUND: &[u8] = b"\xf0\x10NNNNNNNNNNNNNNNN\x08\xf1\x04\x65\x53\xf1\0\xf0\x08MMMMMMMM\
+    \0\x83\xdf\xe3\x0d\x2e\xf9\x0c\x8e\x17\x16http://127.0.0.1:14788";
+
+const ROUND_REPLY: &[u8] = b"HTTP/1.1 200 OK\r\nContent-Length: 68\r\n\r\n\
+    \xf0\x10NNNNNNNNNNNNNNNN\x08\xf1\x04\x65\x53\xf1\0\xf0\x08MMMMMMMM\
+    \0\x83\xdf\xe3\x0d\x2e\xf9\x0c\x8e\x17\x16http://127.0.0.1:14788";
+
+/// A calendar that is busy.
+const BUSY: &[u8] = b"HTTP/1.1 503 Service Unavailable\r\nContent-Length: 5\r\n\r\nbusy\n";
+
+const CALENDAR: &str = "http://127.0.0.1:14788";
+
+const CALENDARS: &str = "http://127.0.0.1:14788,http://127.0.0.1:14789";
+
+/// No call fails.
+const NONE: Failing<'static> = Failing {
+    shelf: &[],
+    dialer: &[],
+    writes: &[],
+};
+
+/// The first file is stamped at one calendar that gives this reply.
+fn stamped(
+    alloc: Global,
+    reply: &[u8],
+    failing: Failing<'_>,
+) -> Result<(Ended, ScriptDialer), Fail> {
+    let mut nonces = ListNonces::new(alloc, NONCES, &[])?;
+    let words = ["stamp", "--calendars", CALENDAR, "--min", "1", "a"];
+    run_stamping(alloc, &words, &[FIRST], &[reply], failing, &mut nonces)
+}
+
+/// Three files are stamped at two calendars, of which the second is busy and so many have to answer.
+fn all_stamped(alloc: Global, least: &str) -> Result<(Ended, ScriptDialer), Fail> {
+    let mut nonces = ListNonces::new(alloc, NONCES, &[])?;
+    let words = [
+        "stamp",
+        "--calendars",
+        CALENDARS,
+        "--min",
+        least,
+        "a",
+        "b",
+        "c",
+    ];
+    let files = [FIRST, SECOND, THIRD];
+    run_stamping(
+        alloc,
+        &words,
+        &files,
+        &[ROUND_REPLY, BUSY],
+        NONE,
+        &mut nonces,
+    )
+}
+
+/// The run ended with this number and this text.
+fn expect(rt: &impl Abort, ended: &Ended, number: u8, text: &str) {
+    assert_eq!(rt; ended.status.number(), number);
+    assert_eq!(rt; ended.out.bytes(), text.as_bytes());
+}
+
+/// Under this name is a file of these parts.
+fn expect_file(
+    rt: &(impl Abort + AllocGlobal),
+    ended: &Ended,
+    name: &str,
+    parts: &[&[u8]],
+) -> Result<(), Fail> {
+    let file = file_of(rt.alloc(), parts)?;
+    assert_eq!(rt; ended.shelf.bytes_of(name), Some(file.as_slice()));
+    Ok(())
+}
+
+#[test]
+fn one_file_is_stamped(rt: HostRuntime) -> Result<(), Fail> {
+    let (ended, dialer) = stamped(rt.alloc(), REPLY, NONE)?;
+    expect(&rt, &ended, 0, "http://127.0.0.1:14788 ok\nwrote a.ots\n");
+    let nonce = b"\xf0\x10AAAAAAAAAAAAAAAA\x08";
+    expect_file(&rt, &ended, "a.ots", &[HEAD, nonce, TREE])?;
+    let sent = dialer.sent(0).ok_or("nothing was sent")?;
+    let request = file_of(rt.alloc(), &[REQUEST_HEAD, FIRST_LEAF])?;
+    assert_eq!(rt; sent.port, 14788);
+    assert_eq!(rt; sent.bytes, request.as_slice());
+    assert_eq!(rt; dialer.sent(1), None);
+    Ok(())
+}
+
+/// The lines of both calendars.
+const BOTH: &str = "http://127.0.0.1:14788 ok\nhttp://127.0.0.1:14789 status 503\n";
+
+#[test]
+fn three_files_are_stamped_under_one_root(rt: HostRuntime) -> Result<(), Fail> {
+    let alloc = rt.alloc();
+    let (ended, dialer) = all_stamped(alloc, "1")?;
+    let text = format!(in alloc; "{BOTH}wrote a.ots\nwrote b.ots\nwrote c.ots\n")?;
+    expect(&rt, &ended, 0, &text);
+    let first = file_of(
+        alloc,
+        &[b"\xf0\x10AAAAAAAAAAAAAAAA\x08\xf0\x20", SECOND_LEAF],
+    )?;
+    let last = file_of(alloc, &[b"\x08\xf0\x20", THIRD_LEAF, b"\x08"])?;
+    expect_file(&rt, &ended, "a.ots", &[HEAD, &first, &last, ROUND])?;
+    let second = file_of(
+        alloc,
+        &[b"\xf0\x10BBBBBBBBBBBBBBBB\x08\xf1\x20", FIRST_LEAF],
+    )?;
+    expect_file(&rt, &ended, "b.ots", &[HEAD_OF_ABC, &second, &last, ROUND])?;
+    let third = file_of(
+        alloc,
+        &[b"\xf0\x10CCCCCCCCCCCCCCCC\x08\xf1\x20", FIRST_TWO, b"\x08"],
+    )?;
+    expect_file(&rt, &ended, "c.ots", &[HEAD, &third, ROUND])?;
+    let sent = dialer.sent(0).ok_or("nothing was sent")?;
+    let request = file_of(alloc, &[REQUEST_HEAD, ROOT])?;
+    assert_eq!(rt; sent.bytes, request.as_slice());
+    Ok(())
+}
+
+#[test]
+fn too_few_calendars_leave_no_proof(rt: HostRuntime) -> Result<(), Fail> {
+    let (ended, _dialer) = all_stamped(rt.alloc(), "2")?;
+    let text = format!(in rt.alloc(); "{BOTH}too few 1 of 2\n")?;
+    expect(&rt, &ended, 10, &text);
+    assert_eq!(rt; ended.shelf.bytes_of("a.ots"), None);
+    Ok(())
+}
+
+#[test]
+fn a_deep_tree_is_refused(rt: HostRuntime) -> Result<(), Fail> {
+    let alloc = rt.alloc();
+    let mut reply = file_of(alloc, &[b"HTTP/1.1 200 OK\r\n\r\n"])?;
+    for _ in 0..254 {
+        reply.push(8)?;
+    }
+    reply.extend_from_slice(b"\0\x05\x88\x96\x0d\x73\xd7\x19\x01\x01\x07")?;
+    let (ended, _dialer) = stamped(alloc, &reply, NONE)?;
+    let text = "http://127.0.0.1:14788 bad reply at 253: too deep\ntoo few 0 of 1\n";
+    expect(&rt, &ended, 10, text);
+    Ok(())
+}
+
+#[test]
+fn a_failed_draw_asks_nobody(rt: HostRuntime) -> Result<(), Fail> {
+    let alloc = rt.alloc();
+    let mut nonces = ListNonces::new(alloc, NONCES, &[1])?;
+    let words = ["stamp", "--calendars", CALENDAR, "--min", "1", "a"];
+    let (ended, dialer) = run_stamping(alloc, &words, &[FIRST], &[REPLY], NONE, &mut nonces)?;
+    expect(&rt, &ended, 11, "nonce fault\n");
+    assert_eq!(rt; dialer.sent(0), None);
+    Ok(())
+}
+
+#[test]
+fn a_name_that_is_there_is_told_behind_the_lines(rt: HostRuntime) -> Result<(), Fail> {
+    let alloc = rt.alloc();
+    let mut nonces = ListNonces::new(alloc, NONCES, &[])?;
+    let words = ["stamp", "--calendars", CALENDAR, "--min", "1", "a", "a"];
+    let (ended, _dialer) = run_stamping(alloc, &words, &[FIRST], &[REPLY], NONE, &mut nonces)?;
+    let text = "http://127.0.0.1:14788 ok\nwrote a.ots\nexists a.ots\n";
+    expect(&rt, &ended, 5, text);
+    Ok(())
+}
+
+/// A failed call of the shelf, by its number, ends with this number and this text.
+fn expect_fault(
+    rt: &(impl Abort + AllocGlobal),
+    call: u64,
+    number: u8,
+    text: &str,
+) -> Result<(), Fail> {
+    let failing = Failing {
+        shelf: &[call],
+        dialer: &[],
+        writes: &[],
+    };
+    let (ended, _dialer) = stamped(rt.alloc(), REPLY, failing)?;
+    expect(rt, &ended, number, text);
+    Ok(())
+}
+
+#[test]
+fn a_failed_call_of_the_shelf_is_told(rt: HostRuntime) -> Result<(), Fail> {
+    expect_fault(&rt, 1, 6, "read fault a\n")?;
+    expect_fault(&rt, 2, 6, "read fault a\n")?;
+    expect_fault(&rt, 4, 7, "http://127.0.0.1:14788 ok\nwrite fault a.ots\n")?;
+    expect_fault(&rt, 5, 7, "http://127.0.0.1:14788 ok\nwrite fault a.ots\n")
+}
+
+#[test]
+fn a_failed_call_of_the_dialer_makes_a_calendar_unreachable(rt: HostRuntime) -> Result<(), Fail> {
+    let failing = Failing {
+        shelf: &[],
+        dialer: &[1],
+        writes: &[],
+    };
+    let (ended, _dialer) = stamped(rt.alloc(), REPLY, failing)?;
+    let text = "http://127.0.0.1:14788 unreachable\ntoo few 0 of 1\n";
+    expect(&rt, &ended, 10, text);
+    Ok(())
+}
+
+#[test]
+fn a_failed_write_of_the_lines_leaves_no_proof(rt: HostRuntime) -> Result<(), Fail> {
+    let failing = Failing {
+        shelf: &[],
+        dialer: &[],
+        writes: &[1],
+    };
+    let (ended, _dialer) = stamped(rt.alloc(), REPLY, failing)?;
+    expect(&rt, &ended, 7, "");
+    assert_eq!(rt; ended.shelf.bytes_of("a.ots"), None);
+    Ok(())
+}
+
+/// Words of no form are refused.
+fn expect_usage(rt: &(impl Abort + AllocGlobal), words: &[&str]) -> Result<(), Fail> {
+    let mut nonces = ListNonces::new(rt.alloc(), NONCES, &[])?;
+    let (ended, _dialer) = run_stamping(rt.alloc(), words, &[], &[], NONE, &mut nonces)?;
+    let usage = "usage: ots info, canon, merge, prune, verify, stamp, upgrade, sample\n";
+    expect(rt, &ended, 2, usage);
+    Ok(())
+}
+
+#[test]
+fn words_of_another_form_are_refused(rt: HostRuntime) -> Result<(), Fail> {
+    expect_usage(&rt, &["stamp", "--calendars", CALENDAR, "--min", "1"])?;
+    expect_usage(&rt, &["stamp", "--calendars", CALENDAR, "--min", "0", "a"])?;
+    expect_usage(&rt, &["stamp", "--calendars", CALENDAR, "--min", "17", "a"])?;
+    expect_usage(&rt, &["stamp", "--calendars", CALENDAR, "--min", "01", "a"])?;
+    expect_usage(&rt, &["stamp", "--calendars", CALENDAR, "--min", "1", ""])?;
+    expect_usage(&rt, &["stamp", "--min", "1", "a"])
+}

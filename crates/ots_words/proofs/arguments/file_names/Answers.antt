@@ -1,0 +1,14 @@
+use Rattle.std.proofs.Common.{◌∙◌, ap, sym, rules}
+use Rattle.std.specs.Option.{option_and_then}
+use Rattle.clap.specs.Words.{found_of}
+use Rattle.ots_words.specs.Words.{some_names, texts}
+use Rattle.ots_words.proofs.Names.{given}
+use Rattle.ots_words.proofs.arguments.file_names.Goals as goal
+
+pub returns-in_err-get_strs : goal.returns-in_err-get_strs
+returns-in_err-get_strs c = rw c.from_residual.ensures
+    (sym (given (found_of c.args.matches.now) c.args.name.now _ c.get_strs.ensures ∙ ap (option_and_then (λ s. some_names (texts s.now))) c.in_err-get_strs.was))
+
+pub returns : goal.returns
+returns c = c.some_names.ensures
+    ∙ sym (given (found_of c.args.matches.now) c.args.name.now _ c.get_strs.ensures ∙ ap (option_and_then (λ s. some_names (texts s.now))) c.in_ok-get_strs.was)

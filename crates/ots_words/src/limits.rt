@@ -1,0 +1,8 @@
+//! Limits on the words.
+
+/// Files that are stamped together. The limit is this project's own.
+pub const MAX_STAMPED: usize = 1024;
+
+/// The greatest number of calendars that may be wanted, which is that of a list of addresses. The
+/// limit is this project's own.
+pub const MAX_WANTED: u64 = 16;
