@@ -237,30 +237,90 @@ fn a_failed_call_of_the_shelf_is_told(rt: HostRuntime) -> Result<(), Fail> {
     expect_fault(&rt, 5, 7, "http://127.0.0.1:14788 ok\nwrite fault a.ots\n")
 }
 
-#[test]
-fn a_failed_call_of_the_dialer_makes_a_calendar_unreachable(rt: HostRuntime) -> Result<(), Fail> {
+/// Where this call of the dialer fails, the calendar is unreachable.
+fn expect_unreachable(rt: &(impl Abort + AllocGlobal), call: u64) -> Result<(), Fail> {
     let failing = Failing {
         shelf: &[],
-        dialer: &[1],
+        dialer: &[call],
         writes: &[],
     };
     let (ended, _dialer) = stamped(rt.alloc(), REPLY, failing)?;
     let text = "http://127.0.0.1:14788 unreachable\ntoo few 0 of 1\n";
-    expect(&rt, &ended, 10, text);
+    expect(rt, &ended, 10, text);
     Ok(())
 }
 
 #[test]
-fn a_failed_write_of_the_lines_leaves_no_proof(rt: HostRuntime) -> Result<(), Fail> {
+fn a_failed_call_of_the_dialer_makes_a_calendar_unreachable(rt: HostRuntime) -> Result<(), Fail> {
+    expect_unreachable(&rt, 1)?;
+    expect_unreachable(&rt, 2)?;
+    expect_unreachable(&rt, 3)
+}
+
+/// A run whose write of this number fails.
+fn with_failed_write(alloc: Global, write: u64) -> Result<Ended, Fail> {
     let failing = Failing {
         shelf: &[],
         dialer: &[],
-        writes: &[1],
+        writes: &[write],
     };
-    let (ended, _dialer) = stamped(rt.alloc(), REPLY, failing)?;
+    let (ended, _dialer) = stamped(alloc, REPLY, failing)?;
+    Ok(ended)
+}
+
+#[test]
+fn a_failed_write_of_the_lines_leaves_no_proof(rt: HostRuntime) -> Result<(), Fail> {
+    let ended = with_failed_write(rt.alloc(), 1)?;
     expect(&rt, &ended, 7, "");
     assert_eq!(rt; ended.shelf.bytes_of("a.ots"), None);
     Ok(())
+}
+
+#[test]
+fn a_failed_write_behind_a_proof_leaves_it_whole(rt: HostRuntime) -> Result<(), Fail> {
+    let ended = with_failed_write(rt.alloc(), 2)?;
+    expect(&rt, &ended, 7, "http://127.0.0.1:14788 ok\n");
+    let nonce = b"\xf0\x10AAAAAAAAAAAAAAAA\x08";
+    expect_file(&rt, &ended, "a.ots", &[HEAD, nonce, TREE])
+}
+
+/// A calendar that replies so is told in this line, and no proof is made.
+fn expect_bad(rt: &(impl Abort + AllocGlobal), reply: &[u8], line: &str) -> Result<(), Fail> {
+    let (ended, _dialer) = stamped(rt.alloc(), reply, NONE)?;
+    let text = format!(in rt.alloc(); "http://127.0.0.1:14788 {line}\ntoo few 0 of 1\n")?;
+    expect(rt, &ended, 10, &text);
+    assert_eq!(rt; ended.shelf.bytes_of("a.ots"), None);
+    Ok(())
+}
+
+#[test]
+fn replies_that_are_no_tree_are_told(rt: HostRuntime) -> Result<(), Fail> {
+    let behind = file_of(rt.alloc(), &[b"HTTP/1.1 200 OK\r\n\r\n", TREE, b"\0"])?;
+    expect_bad(&rt, &behind, "bad reply at 12: trailing bytes")?;
+    let mut long = file_of(rt.alloc(), &[b"HTTP/1.1 200 OK\r\n\r\n"])?;
+    for _ in 0..10_001 {
+        long.push(0)?;
+    }
+    expect_bad(&rt, &long, "too long")?;
+    expect_bad(&rt, b"garbage\r\n\r\n", "not http")?;
+    expect_bad(&rt, BUSY, "status 503")
+}
+
+/// This list of calendars is refused before anything is read or asked.
+fn expect_bad_list(rt: &(impl Abort + AllocGlobal), list: &str, text: &str) -> Result<(), Fail> {
+    let mut nonces = ListNonces::new(rt.alloc(), NONCES, &[])?;
+    let words = ["stamp", "--calendars", list, "--min", "1", "absent"];
+    let (ended, dialer) = run_stamping(rt.alloc(), &words, &[], &[REPLY], NONE, &mut nonces)?;
+    expect(rt, &ended, 14, text);
+    assert_eq!(rt; dialer.sent(0), None);
+    Ok(())
+}
+
+#[test]
+fn a_bad_list_is_refused(rt: HostRuntime) -> Result<(), Fail> {
+    expect_bad_list(&rt, "http://a,http://a", "bad address at 9\n")?;
+    expect_bad_list(&rt, "https://a", "https is not supported at 0\n")?;
+    expect_bad_list(&rt, "", "bad address at 0\n")
 }
 
 /// Words of no form are refused.
