@@ -1,19 +1,17 @@
 // What `batch` prints and stores, and its refusals.
 use crate::bytes::{DIGEST, DIGESTS, LISTED, NONCE, STORED, TREE, TREES};
 use crate::runs::{BATCH, On, bytes_of, ends, refuses, run_on};
+use std::sync::Wait;
 use std::test::Fail;
+use std::thread::Threads;
 
 #[test]
 fn one_digest_is_put_under_a_commitment(rt: HostRuntime) -> Result<(), Fail> {
     let on = On::new(&[], DIGEST.as_bytes(), NONCE);
-    let ended = run_on(rt.alloc(), &BATCH, &on)?;
+    let ended = run_on(&rt, &BATCH, &on)?;
     assert!(rt; ends(&ended, 0, TREE));
     assert!(rt; ended.disk.bytes() == bytes_of(rt.alloc(), STORED)?.as_slice());
-    let listed = run_on(
-        rt.alloc(),
-        &["j", "list"],
-        &On::new(ended.disk.bytes(), &[], &[]),
-    )?;
+    let listed = run_on(&rt, &["j", "list"], &On::new(ended.disk.bytes(), &[], &[]))?;
     assert!(rt; ends(&listed, 0, LISTED));
     Ok(())
 }
@@ -25,17 +23,22 @@ fn three_digests_are_put_under_the_next_one(rt: HostRuntime) -> Result<(), Fail>
     nonces.resize(32, 2)?;
     nonces.resize(48, 3)?;
     let on = On::new(&journal, DIGESTS.as_bytes(), &nonces);
-    let ended = run_on(rt.alloc(), &BATCH, &on)?;
+    let ended = run_on(&rt, &BATCH, &on)?;
     assert!(rt; ends(&ended, 0, TREES));
     assert_eq!(rt; ended.disk.bytes().len(), 121);
     Ok(())
 }
 
 // The status and the line of `batch` by another key file.
-fn by_key(rt: &HostRuntime, key: &[u8], number: u8, line: &str) -> Result<bool, Fail> {
+fn by_key(
+    rt: &(impl AllocGlobal + Threads + Wait + Sync),
+    key: &[u8],
+    number: u8,
+    line: &str,
+) -> Result<bool, Fail> {
     let mut on = On::new(&[], DIGEST.as_bytes(), NONCE);
     on.key = key;
-    refuses(rt.alloc(), &BATCH, &on, number, line)
+    refuses(rt, &BATCH, &on, number, line)
 }
 
 #[test]
@@ -45,14 +48,19 @@ fn keys_of_another_length_are_refused(rt: HostRuntime) -> Result<(), Fail> {
     assert!(rt; by_key(&rt, &[7; 100], 30, "bad key 65\n")?);
     let mut on = On::new(&[], DIGEST.as_bytes(), NONCE);
     on.key = &[7];
-    assert_eq!(rt; run_on(rt.alloc(), &BATCH, &on)?.status.number(), 0);
+    assert_eq!(rt; run_on(&rt, &BATCH, &on)?.status.number(), 0);
     Ok(())
 }
 
 // The status and the line of `batch` by another file of digests.
-fn by_digests(rt: &HostRuntime, file: &str, number: u8, line: &str) -> Result<bool, Fail> {
+fn by_digests(
+    rt: &(impl AllocGlobal + Threads + Wait + Sync),
+    file: &str,
+    number: u8,
+    line: &str,
+) -> Result<bool, Fail> {
     let on = On::new(&[], file.as_bytes(), NONCE);
-    refuses(rt.alloc(), &BATCH, &on, number, line)
+    refuses(rt, &BATCH, &on, number, line)
 }
 
 #[test]
@@ -73,15 +81,14 @@ fn the_first_bad_line_is_told(rt: HostRuntime) -> Result<(), Fail> {
 }
 
 // The status and the line of `batch` at another address.
-fn at(rt: &HostRuntime, uri: &str, number: u8, line: &str) -> Result<bool, Fail> {
+fn at(
+    rt: &(impl AllocGlobal + Threads + Wait + Sync),
+    uri: &str,
+    number: u8,
+    line: &str,
+) -> Result<bool, Fail> {
     let words = ["j", "batch", "--key", "x", "--uri", uri, "y"];
-    refuses(
-        rt.alloc(),
-        &words,
-        &On::new(&[0x78; 20], &[], &[]),
-        number,
-        line,
-    )
+    refuses(rt, &words, &On::new(&[0x78; 20], &[], &[]), number, line)
 }
 
 #[test]
@@ -98,8 +105,8 @@ fn the_address_is_looked_at_before_the_files(rt: HostRuntime) -> Result<(), Fail
 fn the_files_are_read_before_the_journal(rt: HostRuntime) -> Result<(), Fail> {
     let words = ["j", "batch", "--key", "k", "--uri", "http://a", "y"];
     let on = On::new(&[0x78; 20], DIGEST.as_bytes(), NONCE);
-    assert!(rt; refuses(rt.alloc(), &words, &on, 4, "no file y\n")?);
-    let ended = run_on(rt.alloc(), &BATCH, &on)?;
+    assert!(rt; refuses(&rt, &words, &on, 4, "no file y\n")?);
+    let ended = run_on(&rt, &BATCH, &on)?;
     assert!(rt; ends(&ended, 21, "not a journal\n"));
     Ok(())
 }
@@ -110,10 +117,10 @@ fn a_second_that_is_too_great_is_refused_before_a_nonce_is_drawn(
 ) -> Result<(), Fail> {
     let mut on = On::new(&[], DIGEST.as_bytes(), &[]);
     on.second = 4_294_967_296;
-    let ended = run_on(rt.alloc(), &BATCH, &on)?;
+    let ended = run_on(&rt, &BATCH, &on)?;
     assert!(rt; ends(&ended, 33, "bad second 4294967296\n"));
     on.second = 4_294_967_295;
-    let ended = run_on(rt.alloc(), &BATCH, &on)?;
+    let ended = run_on(&rt, &BATCH, &on)?;
     assert!(rt; ends(&ended, 11, "nonce fault\n"));
     Ok(())
 }

@@ -1,32 +1,34 @@
 // Each call of the outside failing in turn.
 use crate::bytes::{DIGEST, MIGRATED, NONCE, OLD, STORED};
 use crate::runs::{BATCH, MIGRATE, On, bytes_of, ends, run_on};
+use std::sync::Wait;
 use std::test::Fail;
+use std::thread::Threads;
 
 #[test]
 fn each_call_of_the_disk_fails_under_batch(rt: HostRuntime) -> Result<(), Fail> {
     let on = On::new(&[], DIGEST.as_bytes(), NONCE);
-    let calls = run_on(rt.alloc(), &BATCH, &on)?.disk.calls().len() as u64;
+    let calls = run_on(&rt, &BATCH, &on)?.disk.calls().len() as u64;
     assert!(rt; calls > 4);
     for call in 1..calls + 1 {
         let failing = [call];
         let mut on = on;
         on.disk = &failing;
-        let ended = run_on(rt.alloc(), &BATCH, &on)?;
+        let ended = run_on(&rt, &BATCH, &on)?;
         assert!(rt; ends(&ended, 25, "disk fault\n"));
     }
     Ok(())
 }
 
 // Whether a migration ends with a disk fault where this call fails, and is whole when run again.
-fn resumes(rt: &HostRuntime, old: &[u8], call: u64) -> Result<bool, Fail> {
+fn resumes(
+    rt: &(impl AllocGlobal + Threads + Wait + Sync),
+    old: &[u8],
+    call: u64,
+) -> Result<bool, Fail> {
     let failing = [call];
-    let ended = run_on(rt.alloc(), &MIGRATE, &On::migrating(&[], old, &failing))?;
-    let later = run_on(
-        rt.alloc(),
-        &MIGRATE,
-        &On::migrating(ended.disk.bytes(), old, &[]),
-    )?;
+    let ended = run_on(rt, &MIGRATE, &On::migrating(&[], old, &failing))?;
+    let later = run_on(rt, &MIGRATE, &On::migrating(ended.disk.bytes(), old, &[]))?;
     let whole = bytes_of(rt.alloc(), MIGRATED)?;
     let stands = later.disk.bytes() == whole.as_slice();
     Ok(stands && ends(&ended, 25, "disk fault\n") && ends(&later, 0, "migrated 3\n"))
@@ -35,7 +37,7 @@ fn resumes(rt: &HostRuntime, old: &[u8], call: u64) -> Result<bool, Fail> {
 #[test]
 fn each_call_of_the_disk_fails_under_migrate(rt: HostRuntime) -> Result<(), Fail> {
     let old = bytes_of(rt.alloc(), OLD)?;
-    let well = run_on(rt.alloc(), &MIGRATE, &On::new(&[], &old, &[]))?;
+    let well = run_on(&rt, &MIGRATE, &On::new(&[], &old, &[]))?;
     let calls = well.disk.calls().len() as u64;
     assert!(rt; calls > 4);
     for call in 1..calls + 1 {
@@ -50,7 +52,7 @@ fn each_call_of_the_shelf_fails(rt: HostRuntime) -> Result<(), Fail> {
         let failing = [call];
         let mut on = On::new(&[], DIGEST.as_bytes(), NONCE);
         on.shelf = &failing;
-        let ended = run_on(rt.alloc(), &BATCH, &on)?;
+        let ended = run_on(&rt, &BATCH, &on)?;
         let line = if call <= 3 {
             "read fault k\n"
         } else {
@@ -66,7 +68,7 @@ fn each_call_of_the_shelf_fails(rt: HostRuntime) -> Result<(), Fail> {
 fn the_nonces_fail(rt: HostRuntime) -> Result<(), Fail> {
     let mut on = On::new(&[], DIGEST.as_bytes(), NONCE);
     on.draws = &[1];
-    let ended = run_on(rt.alloc(), &BATCH, &on)?;
+    let ended = run_on(&rt, &BATCH, &on)?;
     assert!(rt; ends(&ended, 11, "nonce fault\n"));
     assert_eq!(rt; ended.disk.bytes().len(), 9);
     Ok(())
@@ -76,7 +78,7 @@ fn the_nonces_fail(rt: HostRuntime) -> Result<(), Fail> {
 fn the_sink_fails_once_the_commitment_is_stored(rt: HostRuntime) -> Result<(), Fail> {
     let mut on = On::new(&[], DIGEST.as_bytes(), NONCE);
     on.sink = &[1];
-    let ended = run_on(rt.alloc(), &BATCH, &on)?;
+    let ended = run_on(&rt, &BATCH, &on)?;
     assert!(rt; ends(&ended, 7, ""));
     assert!(rt; ended.disk.bytes() == bytes_of(rt.alloc(), STORED)?.as_slice());
     Ok(())

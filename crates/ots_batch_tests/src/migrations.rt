@@ -1,19 +1,17 @@
 // What `migrate` stores, and its refusals.
 use crate::bytes::{BAD_OLD, FIRST, MIGRATED, OLD, OTHER, RESUMED, STORED};
 use crate::runs::{MIGRATE, On, bytes_of, ends, refuses, run_on};
+use std::sync::Wait;
 use std::test::Fail;
+use std::thread::Threads;
 
 #[test]
 fn an_old_journal_is_carried_over_once(rt: HostRuntime) -> Result<(), Fail> {
     let old = bytes_of(rt.alloc(), OLD)?;
-    let ended = run_on(rt.alloc(), &MIGRATE, &On::new(&[], &old, &[]))?;
+    let ended = run_on(&rt, &MIGRATE, &On::new(&[], &old, &[]))?;
     assert!(rt; ends(&ended, 0, "migrated 3\n"));
     assert!(rt; ended.disk.bytes() == bytes_of(rt.alloc(), MIGRATED)?.as_slice());
-    let again = run_on(
-        rt.alloc(),
-        &MIGRATE,
-        &On::new(ended.disk.bytes(), &old, &[]),
-    )?;
+    let again = run_on(&rt, &MIGRATE, &On::new(ended.disk.bytes(), &old, &[]))?;
     assert!(rt; ends(&again, 0, "migrated 3\n"));
     assert!(rt; again.disk.bytes() == ended.disk.bytes());
     Ok(())
@@ -21,7 +19,7 @@ fn an_old_journal_is_carried_over_once(rt: HostRuntime) -> Result<(), Fail> {
 
 // The status and the line of `migrate` of an old journal into another one, and what that holds then.
 fn into(
-    rt: &HostRuntime,
+    rt: &(impl AllocGlobal + Threads + Wait + Sync),
     journal: &str,
     old: &[u8],
     number: u8,
@@ -29,7 +27,7 @@ fn into(
     then: &str,
 ) -> Result<bool, Fail> {
     let journal = bytes_of(rt.alloc(), journal)?;
-    let ended = run_on(rt.alloc(), &MIGRATE, &On::new(&journal, old, &[]))?;
+    let ended = run_on(&rt, &MIGRATE, &On::new(&journal, old, &[]))?;
     Ok(ends(&ended, number, line) && ended.disk.bytes() == bytes_of(rt.alloc(), then)?.as_slice())
 }
 
@@ -65,19 +63,13 @@ fn a_bad_record_is_counted_over_all_of_it(rt: HostRuntime) -> Result<(), Fail> {
 fn files_that_are_no_old_journal_are_refused(rt: HostRuntime) -> Result<(), Fail> {
     let journal = [0x78; 20];
     let refused = |old: &[u8], number: u8, line: &str| -> Result<bool, Fail> {
-        refuses(
-            rt.alloc(),
-            &MIGRATE,
-            &On::new(&journal, old, &[]),
-            number,
-            line,
-        )
+        refuses(&rt, &MIGRATE, &On::new(&journal, old, &[]), number, line)
     };
     assert!(rt; refused(&[0x78; 10], 21, "not a journal\n")?);
     let old = bytes_of(rt.alloc(), OLD)?;
     assert!(rt; refused(old.get(..58).ok_or("a front")?, 22, "damaged at 8\n")?);
     assert!(rt; refused(&bytes_of(rt.alloc(), STORED)?, 21, "not a journal\n")?);
-    let ended = run_on(rt.alloc(), &MIGRATE, &On::new(&journal, &old, &[]))?;
+    let ended = run_on(&rt, &MIGRATE, &On::new(&journal, &old, &[]))?;
     assert!(rt; ends(&ended, 21, "not a journal\n"));
     Ok(())
 }

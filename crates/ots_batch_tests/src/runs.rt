@@ -5,7 +5,9 @@ use ots_io::{BytesLink, BytesSink, FixedClock, ListAccepter, ListNonces, MapShel
 use ots_server::{DaemonStatus, run_calendar};
 use std::alloc::Global;
 use std::collections::VecDeque;
+use std::sync::Wait;
 use std::test::Fail;
+use std::thread::Threads;
 
 const ROOM: DiskRoom = DiskRoom {
     calls: 100,
@@ -91,7 +93,12 @@ pub fn bytes_of(alloc: Global, digits: &str) -> Result<Vec<u8>, Fail> {
 }
 
 /// A run on these objects.
-pub fn run_on(alloc: Global, words: &[&str], on: &On<'_>) -> Result<Ended, Fail> {
+pub fn run_on(
+    rt: &(impl AllocGlobal + Threads + Wait + Sync),
+    words: &[&str],
+    on: &On<'_>,
+) -> Result<Ended, Fail> {
+    let alloc = rt.alloc();
     let mut owned = Vec::new(alloc);
     for word in words {
         owned.push(word.to_string(alloc)?)?;
@@ -108,6 +115,7 @@ pub fn run_on(alloc: Global, words: &[&str], on: &On<'_>) -> Result<Ended, Fail>
     let mut out = BytesSink::new(alloc, 20_000, on.sink)?;
     let links: VecDeque<BytesLink> = VecDeque::new(alloc);
     let (status, returned) = run_calendar(
+        rt,
         alloc,
         &owned,
         MemoryDisk::new(alloc, on.journal, ROOM, on.disk)?,
@@ -131,12 +139,12 @@ pub fn ends(ended: &Ended, number: u8, text: &str) -> bool {
 
 /// Whether a run ends so, and calls no disk.
 pub fn refuses(
-    alloc: Global,
+    rt: &(impl AllocGlobal + Threads + Wait + Sync),
     words: &[&str],
     on: &On<'_>,
     number: u8,
     text: &str,
 ) -> Result<bool, Fail> {
-    let ended = run_on(alloc, words, on)?;
+    let ended = run_on(rt, words, on)?;
     Ok(ends(&ended, number, text) && ended.disk.calls().is_empty())
 }

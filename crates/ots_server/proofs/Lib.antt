@@ -2,6 +2,7 @@ mod Opened
 mod Putting
 mod Rounding
 mod Running
+mod Serving
 mod Shelves
 mod Taking
 mod Tipping

@@ -1,5 +1,5 @@
 -- A task on the book of a disk, from opening it on; and a whole run.
-use Rattle.std.proofs.Common.{◌≡◌, ◌⊎◌, ◌≤◌, inl, inr, ℕ, List, [], length, Option, refl, sym, ap, subst, ◌∙◌, arith}
+use Rattle.std.proofs.Common.{◌≡◌, ◌⊎◌, ◌≤◌, inl, inr, ℕ, List, [], length, Option, refl, sym, ap, subst, ◌∙◌, append-nil, ◌++◌, arith}
 use Rattle.ots_base.specs.Cause.{Rose}
 use Rattle.ots_block.specs.Block.{Contents}
 use Rattle.ots_disk.specs.Disk.{LeavesOnly}
@@ -12,20 +12,20 @@ use Rattle.ots_journal.proofs.Unique.{stands_once}
 use Rattle.ots_server_text.specs.Refusal.{refusal_text}
 use Rattle.ots_server_text.specs.declared.status.DaemonStatus.{DaemonStatus}
 use Rattle.ots_server_text.specs.declared.status.DaemonStatus.TheVariants.{Done, Usage, OutOfMemory}
-use Rattle.ots_server_words.specs.Words.{Command}
+use Rattle.ots_server_words.specs.Words.{Command, ServingAsked}
 use Rattle.ots_store.specs.Order.{records_of}
 use Rattle.ots_server.specs.declared.task.Task.{Task}
 use Rattle.ots_server.specs.List.{list_text}
 use Rattle.ots_server.specs.Task.{TaskAdds, TaskAnswers}
 use Rattle.ots_server.specs.Tip.{TipAnswers}
-use Rattle.ots_server.specs.Answer.{Answers, IsReady, IsUsage, ListAnswers, MayAdd, MayDraw, WithBook, WithJournal, is_opened, is_refused as not_opened}
+use Rattle.ots_server.specs.Answer.{Answers, IsReady, IsUsage, ListAnswers, MayAdd, MayDraw, MayServe, WithBook, WithJournal, is_opened, is_refused as not_opened}
 use Rattle.ots_server.specs.Batch.{Outside, RoundAnswers}
 use Rattle.ots_server.specs.Ending.{Comes, as_defined, not_read, disk_failed, no_memory, Completes, Ending, Ends, NoFaults, done, nowhere, refused}
 use Rattle.ots_outside.specs.Shelf.{Names, ShelfFaults, ShelfTold}
 use Rattle.ots_server.specs.Anchor.{AnchorAnswers}
 use Rattle.ots_server.specs.Files.{ReadsShelf, StopsAt, not_opened, opened_last, names_read}
 use Rattle.ots_server.specs.Found.{AreEntries, Closes, MayClose, is_refused, disk_failed as failed, no_memory as no_room, HasBook, Opens, OpensBook, RefusesBook}
-use Rattle.ots_server.specs.Moments.{IsOnlyImage, OpenedOrRan, StandsWith}
+use Rattle.ots_server.specs.Moments.{IsOnlyImage, KeepsFound, OpenedOrRan, StandsBehind, StandsWith}
 use Rattle.ots_server.specs.Printed.{PrintsLast}
 
 -- a count that rose later rose
@@ -120,27 +120,31 @@ list_ends gate entries listed disk images printing taken now r is stand printed 
 
 -- ---- by what the words ask for
 
-module _ (happens : Outside → Type 0) (faulted : Type 0) (names : Option Names) (told : Option (List ℕ)) (o p : Option Command) (is : o ≡ p) where
+module _ (serves : ServingAsked → ℕ → List Entry → Ending → Type 0) (happens : Outside → Type 0) (faulted : Type 0) (names : Option Names) (told : Option (List ℕ)) (o p : Option Command) (is : o ≡ p) where
   pub asked_ends : (stops : List ℕ → Type 0) (disk : Type 0) (images : List ℕ → Type 0) (printing : Type 0) (taken now : Option (List ℕ)) (r : DaemonStatus)
-      → Ends (Comes (Answers happens faulted names told p) stops disk) images printing taken now r → Ends (Comes (Answers happens faulted names told o) stops disk) images printing taken now r
-  asked_ends stops disk images printing taken now r h = subst (λ (z : Option Command). Ends (Comes (Answers happens faulted names told z) stops disk) images printing taken now r) (sym is) h
+      → Ends (Comes (Answers serves happens faulted names told p) stops disk) images printing taken now r → Ends (Comes (Answers serves happens faulted names told o) stops disk) images printing taken now r
+  asked_ends stops disk images printing taken now r h = subst (λ (z : Option Command). Ends (Comes (Answers serves happens faulted names told z) stops disk) images printing taken now r) (sym is) h
 
   pub asked_reads : (old new : Option (List (List ℕ))) (before after : ShelfFaults) (disk : Type 0) (images : List ℕ → Type 0) (printing : Type 0) (taken now : Option (List ℕ)) (r : DaemonStatus)
-      → Ends (Comes (Answers happens faulted names told p) (StopsAt (names_read p) old new before after) disk) images printing taken now r
-      → Ends (Comes (Answers happens faulted names told o) (StopsAt (names_read o) old new before after) disk) images printing taken now r
+      → Ends (Comes (Answers serves happens faulted names told p) (StopsAt (names_read p) old new before after) disk) images printing taken now r
+      → Ends (Comes (Answers serves happens faulted names told o) (StopsAt (names_read o) old new before after) disk) images printing taken now r
   asked_reads old new before after disk images printing taken now r h =
-      subst (λ (z : Option Command). Ends (Comes (Answers happens faulted names told z) (StopsAt (names_read z) old new before after) disk) images printing taken now r) (sym is) h
+      subst (λ (z : Option Command). Ends (Comes (Answers serves happens faulted names told z) (StopsAt (names_read z) old new before after) disk) images printing taken now r) (sym is) h
 
-  pub asked_moments : {D : Type 0} (clock : D → ℕ) (images_since : D → ℕ → List ℕ → Type 0) (images : List ℕ → Type 0) (old new : D)
-      → LeavesOnly clock images_since old new (OpenedOrRan told images (MayAdd happens names p)) → LeavesOnly clock images_since old new (OpenedOrRan told images (MayAdd happens names o))
-  asked_moments clock images_since images old new h =
-      subst (λ (z : Option Command). LeavesOnly clock images_since old new (OpenedOrRan told images (MayAdd happens names z))) (sym is) h
+  pub asked_moments : {D : Type 0} (clock : D → ℕ) (images_since : D → ℕ → List ℕ → Type 0) (images : List ℕ → Type 0) (old new : D) (keeps : Type 0)
+      → LeavesOnly clock images_since old new (OpenedOrRan told images (MayAdd happens names p)) ⊎ (MayServe names p × keeps)
+      → LeavesOnly clock images_since old new (OpenedOrRan told images (MayAdd happens names o)) ⊎ (MayServe names o × keeps)
+  asked_moments clock images_since images old new keeps h =
+      subst (λ (z : Option Command). LeavesOnly clock images_since old new (OpenedOrRan told images (MayAdd happens names z)) ⊎ (MayServe names z × keeps)) (sym is) h
 
   pub asked_nonces : (same : Type 0) → same ⊎ MayDraw happens names p → same ⊎ MayDraw happens names o
   asked_nonces same h = subst (λ (z : Option Command). same ⊎ MayDraw happens names z) (sym is) h
 
 pub asked_ready : (names : Option Names) (o p : Option Command) → o ≡ p → (same : Type 0) → same ⊎ IsReady names p → same ⊎ IsReady names o
 asked_ready names o p is same h = subst (λ (z : Option Command). same ⊎ IsReady names z) (sym is) h
+
+pub asked_serve : (names : Option Names) (o p : Option Command) → o ≡ p → (same : Type 0) → same ⊎ MayServe names p → same ⊎ MayServe names o
+asked_serve names o p is same h = subst (λ (z : Option Command). same ⊎ MayServe names z) (sym is) h
 
 pub asked_shelf : (o p : Option Command) → o ≡ p → (old new : ShelfTold) (before after : ShelfFaults) (r : DaemonStatus)
     → ReadsShelf (names_read p) old new before after r → ReadsShelf (names_read o) old new before after r
@@ -181,6 +185,27 @@ crash_leaves told images adds entries one c (inl (inr (short, (d, image, also)))
 crash_leaves told images adds entries one c (inr (found, are, stands)) =
     let stand : Stands one.bytes found = subst (λ (z : Option (List ℕ)). AreEntries z found) one.is_told are in
     subst (λ (z : List Entry). StandsWith (adds z) z c) (stands_once one.bytes found entries stand one.stand) stands
+
+-- an image stands for entries behind those found
+behind : (adds : List Entry → Type 0) (entries : List Entry) (c : List ℕ) → StandsWith adds entries c → StandsBehind entries c
+behind adds entries c (inl stands) = ([], subst (λ (z : List Entry). Stands c z) (sym (append-nil entries)) stands)
+behind adds entries c (inr (added, may, stands)) = (added, stands)
+
+module _ {D : Type 0} (clock : D → ℕ) (images : D → List ℕ → Type 0) (images_since : D → ℕ → List ℕ → Type 0) (counts_now : (d : D) (t : ℕ) (c : List ℕ) → t ≤ clock d → images d c → images_since d t c)
+    (told : Option (List ℕ)) (adds : List Entry → List Entry → Type 0) (serves : Type 0) (old new : D) (entries : List Entry) (one : IsOnlyImage told (images old) entries) where
+  -- at every moment, or connections were served
+  pub crash_or_served : LeavesOnly clock images_since old new (OpenedOrRan told (images old) adds) ⊎ (serves × KeepsFound told (images new))
+      → LeavesOnly clock images_since old new (StandsWith (adds entries) entries) ⊎ serves
+  crash_or_served (inl moments) = inl (weaker clock images_since old new _ _ moments (crash_leaves told (images old) adds entries one))
+  crash_or_served (inr (asked, keeps)) = inr asked
+
+  -- what is left in the end
+  pub still_kept : LeavesOnly clock images_since old new (OpenedOrRan told (images old) adds) ⊎ (serves × KeepsFound told (images new)) → (c : List ℕ) → images new c → StandsBehind entries c
+  still_kept (inl moments) c image =
+      behind (adds entries) entries c (crash_leaves told (images old) adds entries one c (moments.each c (counts_now new (clock old) c moments.later image)))
+  still_kept (inr (asked, (found, are, each))) c image =
+      let stand : Stands one.bytes found = subst (λ (z : Option (List ℕ)). AreEntries z found) one.is_told are in
+      subst (λ (z : List Entry). StandsBehind z c) (stands_once one.bytes found entries stand one.stand) (each c image)
 
 -- ---- a round, by the journal's limit
 

@@ -7,7 +7,7 @@ use Rattle.ots_journal.specs.declared.limits.TheConstants.{MAX_JOURNAL}
 use Rattle.ots_store.specs.Order.{records_of}
 use Rattle.ots_server_text.specs.declared.status.DaemonStatus.{DaemonStatus}
 use Rattle.ots_server_text.specs.declared.status.DaemonStatus.TheVariants.{NoFile, Usage}
-use Rattle.ots_server_words.specs.Words.{AnchoringAsked, BatchAsked, Command, serve, batch, tip, anchor, list, migrate}
+use Rattle.ots_server_words.specs.Words.{AnchoringAsked, BatchAsked, ServingAsked, Command, serve, batch, tip, anchor, list, migrate}
 use Rattle.ots_journal.specs.Version1.{Stands1}
 use Rattle.ots_server_inputs.specs.Address.{IsOneAddress, RefusesAddress}
 use Rattle.ots_server_inputs.specs.Block.{RefusesBlock}
@@ -66,6 +66,10 @@ WithFiles names asked goes_on =
 abbrev pub WithRound : Option Names → BatchAsked → (List ℕ → List ℕ → List (List ℕ) → Ending → Type 0) → Ending → Type 0
 WithRound names asked goes_on = WithUri asked.uri (λ uri. WithFiles names asked (goes_on uri))
 
+-- the address and the key file
+abbrev pub WithService : Option Names → ServingAsked → (List ℕ → List ℕ → Ending → Type 0) → Ending → Type 0
+WithService names asked goes_on = WithUri asked.uri (λ uri. WithInput names asked.key GivesKey RefusesKey (goes_on uri))
+
 -- All records are printed.
 abbrev pub ListAnswers : ℕ → List Entry → Ending → Type 0
 ListAnswers gate entries e = e ≡ done entries (list_text (records_of entries))
@@ -74,19 +78,19 @@ ListAnswers gate entries e = e ≡ done entries (list_text (records_of entries))
 abbrev pub IsUsage : Ending → Type 0
 IsUsage e = e ≡ refused [] Usage
 
--- Words of no command's form are refused. What a batch answers rests on what happens outside, and on whether the nonces
--- counted a fault.
-abbrev pub Answers : (Outside → Type 0) → Type 0 → Option Names → Option (List ℕ) → Option Command → Ending → Type 0
-Answers happens failed names told None e = IsUsage e
-Answers happens failed names told (Some (serve asked)) e = IsUsage e
-Answers happens failed names told (Some (batch asked)) e =
+-- Words of no command's form are refused. What serving answers rests on the accepter, and what a batch answers on what
+-- happens outside and on whether the nonces counted a fault.
+abbrev pub Answers : (ServingAsked → ℕ → List Entry → Ending → Type 0) → (Outside → Type 0) → Type 0 → Option Names → Option (List ℕ) → Option Command → Ending → Type 0
+Answers serves happens failed names told None e = IsUsage e
+Answers serves happens failed names told (Some (serve asked)) e = WithService names asked (λ uri key. WithBook told (serves asked)) e
+Answers serves happens failed names told (Some (batch asked)) e =
     WithRound names asked (λ uri key digests. WithBook told (RoundAnswers happens failed MAX_JOURNAL key uri digests)) e
-Answers happens failed names told (Some tip) e = WithBook told (TipAnswers MAX_JOURNAL) e
-Answers happens failed names told (Some (anchor asked)) e = WithBlock names asked.block (λ block. WithBook told (AnchorAnswers MAX_JOURNAL block asked.height)) e
-Answers happens failed names told (Some list) e = WithBook told ListAnswers e
-Answers happens failed names told (Some (migrate old)) e = WithOld names old (λ entries. WithStore told (MigrateAnswers MAX_JOURNAL entries)) e
+Answers serves happens failed names told (Some tip) e = WithBook told (TipAnswers MAX_JOURNAL) e
+Answers serves happens failed names told (Some (anchor asked)) e = WithBlock names asked.block (λ block. WithBook told (AnchorAnswers MAX_JOURNAL block asked.height)) e
+Answers serves happens failed names told (Some list) e = WithBook told ListAnswers e
+Answers serves happens failed names told (Some (migrate old)) e = WithOld names old (λ entries. WithStore told (MigrateAnswers MAX_JOURNAL entries)) e
 
--- No command but these adds anything.
+-- No other command adds anything, but for serving, of which it is said apart.
 abbrev pub AddsNothing : List Entry → List Entry → Type 0
 AddsNothing entries added = ⊥
 
@@ -126,10 +130,17 @@ pub record DrawsBatch (happens : Outside → Type 0) (names : Option Names) (ask
   pub has_digests : HasUnder names asked.digests (λ bytes. IsDigests bytes digests)
   pub drawn : DrawsFor happens digests
 
--- No other command draws any.
+-- What serving names is in order.
+pub record HasService (names : Option Names) (asked : ServingAsked) : Type 0 where
+  pub uri : List ℕ
+  pub one : IsOneAddress asked.uri uri
+  pub key : List ℕ
+  pub has_key : HasUnder names asked.key (λ bytes. GivesKey bytes key)
+
+-- Serving draws one for each link. No other command draws any.
 abbrev pub MayDraw : (Outside → Type 0) → Option Names → Option Command → Type 0
 MayDraw happens names None = ⊥
-MayDraw happens names (Some (serve asked)) = ⊥
+MayDraw happens names (Some (serve asked)) = HasService names asked
 MayDraw happens names (Some (batch asked)) = DrawsBatch happens names asked
 MayDraw happens names (Some tip) = ⊥
 MayDraw happens names (Some (anchor asked)) = ⊥
@@ -148,9 +159,19 @@ pub record HasRound (names : Option Names) (asked : BatchAsked) : Type 0 where
 -- All that the words name is in order, so that the journal is opened.
 abbrev pub IsReady : Option Names → Option Command → Type 0
 IsReady names None = ⊥
-IsReady names (Some (serve asked)) = ⊥
+IsReady names (Some (serve asked)) = HasService names asked
 IsReady names (Some (batch asked)) = HasRound names asked
 IsReady names (Some tip) = Unit {0}
 IsReady names (Some (anchor asked)) = (block : Contents) × HasUnder names asked.block (λ bytes. IsBlock bytes block)
 IsReady names (Some list) = Unit {0}
 IsReady names (Some (migrate old)) = (entries : List Entry) × HasUnder names old (λ bytes. Stands1 bytes entries)
+
+-- Connections may be served: that is asked for, and all that the words name is in order.
+abbrev pub MayServe : Option Names → Option Command → Type 0
+MayServe names None = ⊥
+MayServe names (Some (serve asked)) = HasService names asked
+MayServe names (Some (batch asked)) = ⊥
+MayServe names (Some tip) = ⊥
+MayServe names (Some (anchor asked)) = ⊥
+MayServe names (Some list) = ⊥
+MayServe names (Some (migrate old)) = ⊥

@@ -10,7 +10,7 @@ use Rattle.ots_server_words.specs.Words.{Command, serve, batch, tip, anchor, lis
 -- the names that a command reads, in order
 abbrev pub names_read : Option Command → List (List ℕ)
 names_read None = []
-names_read (Some (serve asked)) = []
+names_read (Some (serve asked)) = asked.key ∷ []
 names_read (Some (batch asked)) = asked.key ∷ asked.digests ∷ []
 names_read (Some tip) = []
 names_read (Some (anchor asked)) = asked.block ∷ []

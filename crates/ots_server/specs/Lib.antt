@@ -11,6 +11,8 @@ pub mod Moments
 pub mod Printed
 pub mod Reading
 pub mod Round
+pub mod Serve
+pub mod ServeReading
 pub mod Task
 pub mod Tip
 pub mod Trees

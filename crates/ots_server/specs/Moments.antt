@@ -13,6 +13,14 @@ StandsWith may_add entries c = Stands c entries ⊎ ((added : List Entry) × may
 abbrev pub OpenedOrRan : Option (List ℕ) → (List ℕ → Type 0) → (List Entry → List Entry → Type 0) → List ℕ → Type 0
 OpenedOrRan told images may_add c = OpenedFrom images c ⊎ ((entries : List Entry) × AreEntries told entries × StandsWith (may_add entries) entries c)
 
+-- An image stands for entries that begin with these.
+abbrev pub StandsBehind : List Entry → List ℕ → Type 0
+StandsBehind entries c = (later : List Entry) × Stands c (entries ++ later)
+
+-- Each image stands for entries that begin with those found.
+abbrev pub KeepsFound : Option (List ℕ) → (List ℕ → Type 0) → Type 0
+KeepsFound told images = (entries : List Entry) × AreEntries told entries × ((c : List ℕ) → images c → StandsBehind entries c)
+
 -- What is read stands for these entries, and a crash now leaves nothing else.
 pub record IsOnlyImage (told : Option (List ℕ)) (images : List ℕ → Type 0) (entries : List Entry) : Type 0 where
   pub bytes : List ℕ

@@ -1,7 +1,7 @@
 -- Printing a text, with which a run ends.
-use Rattle.std.specs.Prelude.{◌≡◌, ◌≤◌, ◌⊎◌, ℕ, List, Option}
+use Rattle.std.specs.Prelude.{◌≡◌, ◌≤◌, ◌⊎◌, ℕ, List, [], ◌++◌, Option}
 use Rattle.ots_outside.specs.Streams.{Takes, TakesFront}
-use Rattle.ots_server_text.specs.Lines.{anchored_line, migrated_line, tip_line}
+use Rattle.ots_server_text.specs.Lines.{anchored_line, listening_line, migrated_line, served_line, tip_line}
 use Rattle.ots_server_text.specs.Refusal.{refusal_text}
 use Rattle.ots_server_text.specs.declared.status.DaemonStatus.{DaemonStatus}
 use Rattle.ots_server_text.specs.declared.status.DaemonStatus.TheVariants.{WriteFault}
@@ -25,3 +25,5 @@ text_of status (text.Refusal name) = refusal_text name.now status
 text_of status (text.Tip tip) = tip_line tip.first tip.count tip.root
 text_of status (text.Anchored first count height) = anchored_line first count height
 text_of status (text.Migrated count) = migrated_line count
+text_of status (text.Listening port) = listening_line port
+text_of status (text.Served count) = served_line count ++ refusal_text [] status

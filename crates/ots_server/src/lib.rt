@@ -13,6 +13,7 @@ mod opening;
 mod printing;
 mod reading;
 mod run;
+mod serve;
 mod task;
 mod tip;
 mod trees;

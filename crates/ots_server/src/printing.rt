@@ -3,12 +3,15 @@ ghost use Rattle.std.specs.Prelude.{◌≡◌, [], false, MatchResult};
 ghost use Rattle.ots_base.specs.Cause.{Rose};
 ghost use Rattle.ots_outside.specs.Streams.{Takes, TakesFront};
 ghost use Rattle.ots_printer.specs.Printing.{Puts};
+ghost use Rattle.ots_server_text.specs.Lines.{listening_line};
 ghost use Rattle.ots_server_text.specs.Refusal.{refusal_text};
 ghost use Rattle.ots_server.specs.Printed.{PrintsLast, SinkStays, text_of};
 
 use ots_outside::{Failed, Sink};
 use ots_printer::Printer;
-use ots_server_text::{DaemonStatus, put_anchored, put_migrated, put_refusal, put_tip};
+use ots_server_text::{
+    DaemonStatus, put_anchored, put_listening, put_migrated, put_refusal, put_served, put_tip,
+};
 use ots_store::Tip;
 
 /// A text with which a run ends, but for those that are long.
@@ -22,6 +25,10 @@ pub enum Text<'a> {
     Anchored(u64, u64, u64),
     /// The line of a journal that was carried over: how many entries it has.
     Migrated(u64),
+    /// The line of a port that is listened on.
+    Listening(u16),
+    /// The line of how many links were accepted, and that of the run's status.
+    Served(u64),
 }
 
 /// Prints the line of a refusal over a name, with which a run ends.
@@ -41,6 +48,19 @@ pub fn print<K: Sink>(text: &Text<'_>, status: DaemonStatus, out: &mut K) -> Dae
         Ok(()) => status,
         Err(Failed) => DaemonStatus::WriteFault,
     }
+}
+
+/// Prints the line of a port that is listened on.
+pub fn print_listening<K: Sink>(port: u16, out: &mut K) -> Result<(), Failed>
+    ensures printed { MatchResult result (λ _. Takes (K.taken out.old) (K.taken out.new) (listening_line port))
+        (λ _. Rose (K.faults out.old) (K.faults out.new) × TakesFront (K.taken out.old) (K.taken out.new) (listening_line port)) }
+    ensures sink { SinkStays K.faults K.same out.old out.new }
+{
+    put_whole(
+        &Text::Listening(port),
+        &DaemonStatus::Done,
+        &mut Printer::new(out),
+    )
 }
 
 /// Puts a text on a new printer, and finishes it.
@@ -72,5 +92,10 @@ fn put_text<K: Sink>(text: &Text<'_>, status: &DaemonStatus, out: &mut Printer<'
         Text::Tip(tip) => put_tip(tip.first, tip.count, &tip.root, out),
         Text::Anchored(first, count, height) => put_anchored(*first, *count, *height, out),
         Text::Migrated(count) => put_migrated(*count, out),
+        Text::Listening(port) => put_listening(*port, out),
+        Text::Served(count) => {
+            put_served(*count, out);
+            put_refusal("", status, out);
+        }
     }
 }

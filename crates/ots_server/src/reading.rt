@@ -1,12 +1,14 @@
-//! Reading what a batch names.
+//! Reading what a batch or serving names.
 ghost use Rattle.ots_server.specs.Reading.{ReadsFiles, ReadsRound};
-ghost use Rattle.ots_server_words.specs.Words.{read_batch};
+ghost use Rattle.ots_server.specs.ServeReading.{ReadsService};
+ghost use Rattle.ots_server_words.specs.Words.{read_batch, read_serving};
 
 use crate::batch::Round;
 use ots_attest::Uri;
 use ots_outside::Shelf;
 use ots_server_inputs::{Stop, read_digests, read_key, read_uri};
-use ots_server_words::Batch;
+use ots_server_words::{Batch, Serving};
+use ots_service::Service;
 use std::alloc::Global;
 
 /// What a batch puts: the address is read first, then the key file, then the file of digests.
@@ -38,5 +40,22 @@ fn read_files<'a, S: Shelf>(
             Err(stop) => Err(stop),
         },
         Err(stop) => Err(stop),
+    }
+}
+
+/// What connections are served by: the address is read first, then the key file.
+pub fn read_service<'a, S: Shelf>(
+    alloc: Global,
+    asked: Serving<'a>,
+    shelf: &mut S,
+) -> Result<Service, Stop<'a>>
+    ensures { ReadsService (read_serving asked.entry) (S.told shelf.old) (S.told shelf.new) (S.faults shelf.old) (S.faults shelf.new) result }
+{
+    match read_uri(alloc, asked.uri) {
+        Ok(uri) => match read_key(alloc, asked.key, shelf) {
+            Ok(key) => Ok(Service { key, uri }),
+            Err(stop) => Err(stop),
+        },
+        Err(why) => Err(Stop { name: "", why }),
     }
 }

@@ -1,5 +1,5 @@
 //! The top call.
-ghost use Rattle.std.specs.Prelude.{◌≡◌, ◌⊎◌, ◌≤◌, ◌∷◌, List, ℕ, [], Some};
+ghost use Rattle.std.specs.Prelude.{◌≡◌, ◌≢◌, ◌⊎◌, ◌≤◌, ◌∷◌, List, ℕ, [], Some};
 ghost use Rattle.ots_base.specs.Cause.{Rose};
 ghost use Rattle.ots_base.specs.Told.{IfTold};
 ghost use Rattle.ots_disk.specs.Disk.{LeavesOnly};
@@ -7,26 +7,32 @@ ghost use Rattle.ots_journal.specs.declared.entry.Entry.{Entry};
 ghost use Rattle.ots_journal.specs.declared.limits.TheConstants.{MAX_JOURNAL};
 ghost use Rattle.ots_journal.specs.Opening.{OpenedFrom};
 ghost use Rattle.ots_server_text.specs.Refusal.{refusal_text};
-ghost use Rattle.ots_server_words.specs.Words.{anchor, asked, batch, migrate, read_anchoring, read_as, read_batch};
+ghost use Rattle.ots_server_words.specs.Words.{anchor, asked, batch, migrate, read_anchoring, read_as, read_batch, read_serving, serve};
+ghost use Rattle.ots_serving.specs.Over.{IsDone};
+ghost use Rattle.ots_serving.specs.Returned.{AllAnswered, NoneReturned};
 ghost use Rattle.ots_server.specs.Anchor.{AnchorAnswers};
-ghost use Rattle.ots_server.specs.Answer.{AddsBatch, AddsFound, AddsOld, Answers, DrawsBatch, IsReady, IsUsage, MayAdd, MayDraw, WithBlock, WithBook, WithOld, WithRound, WithStore};
+ghost use Rattle.ots_server.specs.Answer.{AddsBatch, AddsFound, AddsOld, Answers, DrawsBatch, IsReady, HasService, IsUsage, MayAdd, MayDraw, MayServe, WithBlock, WithBook, WithOld, WithRound, WithService, WithStore};
 ghost use Rattle.ots_server.specs.Batch.{Happens, RoundAnswers};
 ghost use Rattle.ots_server.specs.Files.{ReadsShelf, StopsAt, names_read};
 ghost use Rattle.ots_server.specs.Ending.{Comes, Completes, Ends, NoFaults, nowhere};
 ghost use Rattle.ots_server.specs.Migrate.{MigrateAnswers};
-ghost use Rattle.ots_server.specs.Moments.{IsOnlyImage, OpenedOrRan, StandsWith};
+ghost use Rattle.ots_server.specs.Moments.{IsOnlyImage, KeepsFound, OpenedOrRan, StandsBehind, StandsWith};
 ghost use Rattle.ots_server.specs.Printed.{PrintsLast, SinkStays};
 ghost use Rattle.ots_server.specs.Reading.{names_of};
+ghost use Rattle.ots_server.specs.Serve.{ServeAnswers};
 
 use crate::printing::refuse;
-use crate::reading::read_round;
+use crate::reading::{read_round, read_service};
+use crate::serve::serve;
 use crate::task::{Task, run_carry, run_round, run_task};
 use ots_disk::Disk;
 use ots_outside::{Accepter, Clock, Nonces, Shelf, Sink};
 use ots_server_inputs::{Stop, read_block, read_old};
 use ots_server_text::DaemonStatus;
-use ots_server_words::{Anchoring, Batch, Command, WordsError, read_words};
+use ots_server_words::{Anchoring, Batch, Command, Serving, WordsError, read_words};
 use std::alloc::Global;
+use std::sync::Wait;
+use std::thread::Threads;
 
 /// What is handed back where a run ends.
 #[derive(Drop)]
@@ -43,8 +49,18 @@ pub struct Returned<D, A, N> {
 ///
 /// The first word names the journal, which is the disk that is handed in. A command that is refused
 /// before the journal is opened calls no disk. Where no call of the outside fails, the status is the
-/// defined one, or memory ran out.
-pub fn run_calendar<D: Disk, S: Shelf, K: Sink, A: Accepter, C: Clock + Drop, N: Nonces>(
+/// defined one, or memory ran out; of `serve` this is said where it returns.
+#[expect(clippy::too_many_arguments)]
+pub fn run_calendar<
+    D: Disk + Send,
+    S: Shelf,
+    K: Sink,
+    A: Accepter + Send,
+    C: Clock + Drop + Send,
+    N: Nonces + Send,
+    R: Threads + Wait + Sync,
+>(
+    rt: &R,
     alloc: Global,
     words: &[String],
     disk: D,
@@ -55,97 +71,206 @@ pub fn run_calendar<D: Disk, S: Shelf, K: Sink, A: Accepter, C: Clock + Drop, N:
     nonces: N,
 ) -> (DaemonStatus, Returned<D, A, N>)
     requires { IfTold (A.returned accepter) (λ links. links ≡ []) }
-    ensures ends { Ends (Comes (Answers (Happens (C.coming clock) (N.left nonces) (N.left result.1.nonces)) (Rose (N.faults nonces) (N.faults result.1.nonces)) (S.told shelf.old).names (D.bytes disk) (asked words.now))
+    ensures ends { Ends (Comes (Answers (ServeAnswers (λ most. IsDone (A.coming result.1.accepter) most (A.accepted result.1.accepter)) (AllAnswered A.Link.told A.Link.faults (A.returned result.1.accepter))
+        (A.faults result.1.accepter ≢ 0) (Rose (K.faults out.old) (K.faults out.new)) (A.accepted result.1.accepter))
+        (Happens (C.coming clock) (N.left nonces) (N.left result.1.nonces)) (Rose (N.faults nonces) (N.faults result.1.nonces)) (S.told shelf.old).names (D.bytes disk) (asked words.now))
         (StopsAt (names_read (asked words.now)) (S.told shelf.old).opened (S.told shelf.new).opened (S.faults shelf.old) (S.faults shelf.new)) (Rose (D.faults disk) (D.faults result.1.disk)))
         (D.images result.1.disk) (Rose (K.faults out.old) (K.faults out.new)) (K.taken out.old) (K.taken out.new) result.0 }
     ensures crash { (entries : List Entry) → IsOnlyImage (D.bytes disk) (D.images disk) entries
-        → LeavesOnly D.clock D.images_since disk result.1.disk (StandsWith (MayAdd (Happens (C.coming clock) (N.left nonces) (N.left result.1.nonces)) (S.told shelf.old).names (asked words.now) entries) entries) }
-    ensures later { D.faults disk ≤ D.faults result.1.disk }
+        → LeavesOnly D.clock D.images_since disk result.1.disk (StandsWith (MayAdd (Happens (C.coming clock) (N.left nonces) (N.left result.1.nonces)) (S.told shelf.old).names (asked words.now) entries) entries)
+        ⊎ MayServe (S.told shelf.old).names (asked words.now) }
+    ensures keeps { (entries : List Entry) → IsOnlyImage (D.bytes disk) (D.images disk) entries → (c : List ℕ) → D.images result.1.disk c → StandsBehind entries c }
+    ensures later { (D.faults disk ≤ D.faults result.1.disk) ⊎ MayServe (S.told shelf.old).names (asked words.now) }
     ensures shelf { ReadsShelf (names_read (asked words.now)) (S.told shelf.old) (S.told shelf.new) (S.faults shelf.old) (S.faults shelf.new) result.0 }
     ensures complete { NoFaults (S.faults shelf.old) (S.faults shelf.new) (Rose (D.faults disk) (D.faults result.1.disk)) (Rose (K.faults out.old) (K.faults out.new))
-        → Completes (Answers (Happens (C.coming clock) (N.left nonces) (N.left result.1.nonces)) (Rose (N.faults nonces) (N.faults result.1.nonces)) (S.told shelf.old).names (D.bytes disk) (asked words.now)) result.0 }
+        → Completes (Answers (ServeAnswers (λ most. IsDone (A.coming result.1.accepter) most (A.accepted result.1.accepter)) (AllAnswered A.Link.told A.Link.faults (A.returned result.1.accepter))
+        (A.faults result.1.accepter ≢ 0) (Rose (K.faults out.old) (K.faults out.new)) (A.accepted result.1.accepter))
+        (Happens (C.coming clock) (N.left nonces) (N.left result.1.nonces)) (Rose (N.faults nonces) (N.faults result.1.nonces)) (S.told shelf.old).names (D.bytes disk) (asked words.now)) result.0 }
     ensures untouched { (result.1.disk ≡ disk) ⊎ IsReady (S.told shelf.old).names (asked words.now) }
-    ensures accepter { result.1.accepter ≡ accepter }
+    ensures accepter { (result.1.accepter ≡ accepter) ⊎ MayServe (S.told shelf.old).names (asked words.now) }
     ensures nonces { (result.1.nonces ≡ nonces) ⊎ MayDraw (Happens (C.coming clock) (N.left nonces) (N.left result.1.nonces)) (S.told shelf.old).names (asked words.now) }
-    ensures nonce_faults { N.faults nonces ≤ N.faults result.1.nonces }
+    ensures nonce_faults { (N.faults nonces ≤ N.faults result.1.nonces) ⊎ MayServe (S.told shelf.old).names (asked words.now) }
     ensures out_faults { K.faults out.old ≤ K.faults out.new }
     ensures same { K.same out.old out.new }
 {
-    let mut clock = clock;
-    let mut nonces = nonces;
-    let (status, disk) = run_words(alloc, words, disk, shelf, out, &mut clock, &mut nonces);
-    (
-        status,
-        Returned {
-            disk,
-            accepter,
-            nonces,
-        },
-    )
-}
-
-/// Does what the words ask for.
-fn run_words<D: Disk, S: Shelf, K: Sink, C: Clock, N: Nonces>(
-    alloc: Global,
-    words: &[String],
-    disk: D,
-    shelf: &mut S,
-    out: &mut K,
-    clock: &mut C,
-    nonces: &mut N,
-) -> (DaemonStatus, D)
-    ensures ends { Ends (Comes (Answers (Happens (C.coming clock.old) (N.left nonces.old) (N.left nonces.new)) (Rose (N.faults nonces.old) (N.faults nonces.new)) (S.told shelf.old).names (D.bytes disk) (asked words.now))
-        (StopsAt (names_read (asked words.now)) (S.told shelf.old).opened (S.told shelf.new).opened (S.faults shelf.old) (S.faults shelf.new)) (Rose (D.faults disk) (D.faults result.1)))
-        (D.images result.1) (Rose (K.faults out.old) (K.faults out.new)) (K.taken out.old) (K.taken out.new) result.0 }
-    ensures moments { LeavesOnly D.clock D.images_since disk result.1 (OpenedOrRan (D.bytes disk) (D.images disk) (MayAdd (Happens (C.coming clock.old) (N.left nonces.old) (N.left nonces.new)) (S.told shelf.old).names (asked words.now))) }
-    ensures untouched { (result.1 ≡ disk) ⊎ IsReady (S.told shelf.old).names (asked words.now) }
-    ensures later { D.faults disk ≤ D.faults result.1 }
-    ensures shelf { ReadsShelf (names_read (asked words.now)) (S.told shelf.old) (S.told shelf.new) (S.faults shelf.old) (S.faults shelf.new) result.0 }
-    ensures nonces { (nonces.new ≡ nonces.old) ⊎ MayDraw (Happens (C.coming clock.old) (N.left nonces.old) (N.left nonces.new)) (S.told shelf.old).names (asked words.now) }
-    ensures nonce_faults { N.faults nonces.old ≤ N.faults nonces.new }
-    ensures sink { SinkStays K.faults K.same out.old out.new }
-{
     match read_words(alloc, words) {
-        Ok(command) => run_command(alloc, command, disk, shelf, out, clock, nonces),
-        Err(WordsError::Usage) => refuse_words(disk, out),
+        Ok(command) => run_command(
+            rt, alloc, command, disk, shelf, out, accepter, clock, nonces,
+        ),
+        Err(WordsError::Usage) => {
+            let status = refuse("", DaemonStatus::Usage, out);
+            (
+                status,
+                Returned {
+                    disk,
+                    accepter,
+                    nonces,
+                },
+            )
+        }
         Err(WordsError::OutOfMemory) => {
             let status = refuse("", DaemonStatus::OutOfMemory, out);
-            (status, disk)
+            (
+                status,
+                Returned {
+                    disk,
+                    accepter,
+                    nonces,
+                },
+            )
         }
     }
 }
 
 /// Does a command.
-fn run_command<D: Disk, S: Shelf, K: Sink, C: Clock, N: Nonces>(
+#[expect(clippy::too_many_arguments)]
+fn run_command<
+    D: Disk + Send,
+    S: Shelf,
+    K: Sink,
+    A: Accepter + Send,
+    C: Clock + Drop + Send,
+    N: Nonces + Send,
+    R: Threads + Wait + Sync,
+>(
+    rt: &R,
     alloc: Global,
     command: Command<'_>,
     disk: D,
     shelf: &mut S,
     out: &mut K,
-    clock: &mut C,
-    nonces: &mut N,
-) -> (DaemonStatus, D)
-    ensures ends { Ends (Comes (Answers (Happens (C.coming clock.old) (N.left nonces.old) (N.left nonces.new)) (Rose (N.faults nonces.old) (N.faults nonces.new)) (S.told shelf.old).names (D.bytes disk) (Some (read_as command.entry)))
-        (StopsAt (names_read (Some (read_as command.entry))) (S.told shelf.old).opened (S.told shelf.new).opened (S.faults shelf.old) (S.faults shelf.new)) (Rose (D.faults disk) (D.faults result.1)))
-        (D.images result.1) (Rose (K.faults out.old) (K.faults out.new)) (K.taken out.old) (K.taken out.new) result.0 }
-    ensures moments { LeavesOnly D.clock D.images_since disk result.1 (OpenedOrRan (D.bytes disk) (D.images disk) (MayAdd (Happens (C.coming clock.old) (N.left nonces.old) (N.left nonces.new)) (S.told shelf.old).names (Some (read_as command.entry)))) }
-    ensures untouched { (result.1 ≡ disk) ⊎ IsReady (S.told shelf.old).names (Some (read_as command.entry)) }
-    ensures later { D.faults disk ≤ D.faults result.1 }
+    accepter: A,
+    clock: C,
+    nonces: N,
+) -> (DaemonStatus, Returned<D, A, N>)
+    requires { NoneReturned (A.returned accepter) }
+    ensures ends { Ends (Comes (Answers (ServeAnswers (λ most. IsDone (A.coming result.1.accepter) most (A.accepted result.1.accepter)) (AllAnswered A.Link.told A.Link.faults (A.returned result.1.accepter))
+        (A.faults result.1.accepter ≢ 0) (Rose (K.faults out.old) (K.faults out.new)) (A.accepted result.1.accepter))
+        (Happens (C.coming clock) (N.left nonces) (N.left result.1.nonces)) (Rose (N.faults nonces) (N.faults result.1.nonces)) (S.told shelf.old).names (D.bytes disk) (Some (read_as command.entry)))
+        (StopsAt (names_read (Some (read_as command.entry))) (S.told shelf.old).opened (S.told shelf.new).opened (S.faults shelf.old) (S.faults shelf.new)) (Rose (D.faults disk) (D.faults result.1.disk)))
+        (D.images result.1.disk) (Rose (K.faults out.old) (K.faults out.new)) (K.taken out.old) (K.taken out.new) result.0 }
+    ensures moments { LeavesOnly D.clock D.images_since disk result.1.disk (OpenedOrRan (D.bytes disk) (D.images disk) (MayAdd (Happens (C.coming clock) (N.left nonces) (N.left result.1.nonces)) (S.told shelf.old).names (Some (read_as command.entry))))
+        ⊎ (MayServe (S.told shelf.old).names (Some (read_as command.entry)) × KeepsFound (D.bytes disk) (D.images result.1.disk)) }
+    ensures untouched { (result.1.disk ≡ disk) ⊎ IsReady (S.told shelf.old).names (Some (read_as command.entry)) }
+    ensures later { (D.faults disk ≤ D.faults result.1.disk) ⊎ MayServe (S.told shelf.old).names (Some (read_as command.entry)) }
     ensures shelf { ReadsShelf (names_read (Some (read_as command.entry))) (S.told shelf.old) (S.told shelf.new) (S.faults shelf.old) (S.faults shelf.new) result.0 }
-    ensures nonces { (nonces.new ≡ nonces.old) ⊎ MayDraw (Happens (C.coming clock.old) (N.left nonces.old) (N.left nonces.new)) (S.told shelf.old).names (Some (read_as command.entry)) }
-    ensures nonce_faults { N.faults nonces.old ≤ N.faults nonces.new }
+    ensures accepter { (result.1.accepter ≡ accepter) ⊎ MayServe (S.told shelf.old).names (Some (read_as command.entry)) }
+    ensures nonces { (result.1.nonces ≡ nonces) ⊎ MayDraw (Happens (C.coming clock) (N.left nonces) (N.left result.1.nonces)) (S.told shelf.old).names (Some (read_as command.entry)) }
+    ensures nonce_faults { (N.faults nonces ≤ N.faults result.1.nonces) ⊎ MayServe (S.told shelf.old).names (Some (read_as command.entry)) }
     ensures sink { SinkStays K.faults K.same out.old out.new }
 {
     match command {
-        Command::Tip => run_task(alloc, Task::Tip, disk, out),
-        Command::List => run_task(alloc, Task::List, disk, out),
-        Command::Serve(_) => refuse_words(disk, out),
-        Command::Batch(asked) => run_batch(alloc, asked, disk, shelf, out, clock, nonces),
-        Command::Anchor(asked) => run_anchor(alloc, asked, disk, shelf, out),
-        Command::Migrate(old) => run_migrate(alloc, old, disk, shelf, out),
+        Command::Serve(asked) => run_serve(
+            rt, alloc, asked, disk, shelf, out, accepter, clock, nonces,
+        ),
+        Command::Tip => {
+            let (status, disk) = run_task(alloc, Task::Tip, disk, out);
+            (
+                status,
+                Returned {
+                    disk,
+                    accepter,
+                    nonces,
+                },
+            )
+        }
+        Command::List => {
+            let (status, disk) = run_task(alloc, Task::List, disk, out);
+            (
+                status,
+                Returned {
+                    disk,
+                    accepter,
+                    nonces,
+                },
+            )
+        }
+        Command::Batch(asked) => {
+            let mut clock = clock;
+            let mut nonces = nonces;
+            let (status, disk) = run_batch(alloc, asked, disk, shelf, out, &mut clock, &mut nonces);
+            (
+                status,
+                Returned {
+                    disk,
+                    accepter,
+                    nonces,
+                },
+            )
+        }
+        Command::Anchor(asked) => {
+            let (status, disk) = run_anchor(alloc, asked, disk, shelf, out);
+            (
+                status,
+                Returned {
+                    disk,
+                    accepter,
+                    nonces,
+                },
+            )
+        }
+        Command::Migrate(old) => {
+            let (status, disk) = run_migrate(alloc, old, disk, shelf, out);
+            (
+                status,
+                Returned {
+                    disk,
+                    accepter,
+                    nonces,
+                },
+            )
+        }
     }
 }
 
+/// Reads what serving names, and serves.
+#[expect(clippy::too_many_arguments)]
+fn run_serve<
+    D: Disk + Send,
+    S: Shelf,
+    K: Sink,
+    A: Accepter + Send,
+    C: Clock + Drop + Send,
+    N: Nonces + Send,
+    R: Threads + Wait + Sync,
+>(
+    rt: &R,
+    alloc: Global,
+    asked: Serving<'_>,
+    disk: D,
+    shelf: &mut S,
+    out: &mut K,
+    accepter: A,
+    clock: C,
+    nonces: N,
+) -> (DaemonStatus, Returned<D, A, N>)
+    requires { NoneReturned (A.returned accepter) }
+    ensures ends { Ends (Comes (WithService (S.told shelf.old).names (read_serving asked.entry) (λ uri key. WithBook (D.bytes disk) (ServeAnswers (λ most. IsDone (A.coming result.1.accepter) most (A.accepted result.1.accepter)) (AllAnswered A.Link.told A.Link.faults (A.returned result.1.accepter))
+        (A.faults result.1.accepter ≢ 0) (Rose (K.faults out.old) (K.faults out.new)) (A.accepted result.1.accepter) (read_serving asked.entry))))
+        (StopsAt (asked.entry.key.now ∷ []) (S.told shelf.old).opened (S.told shelf.new).opened (S.faults shelf.old) (S.faults shelf.new)) (Rose (D.faults disk) (D.faults result.1.disk)))
+        (D.images result.1.disk) (Rose (K.faults out.old) (K.faults out.new)) (K.taken out.old) (K.taken out.new) result.0 }
+    ensures moments { LeavesOnly D.clock D.images_since disk result.1.disk (OpenedFrom (D.images disk)) ⊎ (HasService (S.told shelf.old).names (read_serving asked.entry) × KeepsFound (D.bytes disk) (D.images result.1.disk)) }
+    ensures stays { ((result.1.disk ≡ disk) × (result.1.accepter ≡ accepter) × (result.1.nonces ≡ nonces)) ⊎ HasService (S.told shelf.old).names (read_serving asked.entry) }
+    ensures shelf { ReadsShelf (asked.entry.key.now ∷ []) (S.told shelf.old) (S.told shelf.new) (S.faults shelf.old) (S.faults shelf.new) result.0 }
+    ensures sink { SinkStays K.faults K.same out.old out.new }
+{
+    match read_service(alloc, asked, shelf) {
+        Ok(service) => serve(
+            rt, alloc, asked, &service, disk, out, accepter, clock, nonces,
+        ),
+        Err(stop) => {
+            let status = refuse_input(stop, out);
+            (
+                status,
+                Returned {
+                    disk,
+                    accepter,
+                    nonces,
+                },
+            )
+        }
+    }
+}
 /// Reads a block and anchors a tip in it.
 fn run_anchor<D: Disk, S: Shelf, K: Sink>(
     alloc: Global,
@@ -240,17 +365,4 @@ fn refuse_input<K: Sink>(stop: Stop<'_>, out: &mut K) -> DaemonStatus
         DaemonStatus::OutOfMemory => DaemonStatus::OutOfMemory,
         why => refuse(stop.name, why, out),
     }
-}
-
-/// Refuses the words. The disk is not called.
-fn refuse_words<D: Disk, K: Sink>(disk: D, out: &mut K) -> (DaemonStatus, D)
-    ensures ends { Ends (Comes IsUsage nowhere (Rose (D.faults disk) (D.faults result.1)))
-        (D.images result.1) (Rose (K.faults out.old) (K.faults out.new)) (K.taken out.old) (K.taken out.new) result.0 }
-    ensures moments { LeavesOnly D.clock D.images_since disk result.1 (OpenedFrom (D.images disk)) }
-    ensures untouched { result.1 ≡ disk }
-    ensures later { D.faults disk ≤ D.faults result.1 }
-    ensures sink { SinkStays K.faults K.same out.old out.new }
-{
-    let status = refuse("", DaemonStatus::Usage, out);
-    (status, disk)
 }

@@ -11,23 +11,31 @@ use std::alloc::{AllocError, Global};
 use std::io::ErrorKind;
 use std::process::ExitCode;
 use std::rt::Env;
+use std::sync::Wait;
+use std::thread::Threads;
 use std::{env, io};
 
 /// Runs the calendar on the words behind the program's name, over the file that the first of them
 /// names, the files, standard output, the system's sockets, clock and random source, and answers the
-/// number of its status as an exit code.
-pub fn run_program(rt: &HostRuntime) -> ExitCode {
-    let status = run(rt, rt.alloc()).unwrap_or(DaemonStatus::OutOfMemory);
+/// number of its status as an exit code. Connections are served in threads of `threads`, which is the
+/// same runtime as `main` has it: only there can it start any.
+pub fn run_program(rt: &HostRuntime, threads: &(impl Threads + Wait + Sync)) -> ExitCode {
+    let status = run(rt, threads, rt.alloc()).unwrap_or(DaemonStatus::OutOfMemory);
     ExitCode::from(status.number())
 }
 
 // Runs the calendar over the real objects.
-fn run(rt: &HostRuntime, alloc: Global) -> Result<DaemonStatus, AllocError> {
+fn run(
+    rt: &HostRuntime,
+    threads: &(impl Threads + Wait + Sync),
+    alloc: Global,
+) -> Result<DaemonStatus, AllocError> {
     let words = read_words(rt, alloc)?;
     let disk = FileDisk::new(rt, journal_name(alloc, &words)?);
     let mut shelf = DirShelf::new(rt, alloc);
     let mut out = StdSink::new(io::writer(rt));
     let (status, _returned) = run_calendar(
+        threads,
         alloc,
         &words,
         disk,

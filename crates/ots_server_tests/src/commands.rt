@@ -5,7 +5,7 @@ use std::test::Fail;
 
 #[test]
 fn a_new_journal_has_nothing_new(rt: HostRuntime) -> Result<(), Fail> {
-    let ended = run(rt.alloc(), &["j", "tip"], &[], &[])?;
+    let ended = run(&rt, &["j", "tip"], &[], &[])?;
     assert!(rt; ends(&ended, 1, "nothing new\n"));
     assert_eq!(rt; ended.disk.bytes().len(), 9);
     Ok(())
@@ -13,7 +13,7 @@ fn a_new_journal_has_nothing_new(rt: HostRuntime) -> Result<(), Fail> {
 
 #[test]
 fn a_new_journal_lists_nothing(rt: HostRuntime) -> Result<(), Fail> {
-    let ended = run(rt.alloc(), &["j", "list"], &[], &[])?;
+    let ended = run(&rt, &["j", "list"], &[], &[])?;
     assert!(rt; ends(&ended, 0, ""));
     Ok(())
 }
@@ -21,7 +21,7 @@ fn a_new_journal_lists_nothing(rt: HostRuntime) -> Result<(), Fail> {
 #[test]
 fn one_commitment_is_listed(rt: HostRuntime) -> Result<(), Fail> {
     let journal = bytes_of(rt.alloc(), ONE)?;
-    let ended = run(rt.alloc(), &["j", "list"], &journal, &[])?;
+    let ended = run(&rt, &["j", "list"], &journal, &[])?;
     assert!(rt; ends(&ended, 0, ONE_LISTED));
     assert!(rt; ended.disk.bytes() == journal.as_slice());
     Ok(())
@@ -29,9 +29,9 @@ fn one_commitment_is_listed(rt: HostRuntime) -> Result<(), Fail> {
 
 #[test]
 fn a_tip_is_stored_once(rt: HostRuntime) -> Result<(), Fail> {
-    let first = run(rt.alloc(), &["j", "tip"], &bytes_of(rt.alloc(), ONE)?, &[])?;
+    let first = run(&rt, &["j", "tip"], &bytes_of(rt.alloc(), ONE)?, &[])?;
     assert!(rt; ends(&first, 0, TIP));
-    let again = run(rt.alloc(), &["j", "tip"], first.disk.bytes(), &[])?;
+    let again = run(&rt, &["j", "tip"], first.disk.bytes(), &[])?;
     assert!(rt; ends(&again, 0, TIP));
     assert!(rt; again.disk.bytes() == first.disk.bytes());
     Ok(())
@@ -39,15 +39,15 @@ fn a_tip_is_stored_once(rt: HostRuntime) -> Result<(), Fail> {
 
 #[test]
 fn a_block_is_anchored(rt: HostRuntime) -> Result<(), Fail> {
-    let tip = run(rt.alloc(), &["j", "tip"], &bytes_of(rt.alloc(), ONE)?, &[])?;
+    let tip = run(&rt, &["j", "tip"], &bytes_of(rt.alloc(), ONE)?, &[])?;
     let block = bytes_of(rt.alloc(), BLOCK)?;
     let words = ["j", "anchor", "f", "--height", "7"];
-    let anchored = run(rt.alloc(), &words, tip.disk.bytes(), &block)?;
+    let anchored = run(&rt, &words, tip.disk.bytes(), &block)?;
     assert!(rt; ends(&anchored, 0, "anchored 0 1 block 7\n"));
     assert!(rt; anchored.disk.bytes() == bytes_of(rt.alloc(), ANCHORED)?.as_slice());
-    let nothing = run(rt.alloc(), &["j", "tip"], anchored.disk.bytes(), &[])?;
+    let nothing = run(&rt, &["j", "tip"], anchored.disk.bytes(), &[])?;
     assert!(rt; ends(&nothing, 1, "nothing new\n"));
-    let listed = run(rt.alloc(), &["j", "list"], anchored.disk.bytes(), &[])?;
+    let listed = run(&rt, &["j", "list"], anchored.disk.bytes(), &[])?;
     assert!(rt; ends(&listed, 0, ANCHORED_LISTED));
     Ok(())
 }

@@ -6,7 +6,7 @@ use std::test::Fail;
 #[test]
 fn each_call_of_the_disk_fails(rt: HostRuntime) -> Result<(), Fail> {
     let journal = bytes_of(rt.alloc(), ONE)?;
-    let well = run(rt.alloc(), &["j", "tip"], &journal, &[])?;
+    let well = run(&rt, &["j", "tip"], &journal, &[])?;
     let calls = well.disk.calls().len() as u64;
     assert!(rt; calls > 4);
     for call in 1..calls + 1 {
@@ -17,9 +17,9 @@ fn each_call_of_the_disk_fails(rt: HostRuntime) -> Result<(), Fail> {
             shelf: &[],
             sink: &[],
         };
-        let ended = run_on(rt.alloc(), &["j", "tip"], &on)?;
+        let ended = run_on(&rt, &["j", "tip"], &on)?;
         assert!(rt; ends(&ended, 25, "disk fault\n"));
-        let later = run(rt.alloc(), &["j", "tip"], ended.disk.bytes(), &[])?;
+        let later = run(&rt, &["j", "tip"], ended.disk.bytes(), &[])?;
         assert!(rt; ends(&later, 0, TIP));
     }
     Ok(())
@@ -37,7 +37,7 @@ fn each_call_of_the_shelf_fails(rt: HostRuntime) -> Result<(), Fail> {
             shelf: &[call],
             sink: &[],
         };
-        let ended = run_on(rt.alloc(), &["j", "anchor", "f", "--height", "7"], &on)?;
+        let ended = run_on(&rt, &["j", "anchor", "f", "--height", "7"], &on)?;
         assert!(rt; ends(&ended, 6, "read fault f\n"));
         assert!(rt; ended.disk.calls().is_empty());
     }
@@ -54,9 +54,9 @@ fn the_sink_fails(rt: HostRuntime) -> Result<(), Fail> {
         shelf: &[],
         sink: &[1],
     };
-    let ended = run_on(rt.alloc(), &["j", "tip"], &on)?;
+    let ended = run_on(&rt, &["j", "tip"], &on)?;
     assert!(rt; ends(&ended, 7, ""));
-    let later = run(rt.alloc(), &["j", "list"], ended.disk.bytes(), &[])?;
+    let later = run(&rt, &["j", "list"], ended.disk.bytes(), &[])?;
     assert!(rt; later.out.bytes().len() == ONE_LISTED.len() + TIP.len());
     Ok(())
 }

@@ -1,7 +1,9 @@
 // Each refusal, and which comes first.
 use crate::bytes::{BAD_FORM, BAD_VALUE, BLOCK, LONG, NO_ROOT, ONE, TURNED, TURNED_LINE};
 use crate::runs::{bytes_of, ends, run};
+use std::sync::Wait;
 use std::test::Fail;
+use std::thread::Threads;
 
 const USAGE: &str = "usage: otsd JOURNAL serve, batch, tip, anchor, list, migrate\n";
 
@@ -9,19 +11,24 @@ const ANCHOR: [&str; 5] = ["j", "anchor", "f", "--height", "7"];
 
 #[test]
 fn words_of_no_form_are_refused(rt: HostRuntime) -> Result<(), Fail> {
-    assert!(rt; ends(&run(rt.alloc(), &[], &[], &[])?, 2, USAGE));
-    assert!(rt; ends(&run(rt.alloc(), &["j"], &[], &[])?, 2, USAGE));
-    assert!(rt; ends(&run(rt.alloc(), &["", "tip"], &[], &[])?, 2, USAGE));
-    assert!(rt; ends(&run(rt.alloc(), &["j", "tap"], &[], &[])?, 2, USAGE));
-    assert!(rt; ends(&run(rt.alloc(), &["j", "tip", "x"], &[], &[])?, 2, USAGE));
+    assert!(rt; ends(&run(&rt, &[], &[], &[])?, 2, USAGE));
+    assert!(rt; ends(&run(&rt, &["j"], &[], &[])?, 2, USAGE));
+    assert!(rt; ends(&run(&rt, &["", "tip"], &[], &[])?, 2, USAGE));
+    assert!(rt; ends(&run(&rt, &["j", "tap"], &[], &[])?, 2, USAGE));
+    assert!(rt; ends(&run(&rt, &["j", "tip", "x"], &[], &[])?, 2, USAGE));
     let padded = ["j", "anchor", "f", "--height", "07"];
-    assert!(rt; ends(&run(rt.alloc(), &padded, &[], &[])?, 2, USAGE));
+    assert!(rt; ends(&run(&rt, &padded, &[], &[])?, 2, USAGE));
     Ok(())
 }
 
 // The status and the line of `list` on a journal.
-fn listed(rt: &HostRuntime, journal: &[u8], number: u8, line: &str) -> Result<bool, Fail> {
-    let ended = run(rt.alloc(), &["j", "list"], journal, &[])?;
+fn listed(
+    rt: &(impl AllocGlobal + Threads + Wait + Sync),
+    journal: &[u8],
+    number: u8,
+    line: &str,
+) -> Result<bool, Fail> {
+    let ended = run(rt, &["j", "list"], journal, &[])?;
     Ok(ends(&ended, number, line) && ended.disk.bytes() == journal)
 }
 
@@ -54,9 +61,14 @@ fn records_that_may_not_stand_are_refused(rt: HostRuntime) -> Result<(), Fail> {
 }
 
 // The status and the line of `anchor` with a block, on the journal of one commitment and its tip.
-fn anchored(rt: &HostRuntime, block: &[u8], number: u8, line: &str) -> Result<bool, Fail> {
-    let tip = run(rt.alloc(), &["j", "tip"], &bytes_of(rt.alloc(), ONE)?, &[])?;
-    let ended = run(rt.alloc(), &ANCHOR, tip.disk.bytes(), block)?;
+fn anchored(
+    rt: &(impl AllocGlobal + Threads + Wait + Sync),
+    block: &[u8],
+    number: u8,
+    line: &str,
+) -> Result<bool, Fail> {
+    let tip = run(rt, &["j", "tip"], &bytes_of(rt.alloc(), ONE)?, &[])?;
+    let ended = run(rt, &ANCHOR, tip.disk.bytes(), block)?;
     Ok(ends(&ended, number, line) && ended.disk.bytes() == tip.disk.bytes())
 }
 
@@ -102,18 +114,18 @@ fn a_block_that_is_too_big_is_refused(rt: HostRuntime) -> Result<(), Fail> {
 #[test]
 fn the_block_is_read_before_the_journal_is_opened(rt: HostRuntime) -> Result<(), Fail> {
     let none = run(
-        rt.alloc(),
+        &rt,
         &["j", "anchor", "g", "--height", "7"],
         &[0x78; 20],
         &[],
     )?;
     assert!(rt; ends(&none, 4, "no file g\n"));
     assert!(rt; none.disk.calls().is_empty());
-    let bad = run(rt.alloc(), &ANCHOR, &[0x78; 20], &[])?;
+    let bad = run(&rt, &ANCHOR, &[0x78; 20], &[])?;
     assert!(rt; ends(&bad, 29, "bad block at 0: truncated\n"));
     assert!(rt; bad.disk.calls().is_empty());
     let block = bytes_of(rt.alloc(), BLOCK)?;
-    let journal = run(rt.alloc(), &ANCHOR, &[0x78; 20], &block)?;
+    let journal = run(&rt, &ANCHOR, &[0x78; 20], &block)?;
     assert!(rt; ends(&journal, 21, "not a journal\n"));
     Ok(())
 }

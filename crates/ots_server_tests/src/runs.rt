@@ -5,7 +5,9 @@ use ots_io::{BytesLink, BytesSink, FixedClock, ListAccepter, ListNonces, MapShel
 use ots_server::{DaemonStatus, run_calendar};
 use std::alloc::Global;
 use std::collections::VecDeque;
+use std::sync::Wait;
 use std::test::Fail;
+use std::thread::Threads;
 
 const ROOM: DiskRoom = DiskRoom {
     calls: 100,
@@ -41,7 +43,12 @@ pub fn bytes_of(alloc: Global, digits: &str) -> Result<Vec<u8>, Fail> {
 }
 
 /// A run on these objects. The file has the name `f`.
-pub fn run_on(alloc: Global, words: &[&str], on: &On<'_>) -> Result<Ended, Fail> {
+pub fn run_on(
+    rt: &(impl AllocGlobal + Threads + Wait + Sync),
+    words: &[&str],
+    on: &On<'_>,
+) -> Result<Ended, Fail> {
+    let alloc = rt.alloc();
     let mut owned = Vec::new(alloc);
     for word in words {
         owned.push(word.to_string(alloc)?)?;
@@ -57,6 +64,7 @@ pub fn run_on(alloc: Global, words: &[&str], on: &On<'_>) -> Result<Ended, Fail>
     let mut out = BytesSink::new(alloc, 20_000, on.sink)?;
     let links: VecDeque<BytesLink> = VecDeque::new(alloc);
     let (status, returned) = run_calendar(
+        rt,
         alloc,
         &owned,
         MemoryDisk::new(alloc, on.journal, ROOM, on.disk)?,
@@ -74,9 +82,14 @@ pub fn run_on(alloc: Global, words: &[&str], on: &On<'_>) -> Result<Ended, Fail>
 }
 
 /// A run on a journal and a file, of which no call fails.
-pub fn run(alloc: Global, words: &[&str], journal: &[u8], file: &[u8]) -> Result<Ended, Fail> {
+pub fn run(
+    rt: &(impl AllocGlobal + Threads + Wait + Sync),
+    words: &[&str],
+    journal: &[u8],
+    file: &[u8],
+) -> Result<Ended, Fail> {
     run_on(
-        alloc,
+        rt,
         words,
         &On {
             journal,

@@ -22,5 +22,11 @@ anchored_line first count height = line (codes "anchored " ++ decimal first ++ c
 abbrev pub migrated_line : ℕ → List ℕ
 migrated_line count = line (codes "migrated " ++ decimal count)
 
+abbrev pub listening_line : ℕ → List ℕ
+listening_line port = line (codes "listening " ++ decimal port)
+
+abbrev pub served_line : ℕ → List ℕ
+served_line count = line (codes "served " ++ decimal count)
+
 abbrev pub tree_line : ℕ → List ℕ → List ℕ
 tree_line index tree = line (decimal index ++ codes " " ++ encode_lower tree)

@@ -2,7 +2,7 @@
 ghost use Rattle.std.specs.Prelude.{◌≡◌, ◌≤◌, length, take};
 ghost use Rattle.hex.specs.Hex.{encode_lower};
 ghost use Rattle.ots_printer.specs.Printing.{Puts};
-ghost use Rattle.ots_server_text.specs.Lines.{anchor_line, anchored_line, commit_line, migrated_line, tip_line, tree_line};
+ghost use Rattle.ots_server_text.specs.Lines.{anchor_line, anchored_line, commit_line, listening_line, migrated_line, served_line, tip_line, tree_line};
 ghost use Rattle.ots_tree.specs.Wire.{spell, spelled};
 
 use ots_attest::{MAX_SPELLED_ATTESTATION, spell_attestation};
@@ -74,6 +74,24 @@ pub fn put_migrated<K: Sink>(count: u64, out: &mut Printer<'_, K>)
     ensures { Puts K.taken K.faults K.same (migrated_line count) out.old out.new }
 {
     out.word("migrated ");
+    out.number(count);
+    out.word("\n");
+}
+
+/// Puts the line of a port that is listened on.
+pub fn put_listening<K: Sink>(port: u16, out: &mut Printer<'_, K>)
+    ensures { Puts K.taken K.faults K.same (listening_line port) out.old out.new }
+{
+    out.word("listening ");
+    out.number(port as u64);
+    out.word("\n");
+}
+
+/// Puts the line of how many connections were accepted.
+pub fn put_served<K: Sink>(count: u64, out: &mut Printer<'_, K>)
+    ensures { Puts K.taken K.faults K.same (served_line count) out.old out.new }
+{
+    out.word("served ");
     out.number(count);
     out.word("\n");
 }

@@ -5,5 +5,5 @@ use ots_server_program::run_program;
 use std::process::ExitCode;
 
 fn main(rt: HostRuntime) -> ExitCode {
-    run_program(&rt)
+    run_program(&rt, &rt)
 }
