@@ -22,6 +22,7 @@ mod form;
 mod held;
 mod index;
 mod laws;
+mod lists;
 mod marked;
 mod opening;
 mod progress;

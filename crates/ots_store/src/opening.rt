@@ -9,6 +9,7 @@ ghost use Rattle.ots_store.specs.Opening.{IfBad, HeldTo, HeldNext, FollowTo};
 
 use crate::form::form_of;
 use crate::held::Held;
+use crate::lists::Lists;
 use crate::progress::{Progress, may_follow};
 use crate::{StoreError, Tip};
 use ots_base::OutOfMemory;
@@ -22,7 +23,7 @@ pub fn hold_records<D: Disk>(alloc: Global, journal: &Journal<D>) -> Result<Held
     ensures are { OnOk result (AreRecords [] journal.now.entries) }
     ensures bad { IfErr result (λ e. IfBad e (FirstBad [] journal.now.entries)) }
 {
-    let mut held = Held::new(alloc);
+    let mut lists = Lists::new(alloc);
     let mut progress = Progress {
         commits: 0,
         covered: 0,
@@ -31,16 +32,16 @@ pub fn hold_records<D: Disk>(alloc: Global, journal: &Journal<D>) -> Result<Held
     };
     for i in 0..journal.count() {
         let (kind, payload) = journal.entry(i);
-        if !hold_next(&mut held, &mut progress, kind, payload)? {
+        if !hold_next(&mut lists, &mut progress, kind, payload)? {
             return Err(StoreError::BadRecord(i));
         }
     }
-    Ok(held)
+    Ok(Held::of(alloc, lists)?)
 }
 
 // Holds one entry more, where it spells a record that may follow.
 fn hold_next(
-    held: &mut Held,
+    held: &mut Lists,
     progress: &mut Progress,
     kind: u8,
     payload: &[u8],

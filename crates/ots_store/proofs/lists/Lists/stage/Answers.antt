@@ -1,7 +1,7 @@
 use Rattle.ots_store.proofs.Holding.{is_commit, is_tip, is_anchor, anchor_spelled, commit_held, tip_held, anchor_held, on_ok}
 use Rattle.ots_store.proofs.Recorded.{entry}
 use Rattle.ots_store.specs.Records.{record_of, tip_at, anchor_at}
-use Rattle.ots_store.proofs.held.Held.stage.Goals as goal
+use Rattle.ots_store.proofs.lists.Lists.stage.Goals as goal
 
 pub returns-then-kind-eq-COMMIT-clause-ok : goal.returns-then-kind-eq-COMMIT-clause-ok
 returns-then-kind-eq-COMMIT-clause-ok c =
