@@ -1,6 +1,5 @@
 -- The order of keys.
-use Rattle.std.proofs.Common.{◌≡◌, ◌<◌, ◌≤◌, ℕ, Bool, true, false, List, refl, sym, ◌∙◌, ap, subst, arith}
-use Rattle.std.proofs.lemmas.Bool.Decides.{nat_tests}
+use Rattle.std.proofs.Common.{◌≡◌, ◌<◌, ◌≤◌, ℕ, Bool, true, false, List, refl, sym, ◌∙◌, ap, arith}
 use Rattle.std.proofs.lemmas.Cmp.{upto, tied_itself, then_total, on_total, nat_list_cmp_total, nat_cmp_total, ranked}
 use Rattle.std.proofs.lemmas.Map.Text.{is_eq-slice_cmp}
 use Rattle.std.proofs.lemmas.Slice.Eq.{bytes_eq-Decides}
@@ -44,7 +43,7 @@ itself k = ap is_gt (tied_itself key_total k)
 
 -- ---- keys of one commitment
 
-same_first : (c : List ℕ) (m n : ℕ) → key_cmp (c , m) (c , n) ≡ nat_cmp m n
+same_first : (c : List ℕ) (m n : ℕ) → key_cmp (c, m) (c, n) ≡ nat_cmp m n
 same_first c m n = ap (λ (o : Ordering). ordering_then o (nat_cmp m n)) (tied_itself nat_list_cmp_total c)
 
 lt_by : (m n : ℕ) (o : Ordering) → MatchOrdering o (m < n) (m ≡ n) (n < m) → is_lt o ≡ true → m < n
@@ -57,10 +56,10 @@ le_by m n Less means h = omega (arith, means)
 le_by m n Equal means h = omega (arith, means)
 le_by m n Greater means h = absurd (cc)
 
-pub none_before : (c : List ℕ) (m : ℕ) → is_lt (key_cmp (c , m) (c , 0)) ≡ true → ⊥
+pub none_before : (c : List ℕ) (m : ℕ) → is_lt (key_cmp (c, m) (c, 0)) ≡ true → ⊥
 none_before c m h = let lt = lt_by m 0 (nat_cmp m 0) (ranked m 0 (nat_cmp m 0) refl) (sym (ap is_lt (same_first c m 0)) ∙ h) in omega arith
 
-pub places_rise : (c : List ℕ) (m n : ℕ) → is_gt (key_cmp (c , m) (c , n)) ≡ false → m ≤ n
+pub places_rise : (c : List ℕ) (m n : ℕ) → is_gt (key_cmp (c, m) (c, n)) ≡ false → m ≤ n
 places_rise c m n h = le_by m n (nat_cmp m n) (ranked m n (nat_cmp m n) refl) (sym (ap is_gt (same_first c m n)) ∙ h)
 
 between : (o : Ordering) (a b : Ordering) → is_lt (ordering_then o a) ≡ false → is_gt (ordering_then o b) ≡ false → is_eq o ≡ true
@@ -69,5 +68,5 @@ between Equal a b low high = refl
 between Greater a b low high = absurd (cc)
 
 -- a key that is from the first one of a commitment on and not behind one of this commitment is of this commitment
-pub same_commitment : (d c : List ℕ) (p m : ℕ) → is_lt (key_cmp (d , p) (c , 0)) ≡ false → is_gt (key_cmp (d , p) (c , m)) ≡ false → d ≡ c
+pub same_commitment : (d c : List ℕ) (p m : ℕ) → is_lt (key_cmp (d, p) (c, 0)) ≡ false → is_gt (key_cmp (d, p) (c, m)) ≡ false → d ≡ c
 same_commitment d c p m low high = (bytes_eq-Decides d c).0 (sym (is_eq-slice_cmp d c) ∙ between (slice_cmp nat_cmp d c) (nat_cmp p 0) (nat_cmp p m) low high)

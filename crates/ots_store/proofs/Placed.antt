@@ -12,7 +12,7 @@ use Rattle.std.specs.Ordering.{is_lt, is_gt}
 use Rattle.std.specs.Option.{option_map}
 use Rattle.std.specs.Str.{bytes_eq}
 use Rattle.ots_store.specs.Index.{least}
-use Rattle.ots_store.specs.Places.{Indexes, IsWithin, Rises, key_at, key_cmp, nothing}
+use Rattle.ots_store.specs.Places.{Indexes, key_at, key_cmp, nothing}
 use Rattle.ots_store.proofs.Keys.{lt_is_gt, not_gt, itself, none_before, places_rise, same_commitment}
 
 split_by : (j k : ℕ) (b : Bool) → ltb j k ≡ b → (j < k) ⊎ (k ≤ j)
@@ -47,20 +47,20 @@ least_is q (c ∷ all) (suc i) lt is never =
 -- ---- what a search finds
 
 module _ (q : List ℕ) (all : List (List ℕ)) (places : List ℕ) (at : ℕ) (index : Indexes (length all) places all)
-    (before : (j : ℕ) → j < at → is_lt (key_cmp (key_at all (get_or places j 0)) (q , 0)) ≡ true)
-    (behind : (j : ℕ) → at ≤ j → j < length places → is_lt (key_cmp (key_at all (get_or places j 0)) (q , 0)) ≡ false) where
+    (before : (j : ℕ) → j < at → is_lt (key_cmp (key_at all (get_or places j 0)) (q, 0)) ≡ true)
+    (behind : (j : ℕ) → at ≤ j → j < length places → is_lt (key_cmp (key_at all (get_or places j 0)) (q, 0)) ≡ false) where
   -- a place of this commitment is not before where the search ended
   not_before : (m j : ℕ) → get_or places j 0 ≡ m → get_or all m nothing ≡ q → j < at → ⊥
-  not_before m j is there lt = none_before q m (subst (λ (c : List ℕ). is_lt (key_cmp (c , m) (q , 0)) ≡ true) there (subst (λ (p : ℕ). is_lt (key_cmp (key_at all p) (q , 0)) ≡ true) is (before j lt)))
+  not_before m j is there lt = none_before q m (subst (λ (c : List ℕ). is_lt (key_cmp (c, m) (q, 0)) ≡ true) there (subst (λ (p : ℕ). is_lt (key_cmp (key_at all p) (q, 0)) ≡ true) is (before j lt)))
 
-  up_to : (m j : ℕ) → get_or places j 0 ≡ m → get_or all m nothing ≡ q → at ≤ j → j < length places → is_gt (key_cmp (key_at all (get_or places at 0)) (q , m)) ≡ false
+  up_to : (m j : ℕ) → get_or places j 0 ≡ m → get_or all m nothing ≡ q → at ≤ j → j < length places → is_gt (key_cmp (key_at all (get_or places at 0)) (q, m)) ≡ false
   up_to m j is there le lt =
-      subst (λ (c : List ℕ). is_gt (key_cmp (key_at all (get_or places at 0)) (c , m)) ≡ false) there (subst (λ (p : ℕ). is_gt (key_cmp (key_at all (get_or places at 0)) (key_at all p)) ≡ false) is (index.rises at j le lt))
+      subst (λ (c : List ℕ). is_gt (key_cmp (key_at all (get_or places at 0)) (c, m)) ≡ false) there (subst (λ (p : ℕ). is_gt (key_cmp (key_at all (get_or places at 0)) (key_at all p)) ≡ false) is (index.rises at j le lt))
 
   none_earlier : (p m j : ℕ) → get_or places at 0 ≡ p → get_or all p nothing ≡ q → m < p → get_or all m nothing ≡ q → j < length places → get_or places j 0 ≡ m → ((j < at) ⊎ (at ≤ j)) → ⊥
   none_earlier p m j is there below same lt here (inl earlier) = not_before m j here same earlier
   none_earlier p m j is there below same lt here (inr le) =
-      let up = subst (λ (c : List ℕ). is_gt (key_cmp (c , p) (q , m)) ≡ false) there (subst (λ (n : ℕ). is_gt (key_cmp (key_at all n) (q , m)) ≡ false) is (up_to m j here same le lt)) in
+      let up = subst (λ (c : List ℕ). is_gt (key_cmp (c, p) (q, m)) ≡ false) there (subst (λ (n : ℕ). is_gt (key_cmp (key_at all n) (q, m)) ≡ false) is (up_to m j here same le lt)) in
       let rise = places_rise q p m up in omega arith
 
   pub found : (p : ℕ) → at < length places → get_or places at 0 ≡ p → get_or all p nothing ≡ q → Some p ≡ least q all
@@ -90,7 +90,7 @@ stood_behind places at n k fits le (inr e) = back e.0 e.1 e.2 (ap (λ (i : ℕ).
 
 same_or_past : (at k : ℕ) → at ≤ k → ((k < at + 1) ⊎ (at + 1 ≤ k)) → (k ≡ at) ⊎ ((j : ℕ) × (k ≡ j + 1) × (at ≤ j))
 same_or_past at k le (inl lt) = inl (omega arith)
-same_or_past at k le (inr past) = inr (k - 1 , omega arith , omega arith)
+same_or_past at k le (inr past) = inr (k - 1, omega arith, omega arith)
 
 stood_by : (places : List ℕ) (at n k : ℕ) → at ≤ length places → ((k < at) ⊎ (at ≤ k)) → Stood places at n k (get_or (insert places at n) k 0)
 stood_by places at n k fits (inl lt) = front lt (get_or-insert_below places at n 0 k lt fits)
@@ -111,12 +111,12 @@ module _ (all : List (List ℕ)) (places : List ℕ) (at n : ℕ) (index : Index
   is_within k p lt (back j next le is) = let old = index.within j (omega (arith, many, index.count)) in omega arith
 
   there_by : (p j : ℕ) → j < length places → get_or places j 0 ≡ p → ((j < at) ⊎ (at ≤ j)) → (k : ℕ) × (k < length (insert places at n)) × (get_or (insert places at n) k 0 ≡ p)
-  there_by p j lt is (inl below) = (j , omega (arith, many, index.count) , get_or-insert_below places at n 0 j below fits ∙ is)
-  there_by p j lt is (inr le) = (j + 1 , omega (arith, many, index.count) , get_or-insert_above places at n 0 j le fits ∙ is)
+  there_by p j lt is (inl below) = (j, omega (arith, many, index.count), get_or-insert_below places at n 0 j below fits ∙ is)
+  there_by p j lt is (inr le) = (j + 1, omega (arith, many, index.count), get_or-insert_above places at n 0 j le fits ∙ is)
 
   there : (p : ℕ) → ((p < n) ⊎ (n ≤ p)) → p < n + 1 → (k : ℕ) × (k < length (insert places at n)) × (get_or (insert places at n) k 0 ≡ p)
   there p (inl old) lt = let e = index.each p old in there_by p e.0 e.1 e.2 (split e.0 at)
-  there p (inr new) lt = let same : n ≡ p = omega arith in (at , omega (arith, many, index.count) , get_or-insert_at places at n 0 fits ∙ same)
+  there p (inr new) lt = let same : n ≡ p = omega arith in (at, omega (arith, many, index.count), get_or-insert_at places at n 0 fits ∙ same)
 
   abbrev In : ℕ → ℕ → Type 0
   In p r = is_gt (key_cmp (key_at all p) (key_at all r)) ≡ false
@@ -157,7 +157,7 @@ longer n places all more le index = record {
 }
   where
     stays : (p : ℕ) → p < n → key_at (all ++ more) p ≡ key_at all p
-    stays p lt = ap (λ (c : List ℕ). (c , p)) (get_or_append_left all more nothing p (omega arith))
+    stays p lt = ap (λ (c : List ℕ). (c, p)) (get_or_append_left all more nothing p (omega arith))
 
 -- ---- all places, sorted
 
@@ -168,13 +168,15 @@ sorted n places rest all count each moved up =
     record {
       count = same ∙ count;
       within = λ j lt. All-permutation (λ p. p < n) places rest moved (λ k d below. in_turn k d below) j 0 lt;
-      each = λ p lt. let e = Contains-permutation places rest p moved (p , (omega arith) , at_default p lt) in (e.0 , e.1 , zero_default e.0 p e.1 ∙ e.2);
+      each = λ p lt. let e = Contains-permutation places rest p moved (p, (omega arith), at_default p lt) in (e.0, e.1, zero_default e.0 p e.1 ∙ e.2);
       rises = λ i j le lt. sym (lt_is_gt (key_at all (get_or rest j 0)) (key_at all (get_or rest i 0))) ∙ up i j 0 le lt;
     }
   where
     in_turn : (k d : ℕ) → k < length places → get_or places k d < n
     in_turn k d below = let is : get_or places k d ≡ k = get_or_default_zero places k d below ∙ each k (omega arith) in omega arith
+
     at_default : (p : ℕ) → p < n → get_or places p p ≡ p
     at_default p lt = get_or_default_zero places p p (omega arith) ∙ each p lt
+
     zero_default : (k p : ℕ) → k < length rest → get_or rest k 0 ≡ get_or rest k p
     zero_default k p lt = sym (get_or_default_zero rest k p lt)

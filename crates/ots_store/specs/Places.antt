@@ -10,7 +10,7 @@ nothing = replicate 44 0
 
 -- a commitment and its place
 abbrev pub key_at : List (List ℕ) → ℕ → List ℕ × ℕ
-key_at all place = (slice_index_or all place nothing , place)
+key_at all place = (slice_index_or all place nothing, place)
 
 abbrev pub key_cmp : List ℕ × ℕ → List ℕ × ℕ → Ordering
 key_cmp = then_cmp (on (λ (k : List ℕ × ℕ). k.0) (slice_cmp nat_cmp)) (on (λ (k : List ℕ × ℕ). k.1) nat_cmp)

@@ -117,14 +117,19 @@ fn is_before(all: &[[u8; 44]], place: u32, commitment: &[u8; 44], other: u32) ->
     requires { place < length all.now }
     ensures { result ≡ is_lt (key_cmp (key_at all.now place) (commitment.now, other)) }
 {
-    all[place as usize].cmp(commitment).then(place.cmp(&other)).is_lt()
+    all[place as usize]
+        .cmp(commitment)
+        .then(place.cmp(&other))
+        .is_lt()
 }
 
 // The order of two places.
 fn order(all: &[[u8; 44]], a: u32, b: u32) -> Ordering
     ensures { result ≡ key_cmp (key_at all.now a) (key_at all.now b) }
 {
-    commitment_at(all, a).cmp(commitment_at(all, b)).then(a.cmp(&b))
+    commitment_at(all, a)
+        .cmp(commitment_at(all, b))
+        .then(a.cmp(&b))
 }
 
 // What stands at a place that is none.

@@ -41,25 +41,25 @@ pub fn hold_records<D: Disk>(alloc: Global, journal: &Journal<D>) -> Result<Held
 
 // Holds one entry more, where it spells a record that may follow.
 fn hold_next(
-    held: &mut Lists,
+    lists: &mut Lists,
     progress: &mut Progress,
     kind: u8,
     payload: &[u8],
 ) -> Result<bool, OutOfMemory>
-    requires passed { Passed held.old.tips.kept [] progress.old }
+    requires passed { Passed lists.old.tips.kept [] progress.old }
     requires few { progress.old.commits < 2 ^ 63 }
     ensures few { progress.new.commits ≤ progress.old.commits + 1 }
-    ensures yes { IfOk result (λ follows. follows ≡ true → (before : List Record) → HeldTo before held.old progress.old → HeldNext before (record { kind = kind; payload = payload.now }) held.new progress.new) }
-    ensures no { IfOk result (λ follows. follows ≡ false → (before : List Record) → HeldTo before held.old progress.old → IsRecord (record { kind = kind; payload = payload.now }) → Follows before (record_of (record { kind = kind; payload = payload.now })) → ⊥) }
+    ensures yes { IfOk result (λ follows. follows ≡ true → (before : List Record) → HeldTo before lists.old progress.old → HeldNext before (record { kind = kind; payload = payload.now }) lists.new progress.new) }
+    ensures no { IfOk result (λ follows. follows ≡ false → (before : List Record) → HeldTo before lists.old progress.old → IsRecord (record { kind = kind; payload = payload.now }) → Follows before (record_of (record { kind = kind; payload = payload.now })) → ⊥) }
 {
     let Some(form) = form_of(kind, payload) else {
         return Ok(false);
     };
-    if !may_follow(&form, held.tips(), &[], progress) {
+    if !may_follow(&form, lists.tips(), &[], progress) {
         return Ok(false);
     }
-    held.stage(kind, payload)?;
-    held.keep();
+    lists.stage(kind, payload)?;
+    lists.keep();
     Ok(true)
 }
 

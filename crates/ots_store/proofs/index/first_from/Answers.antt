@@ -1,6 +1,5 @@
-use Rattle.std.proofs.Common.{◌≡◌, ◌-◌, ◌/◌, ◌+◌, ℕ, true, false, length, get_or, sym, ◌∙◌, arith}
-use Rattle.std.specs.Ordering.{is_lt}
-use Rattle.ots_store.specs.Places.{key_at, key_cmp}
+use Rattle.std.proofs.Common.{◌-◌, ◌/◌, ◌+◌, get_or, sym, ◌∙◌, arith}
+use Rattle.ots_store.specs.Places.{key_at}
 use Rattle.ots_store.proofs.Keys.{before_chain, behind_chain}
 use Rattle.ots_store.proofs.index.first_from.Goals as goal
 
@@ -12,7 +11,7 @@ loop-low-preserved-then-is_before c =
     record {
       ordered = omega arith;
       within = c.loop-low.invariant.within;
-      before = λ j lt. before_chain (key (get_or places j 0)) (key (get_or places middle 0)) (c.args.commitment.now , c.args.place) (c.requires.rises j middle (omega arith) (omega arith)) (sym c.is_before.ensures ∙ c.if-is_before.true);
+      before = λ j lt. before_chain (key (get_or places j 0)) (key (get_or places middle 0)) (c.args.commitment.now, c.args.place) (c.requires.rises j middle (omega arith) (omega arith)) (sym c.is_before.ensures ∙ c.if-is_before.true);
       behind = c.loop-low.invariant.behind;
     }
 
@@ -25,5 +24,5 @@ loop-low-preserved c =
       ordered = omega arith;
       within = omega arith;
       before = c.loop-low.invariant.before;
-      behind = λ j le lt. behind_chain (key (get_or places middle 0)) (key (get_or places j 0)) (c.args.commitment.now , c.args.place) (sym c.is_before.ensures ∙ c.if-is_before.false) (c.requires.rises middle j le lt);
+      behind = λ j le lt. behind_chain (key (get_or places middle 0)) (key (get_or places j 0)) (c.args.commitment.now, c.args.place) (sym c.is_before.ensures ∙ c.if-is_before.false) (c.requires.rises middle j le lt);
     }

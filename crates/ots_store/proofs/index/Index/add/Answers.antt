@@ -1,4 +1,4 @@
-use Rattle.std.proofs.Common.{rules, ◌≡◌, ◌≤◌, ◌<◌, ◌+◌, ℕ, Bool, List, length, true, false, vec_len, vec_capacity, [], get_or, sym, ◌∙◌, subst, ap, arith}
+use Rattle.std.proofs.Common.{◌≡◌, ◌≤◌, ◌<◌, ◌+◌, ℕ, Bool, List, length, true, false, vec_len, vec_capacity, [], get_or, sym, ◌∙◌, subst, ap, arith}
 use Rattle.std.specs.Prelude.{if◌then◌else◌, is_ok}
 use Rattle.std.proofs.lemmas.List.{get_or_default}
 use Rattle.std.specs.List.{insert}
@@ -20,7 +20,7 @@ returns-clause-indexes c =
     let items : c.insert.new.self.items ≡ insert places at n = c.insert.ensures.items ∙ ap (λ (b : Bool). if b then insert places at n else places) done in
     subst (λ (l : List ℕ). Indexes (n + 1) l all) (sym items)
     (inserted all places at n c.requires.indexes (subst (λ (l : List ℕ). at ≤ length l) here c.first_from-at.ensures.bound)
-    (subst (λ (q : List ℕ). (j : ℕ) → j < at → is_lt (key_cmp (key_at all (get_or places j 0)) (q , n)) ≡ true) there
-    (subst (λ (l : List ℕ). (j : ℕ) → j < at → is_lt (key_cmp (key_at all (get_or l j 0)) (get_or all n [] , n)) ≡ true) here c.first_from-at.ensures.before))
-    (subst (λ (q : List ℕ). (j : ℕ) → at ≤ j → j < length places → is_lt (key_cmp (key_at all (get_or places j 0)) (q , n)) ≡ false) there
-    (subst (λ (l : List ℕ). (j : ℕ) → at ≤ j → j < length l → is_lt (key_cmp (key_at all (get_or l j 0)) (get_or all n [] , n)) ≡ false) here c.first_from-at.ensures.behind)))
+    (subst (λ (q : List ℕ). (j : ℕ) → j < at → is_lt (key_cmp (key_at all (get_or places j 0)) (q, n)) ≡ true) there
+    (subst (λ (l : List ℕ). (j : ℕ) → j < at → is_lt (key_cmp (key_at all (get_or l j 0)) (get_or all n [], n)) ≡ true) here c.first_from-at.ensures.before))
+    (subst (λ (q : List ℕ). (j : ℕ) → at ≤ j → j < length places → is_lt (key_cmp (key_at all (get_or places j 0)) (q, n)) ≡ false) there
+    (subst (λ (l : List ℕ). (j : ℕ) → at ≤ j → j < length l → is_lt (key_cmp (key_at all (get_or l j 0)) (get_or all n [], n)) ≡ false) here c.first_from-at.ensures.behind)))

@@ -1,5 +1,4 @@
-use Rattle.std.proofs.Common.{rules, ◌≡◌, ◌≤◌, ◌<◌, ℕ, List, [], length, true, false, vec_len, get_or, sym, ◌∙◌, subst, ap, arith}
-use Rattle.std.specs.Prelude.{None}
+use Rattle.std.proofs.Common.{◌≡◌, ◌≤◌, ◌<◌, ℕ, List, [], length, true, false, get_or, sym, ◌∙◌, subst, ap, arith}
 use Rattle.std.specs.Ordering.{is_lt}
 use Rattle.std.proofs.lemmas.Grind.{get_or_default_zero}
 use Rattle.std.proofs.lemmas.List.{get_or_default}
@@ -20,8 +19,8 @@ returns-then-eq c =
     let is : get_or places at 0 ≡ p = sym (c.index-place.ensures ∙ get_or_default_zero places at p lt) in
     let within : p < length all = subst (λ (n : ℕ). n < length all) is (c.requires.within at lt) in
     found q all places at c.requires
-    (subst (λ (l : List ℕ). (j : ℕ) → j < at → is_lt (key_cmp (key_at all (get_or l j 0)) (q , 0)) ≡ true) here c.first_from-at.ensures.before)
-    (subst (λ (l : List ℕ). (j : ℕ) → at ≤ j → j < length l → is_lt (key_cmp (key_at all (get_or l j 0)) (q , 0)) ≡ false) here c.first_from-at.ensures.behind)
+    (subst (λ (l : List ℕ). (j : ℕ) → j < at → is_lt (key_cmp (key_at all (get_or l j 0)) (q, 0)) ≡ true) here c.first_from-at.ensures.before)
+    (subst (λ (l : List ℕ). (j : ℕ) → at ≤ j → j < length l → is_lt (key_cmp (key_at all (get_or l j 0)) (q, 0)) ≡ false) here c.first_from-at.ensures.behind)
     p lt is (get_or_default all p nothing [] within ∙ (bytes_eq-Decides (get_or all p []) q).0 (sym c.eq.ensures ∙ c.if-eq.true))
 
 pub returns-else-eq : goal.returns-else-eq
@@ -36,8 +35,8 @@ returns-else-eq c =
     let is : get_or places at 0 ≡ p = sym (c.index-place.ensures ∙ get_or_default_zero places at p lt) in
     let within : p < length all = subst (λ (n : ℕ). n < length all) is (c.requires.within at lt) in
     found_none q all places at c.requires
-    (subst (λ (l : List ℕ). (j : ℕ) → j < at → is_lt (key_cmp (key_at all (get_or l j 0)) (q , 0)) ≡ true) here c.first_from-at.ensures.before)
-    (subst (λ (l : List ℕ). (j : ℕ) → at ≤ j → j < length l → is_lt (key_cmp (key_at all (get_or l j 0)) (q , 0)) ≡ false) here c.first_from-at.ensures.behind)
+    (subst (λ (l : List ℕ). (j : ℕ) → j < at → is_lt (key_cmp (key_at all (get_or l j 0)) (q, 0)) ≡ true) here c.first_from-at.ensures.before)
+    (subst (λ (l : List ℕ). (j : ℕ) → at ≤ j → j < length l → is_lt (key_cmp (key_at all (get_or l j 0)) (q, 0)) ≡ false) here c.first_from-at.ensures.behind)
     (λ lt' same.
     let there : get_or all p [] ≡ q = get_or_default all p [] nothing within ∙ ap (λ (i : ℕ). get_or all i nothing) (sym is) ∙ same in
     absurd (let h : false ≡ true = sym c.if-eq.false ∙ c.eq.ensures ∙ (bytes_eq-Decides (get_or all p []) q).1 there in cc))
@@ -51,6 +50,6 @@ returns-else-at-len c =
     let here = c.deref.ensures.value in
     let past = c.len.ensures in
     found_none q all places at c.requires
-    (subst (λ (l : List ℕ). (j : ℕ) → j < at → is_lt (key_cmp (key_at all (get_or l j 0)) (q , 0)) ≡ true) here c.first_from-at.ensures.before)
-    (subst (λ (l : List ℕ). (j : ℕ) → at ≤ j → j < length l → is_lt (key_cmp (key_at all (get_or l j 0)) (q , 0)) ≡ false) here c.first_from-at.ensures.behind)
+    (subst (λ (l : List ℕ). (j : ℕ) → j < at → is_lt (key_cmp (key_at all (get_or l j 0)) (q, 0)) ≡ true) here c.first_from-at.ensures.before)
+    (subst (λ (l : List ℕ). (j : ℕ) → at ≤ j → j < length l → is_lt (key_cmp (key_at all (get_or l j 0)) (q, 0)) ≡ false) here c.first_from-at.ensures.behind)
     (λ lt same. absurd (omega arith))
