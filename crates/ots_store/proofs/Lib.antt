@@ -3,6 +3,7 @@ pub mod Bad
 pub mod Formed
 pub mod Holding
 pub mod Keys
+pub mod Merged
 pub mod Numbers
 pub mod Opened
 pub mod Ordered

@@ -1,25 +1,24 @@
 -- What an index of places finds, and how it grows.
-use Rattle.std.proofs.Common.{◌≡◌, ◌⊎◌, inl, inr, ◌<◌, ◌≤◌, ◌+◌, ◌-◌, ℕ, suc, Bool, true, false, cond, List, [], ◌∷◌, ◌++◌, length, get_or, ltb, ltb-true, ltb-false, zero, refl, sym, ◌∙◌, ap, subst, arith}
+use Rattle.std.proofs.Common.{◌≡◌, ◌⊎◌, inl, inr, ◌<◌, ◌≤◌, ◌+◌, ℕ, suc, Bool, true, false, cond, List, [], ◌∷◌, ◌++◌, length, get_or, length-append, ltb, ltb-true, ltb-false, zero, refl, sym, ◌∙◌, ap, subst, arith}
 use Rattle.std.proofs.lemmas.List.{get_or_append_left}
+use Rattle.std.proofs.Math.Seq.{get_or-append_seam}
 use Rattle.std.proofs.lemmas.Grind.{get_or_default_zero}
-use Rattle.std.proofs.lemmas.List.Edits.{length-insert, get_or-insert_below, get_or-insert_at, get_or-insert_above}
 use Rattle.std.proofs.lemmas.List.Sorted.{All-permutation, Contains-permutation, length_permutation}
 use Rattle.std.proofs.lemmas.Slice.Eq.{bytes_eq-Decides}
 use Rattle.std.specs.Prelude.{Option, None, Some}
-use Rattle.std.specs.List.{insert}
 use Rattle.std.specs.List.Sorted.{IsPermutation}
 use Rattle.std.specs.Ordering.{is_lt, is_gt}
 use Rattle.std.specs.Option.{option_map}
 use Rattle.std.specs.Str.{bytes_eq}
 use Rattle.ots_store.specs.Index.{least}
-use Rattle.ots_store.specs.Places.{Indexes, key_at, key_cmp, nothing}
-use Rattle.ots_store.proofs.Keys.{lt_is_gt, not_gt, itself, none_before, places_rise, same_commitment}
+use Rattle.ots_store.specs.Places.{Indexes, Are, key_at, key_cmp, nothing}
+use Rattle.ots_store.proofs.Keys.{lt_is_gt, none_before, places_rise, same_commitment}
 
 split_by : (j k : ℕ) (b : Bool) → ltb j k ≡ b → (j < k) ⊎ (k ≤ j)
 split_by j k true is = inl (ltb-true j k is)
 split_by j k false is = inr (ltb-false j k is)
 
-split : (j k : ℕ) → (j < k) ⊎ (k ≤ j)
+pub split : (j k : ℕ) → (j < k) ⊎ (k ≤ j)
 split j k = split_by j k (ltb j k) refl
 
 -- ---- the least index, place by place
@@ -65,8 +64,8 @@ module _ (q : List ℕ) (all : List (List ℕ)) (places : List ℕ) (at : ℕ) (
 
   pub found : (p : ℕ) → at < length places → get_or places at 0 ≡ p → get_or all p nothing ≡ q → Some p ≡ least q all
   found p lt is there =
-      let within : p < length all = subst (λ (n : ℕ). n < length all) is (index.within at lt) in
-      sym (least_is q all p within there (λ m below same. let e = index.each m (omega arith) in none_earlier p m e.0 is there below same e.1 e.2 (split e.0 at)))
+      let within : p < length all = subst (λ (n : ℕ). n < length all) is (index.are.within at lt) in
+      sym (least_is q all p within there (λ m below same. let e = index.are.each m (omega arith) in none_earlier p m e.0 is there below same e.1 e.2 (split e.0 at)))
 
   no_other : (m j : ℕ) → (at < length places → get_or all (get_or places at 0) nothing ≡ q → ⊥) → get_or all m nothing ≡ q → j < length places → get_or places j 0 ≡ m → ((j < at) ⊎ (at ≤ j)) → ⊥
   no_other m j other same lt here (inl earlier) = not_before m j here same earlier
@@ -74,109 +73,69 @@ module _ (q : List ℕ) (all : List (List ℕ)) (places : List ℕ) (at : ℕ) (
       other (omega arith) (same_commitment (get_or all (get_or places at 0) nothing) q (get_or places at 0) m (behind at (omega arith) (omega arith)) (up_to m j here same le lt))
 
   pub found_none : (at < length places → get_or all (get_or places at 0) nothing ≡ q → ⊥) → None ≡ least q all
-  found_none other = sym (least_none q all (λ m lt same. let e = index.each m lt in no_other m e.0 other same e.1 e.2 (split e.0 at)))
-
--- ---- a place more
-
--- where a place of the longer list was before, or that it is the new one
-data Stood (places : List ℕ) (at n : ℕ) (k p : ℕ) : Type 0 where
-  front : k < at → p ≡ get_or places k 0 → Stood places at n k p
-  here : k ≡ at → p ≡ n → Stood places at n k p
-  back : (j : ℕ) → k ≡ j + 1 → at ≤ j → p ≡ get_or places j 0 → Stood places at n k p
-
-stood_behind : (places : List ℕ) (at n k : ℕ) → at ≤ length places → at ≤ k → ((k ≡ at) ⊎ ((j : ℕ) × (k ≡ j + 1) × (at ≤ j))) → Stood places at n k (get_or (insert places at n) k 0)
-stood_behind places at n k fits le (inl is) = here is (ap (λ (i : ℕ). get_or (insert places at n) i 0) is ∙ get_or-insert_at places at n 0 fits)
-stood_behind places at n k fits le (inr e) = back e.0 e.1 e.2 (ap (λ (i : ℕ). get_or (insert places at n) i 0) e.1 ∙ get_or-insert_above places at n 0 e.0 e.2 fits)
-
-same_or_past : (at k : ℕ) → at ≤ k → ((k < at + 1) ⊎ (at + 1 ≤ k)) → (k ≡ at) ⊎ ((j : ℕ) × (k ≡ j + 1) × (at ≤ j))
-same_or_past at k le (inl lt) = inl (omega arith)
-same_or_past at k le (inr past) = inr (k - 1, omega arith, omega arith)
-
-stood_by : (places : List ℕ) (at n k : ℕ) → at ≤ length places → ((k < at) ⊎ (at ≤ k)) → Stood places at n k (get_or (insert places at n) k 0)
-stood_by places at n k fits (inl lt) = front lt (get_or-insert_below places at n 0 k lt fits)
-stood_by places at n k fits (inr le) = stood_behind places at n k fits le (same_or_past at k le (split k (at + 1)))
-
-stood : (places : List ℕ) (at n k : ℕ) → at ≤ length places → Stood places at n k (get_or (insert places at n) k 0)
-stood places at n k fits = stood_by places at n k fits (split k at)
-
-module _ (all : List (List ℕ)) (places : List ℕ) (at n : ℕ) (index : Indexes n places all) (fits : at ≤ length places)
-    (before : (j : ℕ) → j < at → is_lt (key_cmp (key_at all (get_or places j 0)) (key_at all n)) ≡ true)
-    (behind : (j : ℕ) → at ≤ j → j < length places → is_lt (key_cmp (key_at all (get_or places j 0)) (key_at all n)) ≡ false) where
-  many : length (insert places at n) ≡ n + 1
-  many = let more = length-insert places at n fits in omega (arith, more, index.count)
-
-  is_within : (k p : ℕ) → k < length (insert places at n) → Stood places at n k p → p < n + 1
-  is_within k p lt (front below is) = let old = index.within k (omega arith) in omega arith
-  is_within k p lt (here at_it is) = omega arith
-  is_within k p lt (back j next le is) = let old = index.within j (omega (arith, many, index.count)) in omega arith
-
-  there_by : (p j : ℕ) → j < length places → get_or places j 0 ≡ p → ((j < at) ⊎ (at ≤ j)) → (k : ℕ) × (k < length (insert places at n)) × (get_or (insert places at n) k 0 ≡ p)
-  there_by p j lt is (inl below) = (j, omega (arith, many, index.count), get_or-insert_below places at n 0 j below fits ∙ is)
-  there_by p j lt is (inr le) = (j + 1, omega (arith, many, index.count), get_or-insert_above places at n 0 j le fits ∙ is)
-
-  there : (p : ℕ) → ((p < n) ⊎ (n ≤ p)) → p < n + 1 → (k : ℕ) × (k < length (insert places at n)) × (get_or (insert places at n) k 0 ≡ p)
-  there p (inl old) lt = let e = index.each p old in there_by p e.0 e.1 e.2 (split e.0 at)
-  there p (inr new) lt = let same : n ≡ p = omega arith in (at, omega (arith, many, index.count), get_or-insert_at places at n 0 fits ∙ same)
-
-  abbrev In : ℕ → ℕ → Type 0
-  In p r = is_gt (key_cmp (key_at all p) (key_at all r)) ≡ false
-
-  pair : (p r p' r' : ℕ) → p ≡ p' → r ≡ r' → In p' r' → In p r
-  pair p r p' r' a b h = subst (λ (x : ℕ). In x r) (sym a) (subst (λ (y : ℕ). In p' y) (sym b) h)
-
-  rise : (i k p r : ℕ) → i ≤ k → k < length (insert places at n) → Stood places at n i p → Stood places at n k r → In p r
-  rise i k p r le lt (front below is) (front below' is') = pair p r (get_or places i 0) (get_or places k 0) is is' (index.rises i k le (omega arith))
-  rise i k p r le lt (front below is) (here at_it is') = pair p r (get_or places i 0) n is is' (not_gt (key_cmp (key_at all (get_or places i 0)) (key_at all n)) (before i below))
-  rise i k p r le lt (front below is) (back j next past is') = pair p r (get_or places i 0) (get_or places j 0) is is' (index.rises i j (omega arith) (omega (arith, many, index.count)))
-  rise i k p r le lt (here at_it is) (front below' is') = absurd (omega arith)
-  rise i k p r le lt (here at_it is) (here at_it' is') = pair p r n n is is' (itself (key_at all n))
-  rise i k p r le lt (here at_it is) (back j next past is') =
-      pair p r n (get_or places j 0) is is' (sym (lt_is_gt (key_at all (get_or places j 0)) (key_at all n)) ∙ behind j past (omega (arith, many, index.count)))
-  rise i k p r le lt (back j next past is) (front below' is') = absurd (omega arith)
-  rise i k p r le lt (back j next past is) (here at_it is') = absurd (omega arith)
-  rise i k p r le lt (back j next past is) (back j' next' past' is') = pair p r (get_or places j 0) (get_or places j' 0) is is' (index.rises j j' (omega arith) (omega (arith, many, index.count)))
-
-  pub inserted : Indexes (n + 1) (insert places at n) all
-  inserted = record {
-    count = many;
-    within = λ k lt. is_within k (get_or (insert places at n) k 0) lt (stood places at n k fits);
-    each = λ p lt. there p (split p n) lt;
-    rises = λ i k le lt. rise i k (get_or (insert places at n) i 0) (get_or (insert places at n) k 0) le lt (stood places at n i fits) (stood places at n k fits);
-  }
+  found_none other = sym (least_none q all (λ m lt same. let e = index.are.each m lt in no_other m e.0 other same e.1 e.2 (split e.0 at)))
 
 -- ---- more commitments behind those that are indexed
 
 pub longer : (n : ℕ) (places : List ℕ) (all more : List (List ℕ)) → n ≤ length all → Indexes n places all → Indexes n places (all ++ more)
 longer n places all more le index = record {
-  count = index.count;
-  within = index.within;
-  each = index.each;
+  are = index.are;
   rises = λ i j up lt.
-      subst (λ (k : List ℕ × ℕ). is_gt (key_cmp k (key_at (all ++ more) (get_or places j 0))) ≡ false) (sym (stays (get_or places i 0) (index.within i (omega arith))))
-      (subst (λ (k : List ℕ × ℕ). is_gt (key_cmp (key_at all (get_or places i 0)) k) ≡ false) (sym (stays (get_or places j 0) (index.within j lt))) (index.rises i j up lt));
+      subst (λ (k : List ℕ × ℕ). is_gt (key_cmp k (key_at (all ++ more) (get_or places j 0))) ≡ false) (sym (stays (get_or places i 0) (index.are.within i (omega arith))))
+      (subst (λ (k : List ℕ × ℕ). is_gt (key_cmp (key_at all (get_or places i 0)) k) ≡ false) (sym (stays (get_or places j 0) (index.are.within j lt))) (index.rises i j up lt));
 }
   where
     stays : (p : ℕ) → p < n → key_at (all ++ more) p ≡ key_at all p
     stays p lt = ap (λ (c : List ℕ). (c, p)) (get_or_append_left all more nothing p (omega arith))
 
+-- ---- places that are moved
+
+module _ (n : ℕ) (places rest : List ℕ) (are : Are n places) (moved : IsPermutation places rest) where
+  within_any : (k d : ℕ) → k < length places → get_or places k d < n
+  within_any k d below = subst (λ (p : ℕ). p < n) (sym (get_or_default_zero places k d below)) (are.within k below)
+
+  there : (p : ℕ) → ((j : ℕ) × (j < length places) × (get_or places j 0 ≡ p)) → (j : ℕ) × (j < length rest) × (get_or rest j 0 ≡ p)
+  there p e =
+      let found = Contains-permutation places rest p moved (e.0, e.1, get_or_default_zero places e.0 p e.1 ∙ e.2) in
+      (found.0, found.1, sym (get_or_default_zero rest found.0 p found.1) ∙ found.2)
+
+  pub are_moved : Are n rest
+  are_moved = record {
+    count = length_permutation places rest moved ∙ are.count;
+    within = λ j lt. All-permutation (λ p. p < n) places rest moved within_any j 0 lt;
+    each = λ p lt. there p (are.each p lt);
+  }
+
+pub are_more : (n : ℕ) (places : List ℕ) → Are n places → Are (n + 1) (places ++ n ∷ [])
+are_more n places are = record {
+  count = length-append places (n ∷ []) ∙ omega (arith, are.count);
+  within = λ j lt. more_within j (omega (arith, length-append places (n ∷ []))) (split j n);
+  each = λ p lt. more_each p (split p n) lt;
+}
+  where
+    last : get_or (places ++ n ∷ []) n 0 ≡ n
+    last = ap (λ (i : ℕ). get_or (places ++ n ∷ []) i 0) (sym are.count) ∙ get_or-append_seam places n [] 0
+
+    more_within : (j : ℕ) → j < n + 1 → ((j < n) ⊎ (n ≤ j)) → get_or (places ++ n ∷ []) j 0 < n + 1
+    more_within j lt (inl old) = let here = get_or_append_left places (n ∷ []) 0 j (omega (arith, are.count)) in let below = are.within j (omega (arith, are.count)) in omega arith
+    more_within j lt (inr new) = let same : j ≡ n = omega arith in let here = ap (λ (i : ℕ). get_or (places ++ n ∷ []) i 0) same ∙ last in omega arith
+
+    more_each : (p : ℕ) → ((p < n) ⊎ (n ≤ p)) → p < n + 1 → (j : ℕ) × (j < length (places ++ n ∷ [])) × (get_or (places ++ n ∷ []) j 0 ≡ p)
+    more_each p (inl old) lt = let e = are.each p old in (e.0, omega (arith, length-append places (n ∷ []), e.1), get_or_append_left places (n ∷ []) 0 e.0 e.1 ∙ e.2)
+    more_each p (inr new) lt = let same : n ≡ p = omega arith in (n, omega (arith, length-append places (n ∷ []), are.count), last ∙ same)
+
+pub in_turn_are : (n : ℕ) (places : List ℕ) → length places ≡ n → ((j : ℕ) → j < n → get_or places j 0 ≡ j) → Are n places
+in_turn_are n places count each = record {
+  count = count;
+  within = λ j lt. let is = each j (omega arith) in omega arith;
+  each = λ p lt. (p, omega arith, each p lt);
+}
+
 -- ---- all places, sorted
 
 pub sorted : (n : ℕ) (places rest : List ℕ) (all : List (List ℕ)) → length places ≡ n → ((j : ℕ) → j < n → get_or places j 0 ≡ j) → IsPermutation places rest
     → ((i j : ℕ) (d : ℕ) → i ≤ j → j < length rest → is_lt (key_cmp (key_at all (get_or rest j d)) (key_at all (get_or rest i d))) ≡ false) → Indexes n rest all
-sorted n places rest all count each moved up =
-    let same = length_permutation places rest moved in
-    record {
-      count = same ∙ count;
-      within = λ j lt. All-permutation (λ p. p < n) places rest moved (λ k d below. in_turn k d below) j 0 lt;
-      each = λ p lt. let e = Contains-permutation places rest p moved (p, (omega arith), at_default p lt) in (e.0, e.1, zero_default e.0 p e.1 ∙ e.2);
-      rises = λ i j le lt. sym (lt_is_gt (key_at all (get_or rest j 0)) (key_at all (get_or rest i 0))) ∙ up i j 0 le lt;
-    }
-  where
-    in_turn : (k d : ℕ) → k < length places → get_or places k d < n
-    in_turn k d below = let is : get_or places k d ≡ k = get_or_default_zero places k d below ∙ each k (omega arith) in omega arith
-
-    at_default : (p : ℕ) → p < n → get_or places p p ≡ p
-    at_default p lt = get_or_default_zero places p p (omega arith) ∙ each p lt
-
-    zero_default : (k p : ℕ) → k < length rest → get_or rest k 0 ≡ get_or rest k p
-    zero_default k p lt = sym (get_or_default_zero rest k p lt)
+sorted n places rest all count each moved up = record {
+  are = are_moved n places rest (in_turn_are n places count each) moved;
+  rises = λ i j le lt. sym (lt_is_gt (key_at all (get_or rest j 0)) (key_at all (get_or rest i 0))) ∙ up i j 0 le lt;
+}

@@ -1,8 +1,9 @@
 //! The commitments in order, each as the place at which it stands.
-ghost use Rattle.std.specs.Prelude.{◌≡◌, ◌≤◌, ◌<◌, ◌+◌, ◌^◌, ℕ, length, true, false, vec_len, vec_capacity, IfOk, OnOk, OnErr, slice_index, slice_index_or};
+ghost use Rattle.std.specs.Prelude.{◌≡◌, ◌≤◌, ◌<◌, ◌+◌, ◌-◌, ◌^◌, ℕ, length, true, false, vec_len, vec_capacity, IfOk, OnOk, OnErr, slice_index, slice_index_or};
+ghost use Rattle.std.specs.List.Sorted.{IsPermutation};
 ghost use Rattle.std.specs.Ordering.{is_lt, is_gt};
 ghost use Rattle.ots_store.specs.Index.{least};
-ghost use Rattle.ots_store.specs.Places.{Indexes, IsWithin, Rises, key_at, key_cmp, nothing};
+ghost use Rattle.ots_store.specs.Places.{Indexes, Are, IsParted, Exchanged, IsWithin, Rises, key_at, key_cmp, nothing};
 
 use ots_base::OutOfMemory;
 use std::alloc::Global;
@@ -60,21 +61,14 @@ impl Index {
         ensures indexes { Indexes (length all.now) self.new.places.items all.now }
         ensures capacity { vec_capacity self.old.places ≤ vec_capacity self.new.places }
     {
-        for place in self.places.len()..all.len() {
-            self.add(all, place as u32);
+        let indexed = self.places.len();
+        for place in indexed..all.len() {
+            // There is room.
+            let _ = self.places.push(place as u32);
         }
-    }
-
-    fn add(&mut self, all: &[[u8; 44]], place: u32)
-        requires there { place < length all.now }
-        requires room { place < vec_capacity self.old.places }
-        requires indexes { Indexes place self.old.places.items all.now }
-        ensures indexes { Indexes (place + 1) self.new.places.items all.now }
-        ensures capacity { vec_capacity self.old.places ≤ vec_capacity self.new.places }
-    {
-        let at = first_from(&self.places, all, &all[place as usize], place);
-        // There is room.
-        let _ = self.places.insert(at, place);
+        let places = self.places.as_mut_slice();
+        sort_behind(places, all, indexed);
+        merge(places, all, indexed);
     }
 }
 
@@ -89,6 +83,60 @@ fn in_turn(alloc: Global, count: usize) -> Result<Vec<u32>, OutOfMemory>
         places.push(place as u32)?;
     }
     Ok(places)
+}
+
+// Sorts the places from one on.
+fn sort_behind(places: &mut [u32], all: &[[u8; 44]], from: usize)
+    requires { from ≤ length places.old }
+    ensures moves { IsPermutation places.old places.new }
+    ensures front { (i : ℕ) → i < from → slice_index places.new i ≡ slice_index places.old i }
+    ensures behind { (i j : ℕ) → from ≤ i → i ≤ j → j < length places.old → is_gt (key_cmp (key_at all.now (slice_index places.new i)) (key_at all.now (slice_index places.new j))) ≡ false }
+{
+    places[from..].sort_unstable_by(|a, b| order(all, *a, *b));
+}
+
+// Merges the places from one on with those before it.
+fn merge(places: &mut [u32], all: &[[u8; 44]], from: usize)
+    requires from { from ≤ length places.old }
+    requires are { Are (length places.old) places.old }
+    requires few { length places.old ≤ length all.now }
+    requires parted { IsParted from (length places.old - from) places.old all.now }
+    ensures { Indexes (length places.old) places.new all.now }
+{
+    let mut high = from;
+    let mut left = places.len() - from;
+    while left > 0 {
+        high = sink(places, all, high, left);
+        left -= 1;
+    }
+}
+
+// Moves the last of `left` places from `high` on to where it stands among those before `high`, with
+// all of these that it is not behind. It answers where it went.
+fn sink(places: &mut [u32], all: &[[u8; 44]], high: usize, left: usize) -> usize
+    requires some { 0 < left }
+    requires there { high + left ≤ length places.old }
+    requires within { IsWithin (length all.now) places.old }
+    requires parted { IsParted high left places.old all.now }
+    ensures moves { IsPermutation places.old places.new }
+    ensures bound { result ≤ high }
+    ensures parted { IsParted result (left - 1) places.new all.now }
+{
+    let place = places[high + left - 1];
+    let at = first_from(&places[..high], all, &all[place as usize], place);
+    exchange(places, at, high, high + left);
+    at
+}
+
+// Exchanges what stands from `low` up to `middle` and from there up to `high`.
+fn exchange(places: &mut [u32], low: usize, middle: usize, high: usize)
+    requires low { low ≤ middle }
+    requires middle { middle ≤ high }
+    requires high { high ≤ length places.old }
+    ensures moves { IsPermutation places.old places.new }
+    ensures are { Exchanged low middle high places.old places.new }
+{
+    places[low..high].rotate_left(middle - low);
 }
 
 // Where the first place stands that is not before this one of a commitment.

@@ -17,7 +17,7 @@ returns-then-eq c =
     let here = c.deref.ensures.value in
     let lt : at < length places = omega (arith, c.len.ensures, c.if-at-len.true) in
     let is : get_or places at 0 ≡ p = sym (c.index-place.ensures ∙ get_or_default_zero places at p lt) in
-    let within : p < length all = subst (λ (n : ℕ). n < length all) is (c.requires.within at lt) in
+    let within : p < length all = subst (λ (n : ℕ). n < length all) is (c.requires.are.within at lt) in
     found q all places at c.requires
     (subst (λ (l : List ℕ). (j : ℕ) → j < at → is_lt (key_cmp (key_at all (get_or l j 0)) (q, 0)) ≡ true) here c.first_from-at.ensures.before)
     (subst (λ (l : List ℕ). (j : ℕ) → at ≤ j → j < length l → is_lt (key_cmp (key_at all (get_or l j 0)) (q, 0)) ≡ false) here c.first_from-at.ensures.behind)
@@ -33,7 +33,7 @@ returns-else-eq c =
     let here = c.deref.ensures.value in
     let lt : at < length places = omega (arith, c.len.ensures, c.if-at-len.true) in
     let is : get_or places at 0 ≡ p = sym (c.index-place.ensures ∙ get_or_default_zero places at p lt) in
-    let within : p < length all = subst (λ (n : ℕ). n < length all) is (c.requires.within at lt) in
+    let within : p < length all = subst (λ (n : ℕ). n < length all) is (c.requires.are.within at lt) in
     found_none q all places at c.requires
     (subst (λ (l : List ℕ). (j : ℕ) → j < at → is_lt (key_cmp (key_at all (get_or l j 0)) (q, 0)) ≡ true) here c.first_from-at.ensures.before)
     (subst (λ (l : List ℕ). (j : ℕ) → at ≤ j → j < length l → is_lt (key_cmp (key_at all (get_or l j 0)) (q, 0)) ≡ false) here c.first_from-at.ensures.behind)
