@@ -95,7 +95,8 @@ fn sort_behind(places: &mut [u32], all: &[[u8; 44]], from: usize)
     places[from..].sort_unstable_by(|a, b| order(all, *a, *b));
 }
 
-// Merges the places from one on with those before it.
+// Merges the places from one on with those before it, the last of them first: so each of the others
+// is moved once, whatever their number.
 fn merge(places: &mut [u32], all: &[[u8; 44]], from: usize)
     requires from { from ≤ length places.old }
     requires are { Are (length places.old) places.old }
@@ -111,8 +112,8 @@ fn merge(places: &mut [u32], all: &[[u8; 44]], from: usize)
     }
 }
 
-// Moves the last of `left` places from `high` on to where it stands among those before `high`, with
-// all of these that it is not behind. It answers where it went.
+// Moves the `left` places from `high` on in front of those before them that are behind the last one,
+// which then stands where it belongs. It answers where they begin.
 fn sink(places: &mut [u32], all: &[[u8; 44]], high: usize, left: usize) -> usize
     requires some { 0 < left }
     requires there { high + left ≤ length places.old }
