@@ -1,7 +1,7 @@
 -- What a store keeps where a group is added.
-use Rattle.std.proofs.Common.{◌≡◌, inl, inr, ℕ, ◌+◌, Bool, true, false, List, [], ◌∷◌, ◌++◌, length, refl, sym, ◌∙◌, ap, subst, arith, length-append}
+use Rattle.std.proofs.Common.{◌≡◌, ◌<◌, ◌≤◌, ◌^◌, inl, inr, ℕ, ◌+◌, Bool, true, false, List, [], ◌∷◌, ◌++◌, length, refl, sym, ◌∙◌, ap, subst, arith, length-append}
 use Rattle.std.proofs.lemmas.List.{append-nil, map-append}
-use Rattle.std.specs.Prelude.{Option, Result, Ok, Err}
+use Rattle.std.specs.Prelude.{Option, Result, Ok, Err, OnOk}
 use Rattle.std.specs.List.{flat_map}
 use Rattle.ots_disk.specs.Disk.{LeavesOnly}
 use Rattle.ots_disk.specs.Moments.{weaker}
@@ -16,6 +16,7 @@ use Rattle.ots_store.specs.Records.{Record, CommitRecord, TipRecord, AnchorRecor
 use Rattle.ots_store.specs.Store.{InRecords, StandsForRecords, Keeps, Added, AddOutcome, Settles}
 use Rattle.ots_store.proofs.Formed.{steps_long}
 use Rattle.ots_store.proofs.Ordered.{records_append}
+use Rattle.ots_store.proofs.Storing.{held_few}
 
 pub either_readable : (entries group : List Entry) → InRecords entries → InRecords (entries ++ group) → (c : List ℕ) → StandsForEither entries group c → StandsForRecords c
 either_readable entries group are more c (inl stands) = record { entries = entries; stands = stands; records = are }
@@ -85,6 +86,12 @@ module _ {D : Type 0} (clock : D → ℕ) (since : D → ℕ → List ℕ → Ty
       }
   settled_keeps (Err (Full need limit)) result puts settles = forgotten puts.outcome.0 settles.1
   settled_keeps (Err OutOfMemory) result puts settles = forgotten puts.outcome settles.1
+
+-- an append that answered Ok leaves so many commitments in memory
+pub settles_few : {D : Type 0} (clock : D → ℕ) (since : D → ℕ → List ℕ → Type 0) (old new : JournalTold D) (group : List Entry) (staged : HeldTold) (outcome : Result ℕ AppendError) → Puts clock since old new group outcome
+    → Holds (records_of old.entries) (records_of group) staged → length new.entries < 2 ^ 32 → OnOk outcome (length (staged.commitments.kept ++ staged.commitments.flight) ≤ 2 ^ 32)
+settles_few clock since old new group staged (Ok first) puts holds few = let held = held_few old.entries group staged holds in omega (arith, held, ap length puts.outcome.entries, few)
+settles_few clock since old new group staged (Err why) puts holds few = tt
 
 -- the record of an entry is of a size that the journal takes
 sizes : (r : Record) → HasForm r → FitsEntry (entry_of r)

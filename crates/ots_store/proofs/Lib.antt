@@ -2,10 +2,12 @@ pub mod Adding
 pub mod Bad
 pub mod Formed
 pub mod Holding
-pub mod Least
+pub mod Keys
+pub mod Merged
 pub mod Numbers
 pub mod Opened
 pub mod Ordered
+pub mod Placed
 pub mod Ranged
 pub mod Recorded
 pub mod Spellings

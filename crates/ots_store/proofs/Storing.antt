@@ -75,6 +75,23 @@ pub taken_in : {D : Type 0} (bytes : D → Option (List ℕ)) (old new : Journal
     → ((kept flight : List Record) → Holds kept flight held → Holds (kept ++ flight) [] held') → Keeps new held'
 taken_in bytes old new held held' k r more kept = taken bytes old new held held' old.is_sure refl k r more kept
 
+-- so many commitments are in memory
+pub held_few : (entries group : List Entry) (held : HeldTold) → Holds (records_of entries) (records_of group) held → length (held.commitments.kept ++ held.commitments.flight) ≤ length (entries ++ group)
+held_few entries group held h =
+    omega (arith, length-append held.commitments.kept held.commitments.flight, ap length h.commitments, ap length h.commitments_flight, entries_few entries, entries_few group, length-append entries group)
+
+taken_few : {D : Type 0} (bytes : D → Option (List ℕ)) (old new : JournalTold D) (held : HeldTold) (b : Bool) → old.is_sure ≡ b → Keeps old held → Refreshed bytes old new → (length new.entries ≡ length old.entries → ⊥)
+    → length (held.commitments.kept ++ held.commitments.flight) ≤ length new.entries
+taken_few bytes old new held true is k r more = absurd (more (ap (λ (j : JournalTold _). length j.entries) (r.already is)))
+taken_few bytes old new held false is k r more = elim (r.decided is) [
+  | inl same ↦ absurd (more (ap length same.0))
+  | inr all ↦ let few = held_few old.entries old.flight held (subst (λ (l : List Record). Holds (records_of old.entries) l held) (k.flying is).1 k.holds) in omega (arith, few, ap length all.0)
+]
+
+pub taken_in_few : {D : Type 0} (bytes : D → Option (List ℕ)) (old new : JournalTold D) (held : HeldTold) → Keeps old held → Refreshed bytes old new → (length new.entries ≡ length old.entries → ⊥)
+    → length (held.commitments.kept ++ held.commitments.flight) ≤ length new.entries
+taken_in_few bytes old new held k r more = taken_few bytes old new held old.is_sure refl k r more
+
 -- or it is not
 no_more : (xs ys : List Entry) → length (xs ++ ys) ≡ length xs → xs ++ ys ≡ xs
 no_more xs ys same = ap (λ (l : List Entry). xs ++ l) (nil_from_length ys (omega (arith, length-append xs ys))) ∙ append-nil xs

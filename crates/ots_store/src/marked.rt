@@ -42,12 +42,12 @@ impl<T: Drop> Marked<T> {
         &self.items.as_slice()[..self.kept]
     }
 
-    /// How many items there are, those in flight among them.
-    pub fn len(&self) -> usize
-        ensures count { result ≡ length (self.now.kept ++ self.now.flight) }
+    /// How many items are in flight.
+    pub fn in_flight(&self) -> usize
+        ensures count { result ≡ length self.now.flight }
         ensures bound { result < 2 ^ 63 }
     {
-        self.items.len()
+        self.items.len() - self.kept
     }
 
     /// Adds an item in flight.
@@ -58,18 +58,6 @@ impl<T: Drop> Marked<T> {
     {
         self.items.push(item)?;
         Ok(())
-    }
-
-    /// Takes the last item in flight away.
-    pub fn pop(&mut self) -> Option<T>
-        ensures kept { self.new.kept ≡ self.old.kept }
-        ensures flight { MatchOption result ((self.old.flight ≡ []) × (self.new.flight ≡ [])) (λ item. self.old.flight ≡ self.new.flight ++ item ∷ []) }
-    {
-        if self.items.len() > self.kept {
-            self.items.pop()
-        } else {
-            None
-        }
     }
 
     /// Acknowledges all.

@@ -9,6 +9,7 @@ ghost use Rattle.ots_store.specs.Opening.{IfBad, HeldTo, HeldNext, FollowTo};
 
 use crate::form::form_of;
 use crate::held::Held;
+use crate::lists::Lists;
 use crate::progress::{Progress, may_follow};
 use crate::{StoreError, Tip};
 use ots_base::OutOfMemory;
@@ -22,7 +23,7 @@ pub fn hold_records<D: Disk>(alloc: Global, journal: &Journal<D>) -> Result<Held
     ensures are { OnOk result (AreRecords [] journal.now.entries) }
     ensures bad { IfErr result (λ e. IfBad e (FirstBad [] journal.now.entries)) }
 {
-    let mut held = Held::new(alloc);
+    let mut lists = Lists::new(alloc);
     let mut progress = Progress {
         commits: 0,
         covered: 0,
@@ -31,34 +32,34 @@ pub fn hold_records<D: Disk>(alloc: Global, journal: &Journal<D>) -> Result<Held
     };
     for i in 0..journal.count() {
         let (kind, payload) = journal.entry(i);
-        if !hold_next(&mut held, &mut progress, kind, payload)? {
+        if !hold_next(&mut lists, &mut progress, kind, payload)? {
             return Err(StoreError::BadRecord(i));
         }
     }
-    Ok(held)
+    Ok(Held::of(alloc, lists)?)
 }
 
 // Holds one entry more, where it spells a record that may follow.
 fn hold_next(
-    held: &mut Held,
+    lists: &mut Lists,
     progress: &mut Progress,
     kind: u8,
     payload: &[u8],
 ) -> Result<bool, OutOfMemory>
-    requires passed { Passed held.old.tips.kept [] progress.old }
+    requires passed { Passed lists.old.tips.kept [] progress.old }
     requires few { progress.old.commits < 2 ^ 63 }
     ensures few { progress.new.commits ≤ progress.old.commits + 1 }
-    ensures yes { IfOk result (λ follows. follows ≡ true → (before : List Record) → HeldTo before held.old progress.old → HeldNext before (record { kind = kind; payload = payload.now }) held.new progress.new) }
-    ensures no { IfOk result (λ follows. follows ≡ false → (before : List Record) → HeldTo before held.old progress.old → IsRecord (record { kind = kind; payload = payload.now }) → Follows before (record_of (record { kind = kind; payload = payload.now })) → ⊥) }
+    ensures yes { IfOk result (λ follows. follows ≡ true → (before : List Record) → HeldTo before lists.old progress.old → HeldNext before (record { kind = kind; payload = payload.now }) lists.new progress.new) }
+    ensures no { IfOk result (λ follows. follows ≡ false → (before : List Record) → HeldTo before lists.old progress.old → IsRecord (record { kind = kind; payload = payload.now }) → Follows before (record_of (record { kind = kind; payload = payload.now })) → ⊥) }
 {
     let Some(form) = form_of(kind, payload) else {
         return Ok(false);
     };
-    if !may_follow(&form, held.tips(), &[], progress) {
+    if !may_follow(&form, lists.tips(), &[], progress) {
         return Ok(false);
     }
-    held.stage(kind, payload)?;
-    held.keep();
+    lists.stage(kind, payload)?;
+    lists.keep();
     Ok(true)
 }
 

@@ -308,6 +308,7 @@ impl<D: Disk> Store<D> {
         match stage_entries(&mut self.held, entries) {
             Ok(()) => {
                 let outcome = self.journal.append_group(entries);
+                let _ = self.journal.count();
                 settle(&mut self.held, outcome)
             }
             Err(_) => {
@@ -331,6 +332,7 @@ impl<D: Disk> Store<D> {
         match self.held.stage(kind, payload) {
             Ok(()) => {
                 let outcome = self.journal.append(kind, payload);
+                let _ = self.journal.count();
                 settle(&mut self.held, outcome)
             }
             Err(_) => self.no_memory(),
@@ -351,6 +353,7 @@ impl<D: Disk> Store<D> {
 
 // What an append leaves in memory, by its answer.
 fn settle(held: &mut Held, outcome: Result<u64, AppendError>) -> Result<(), AppendError>
+    requires few { OnOk outcome (length (held.old.commitments.kept ++ held.old.commitments.flight) ≤ 2 ^ 32) }
     ensures { Settles outcome result held.old held.new }
 {
     match outcome {

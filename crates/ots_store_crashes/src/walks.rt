@@ -1,5 +1,5 @@
 // The index and the ranges beside a walk over the list, on random runs.
-use crate::steps::{Memory, add_anchor, add_tip, new_store};
+use crate::steps::{Memory, add, add_anchor, add_tip, new_store, opened};
 use std::alloc::Global;
 use std::test::Fail;
 
@@ -23,8 +23,9 @@ fn range(ranges: &[(u64, u64, u64)], i: u64) -> u64 {
     0
 }
 
-fn same_indexes(store: &Memory) -> bool {
-    for value in 0..12u8 {
+// The commitments up to a value, one that is not there among them.
+fn same_indexes(store: &Memory, last: u8) -> bool {
+    for value in 0..=last {
         let commitment = [value; 44];
         if store.index_of(&commitment) != walk(store, &commitment) {
             return false;
@@ -96,7 +97,7 @@ fn run(alloc: Global, seed: u64) -> Result<bool, Fail> {
             .wrapping_mul(6364136223846793005)
             .wrapping_add(1442695040888963407);
         step(alloc, &mut store, &mut ranges, state >> 33, height)?;
-        if !same_indexes(&store) || !same_ranges(&store, &ranges) {
+        if !same_indexes(&store, 11) || !same_ranges(&store, &ranges) {
             return Ok(false);
         }
     }
@@ -108,5 +109,33 @@ fn the_index_and_the_ranges_answer_as_a_walk(rt: HostRuntime) -> Result<(), Fail
     for seed in 1..6 {
         assert!(rt; run(rt.alloc(), seed)?);
     }
+    Ok(())
+}
+
+// 60 commitments, the value of each a step behind the one before, modulo one more than the last.
+// They are compared as they were added and as a store that is opened has them.
+fn stepping(alloc: Global, start: u64, step: u8, last: u8) -> Result<bool, Fail> {
+    let mut store = new_store(alloc, &[])?;
+    let mut value = start;
+    for i in 0..60 {
+        value = (value % 256 + u64::from(step)) % (u64::from(last) + 1);
+        if add(&mut store, value as u8) != i {
+            return Ok(false);
+        }
+    }
+    let live = same_indexes(&store, 255);
+    let again = opened(alloc, store.into_disk())?;
+    Ok(live && again.commits() == 60 && same_indexes(&again, 255))
+}
+
+#[test]
+fn commitments_in_any_order_are_found_as_by_a_walk(rt: HostRuntime) -> Result<(), Fail> {
+    let alloc = rt.alloc();
+    // Rising, falling, shuffled, and repeated in falling and in shuffled order.
+    assert!(rt; stepping(alloc, 0, 1, 255)?);
+    assert!(rt; stepping(alloc, 255, 253, 254)?);
+    assert!(rt; stepping(alloc, 3, 97, 250)?);
+    assert!(rt; stepping(alloc, 0, 12, 12)?);
+    assert!(rt; stepping(alloc, 0, 7, 22)?);
     Ok(())
 }

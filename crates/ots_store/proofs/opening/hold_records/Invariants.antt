@@ -8,6 +8,6 @@ use Rattle.ots_store.proofs.opening.hold_records.Given as goal
 abbrev pub invariant-loop-i : goal.invariant-loop-i
 invariant-loop-i g l = record {
   each : AllByRecursion IsRecord (take l.i l.journal.entries);
-  held : HeldTo (records_of (take l.i l.journal.entries)) l.held l.progress;
+  held : HeldTo (records_of (take l.i l.journal.entries)) l.lists l.progress;
   few : l.progress.commits ≤ l.i;
 }

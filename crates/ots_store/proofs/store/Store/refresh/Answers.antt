@@ -1,7 +1,13 @@
-use Rattle.std.proofs.Common.{sym, ◌∙◌, ◌≡◌, true, false}
-use Rattle.ots_store.proofs.Storing.{taken_in}
+use Rattle.std.proofs.Common.{sym, ◌∙◌, ◌≡◌, true, false, arith}
+use Rattle.ots_store.proofs.Storing.{taken_in, taken_in_few}
 use Rattle.ots_store.proofs.Adding.{refresh_readable, nothing_flies}
 use Rattle.ots_store.proofs.store.Store.refresh.Goals as goal
+
+pub keep-requires : goal.keep-requires
+keep-requires g c =
+    let few = taken_in_few g.D.Disk.bytes c.self.inside.journal c.refresh.new.self c.self.inside.held c.self.invariant c.in_ok-refresh.ensures.ok
+    (λ same. c.if-count-before.false (c.count.ensures.count ∙ same ∙ sym c.count-before.ensures.count)) in
+    record { few = omega (arith, few, c.count.ensures.count, c.count.ensures.bound) }
 
 pub invariant_of-self-else-count-before : goal.invariant_of-self-else-count-before
 invariant_of-self-else-count-before g c =

@@ -3,7 +3,7 @@ use Rattle.ots_store.specs.Held.{HeldTold}
 use Rattle.ots_store.specs.Order.{anchor_end, covered_by}
 use Rattle.ots_store.specs.Ranges.{RisesFrom}
 use Rattle.ots_store.proofs.Ranged.{covered_is_last, some_there}
-use Rattle.ots_store.proofs.held.Held.covered.Goals as goal
+use Rattle.ots_store.proofs.lists.Lists.covered.Goals as goal
 
 pub overflow_add-result : goal.overflow_add-result
 overflow_add-result c =

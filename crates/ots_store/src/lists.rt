@@ -1,0 +1,163 @@
+//! The records in memory, a list of each kind.
+ghost use Rattle.std.specs.Prelude.{◌≡◌, ◌≤◌, ◌+◌, ◌^◌, ◌<◌, ◌++◌, ◌∷◌, [], List, length, OnOk, OnErr};
+ghost use Rattle.ots_store.specs.Records.{Record, tip_at, anchor_at, record_of, IsRecord};
+ghost use Rattle.ots_store.specs.Forms.{IsAnchor};
+ghost use Rattle.ots_store.specs.Order.{covered_by};
+ghost use Rattle.ots_store.specs.Ranges.{RisesFrom};
+ghost use Rattle.ots_store.specs.Held.{Holds};
+
+use crate::form::{COMMIT, TIP};
+use crate::marked::Marked;
+use crate::reading::{read_anchor, read_tip};
+use crate::{Anchor, Tip};
+use ots_base::OutOfMemory;
+use std::alloc::Global;
+use std::marker::Model;
+
+/// The records of a store by kind, those in flight behind the acknowledged ones.
+#[derive(Drop)]
+pub struct Lists {
+    alloc: Global,
+    commitments: Marked<[u8; 44]>,
+    tips: Marked<Tip>,
+    anchors: Marked<Anchor>,
+}
+
+impl Model for Lists {
+    ghost use Rattle.ots_store.specs.Held.{HeldTold};
+
+    ghost Value = { HeldTold };
+
+    ghost view = { λ h. record { commitments = h.commitments; tips = h.tips; anchors = h.anchors } };
+}
+
+impl Lists {
+    /// No record.
+    pub fn new(alloc: Global) -> Lists
+        ensures { Holds [] [] result }
+    {
+        Lists {
+            alloc,
+            commitments: Marked::new(alloc),
+            tips: Marked::new(alloc),
+            anchors: Marked::new(alloc),
+        }
+    }
+
+    /// The acknowledged commitments.
+    pub fn commitments(&self) -> &[[u8; 44]]
+        ensures { result.now ≡ self.now.commitments.kept }
+    {
+        self.commitments.kept()
+    }
+
+    /// The acknowledged tips.
+    pub fn tips(&self) -> &[Tip]
+        ensures { result.now ≡ self.now.tips.kept }
+    {
+        self.tips.kept()
+    }
+
+    /// The acknowledged anchors.
+    pub fn anchors(&self) -> &[Anchor]
+        ensures { result.now ≡ self.now.anchors.kept }
+    {
+        self.anchors.kept()
+    }
+
+    /// How many of the commitments anchors cover.
+    pub fn covered(&self) -> u64
+        requires rises { RisesFrom 0 self.now.anchors.kept }
+        requires small { covered_by self.now.anchors.kept < 2 ^ 64 }
+        ensures { result ≡ covered_by self.now.anchors.kept }
+    {
+        let anchors = self.anchors.kept();
+        if anchors.is_empty() {
+            return 0;
+        }
+        let last = &anchors[anchors.len() - 1];
+        last.first + last.count
+    }
+
+    /// How many commitments are in flight.
+    pub fn commitments_in_flight(&self) -> usize
+        ensures count { result ≡ length self.now.commitments.flight }
+        ensures bound { result < 2 ^ 63 }
+    {
+        self.commitments.in_flight()
+    }
+
+    /// Puts a record in flight behind those that are.
+    pub fn stage(&mut self, kind: u8, payload: &[u8]) -> Result<(), OutOfMemory>
+        requires { IsRecord (record { kind = kind; payload = payload.now }) }
+        ensures ok { OnOk result ((kept flight : List Record) → Holds kept flight self.old → Holds kept (flight ++ record_of (record { kind = kind; payload = payload.now }) ∷ []) self.new) }
+        ensures err { OnErr result ((kept flight : List Record) → Holds kept flight self.old → Holds kept flight self.new) }
+        ensures kept { self.new.commitments.kept ≡ self.old.commitments.kept }
+        ensures one { length self.new.commitments.flight ≤ length self.old.commitments.flight + 1 }
+    {
+        if kind == COMMIT {
+            return self.stage_commitment(payload);
+        }
+        if kind == TIP {
+            return self.stage_tip(payload);
+        }
+        self.stage_anchor(payload)
+    }
+
+    fn stage_commitment(&mut self, payload: &[u8]) -> Result<(), OutOfMemory>
+        requires { length payload.now ≡ 44 }
+        ensures ok { OnOk result (self.new.commitments ≡ record { kept = self.old.commitments.kept; flight = self.old.commitments.flight ++ payload.now ∷ [] }) }
+        ensures err { OnErr result (self.new.commitments ≡ self.old.commitments) }
+        ensures kept { self.new.commitments.kept ≡ self.old.commitments.kept }
+        ensures one { length self.new.commitments.flight ≤ length self.old.commitments.flight + 1 }
+        ensures tips { self.new.tips ≡ self.old.tips }
+        ensures anchors { self.new.anchors ≡ self.old.anchors }
+    {
+        let mut commitment = [0; 44];
+        commitment.copy_from_slice(payload);
+        self.commitments.push(commitment)
+    }
+
+    fn stage_tip(&mut self, payload: &[u8]) -> Result<(), OutOfMemory>
+        requires { length payload.now ≡ 48 }
+        ensures ok { OnOk result (self.new.tips ≡ record { kept = self.old.tips.kept; flight = self.old.tips.flight ++ tip_at payload.now ∷ [] }) }
+        ensures err { OnErr result (self.new.tips ≡ self.old.tips) }
+        ensures commitments { self.new.commitments ≡ self.old.commitments }
+        ensures anchors { self.new.anchors ≡ self.old.anchors }
+    {
+        self.tips.push(read_tip(payload))
+    }
+
+    fn stage_anchor(&mut self, payload: &[u8]) -> Result<(), OutOfMemory>
+        requires { IsAnchor payload.now }
+        ensures ok { OnOk result (self.new.anchors ≡ record { kept = self.old.anchors.kept; flight = self.old.anchors.flight ++ anchor_at payload.now ∷ [] }) }
+        ensures err { OnErr result (self.new.anchors ≡ self.old.anchors) }
+        ensures commitments { self.new.commitments ≡ self.old.commitments }
+        ensures tips { self.new.tips ≡ self.old.tips }
+    {
+        let anchor = read_anchor(self.alloc, payload)?;
+        self.anchors.push(anchor)
+    }
+
+    /// Acknowledges all records in flight.
+    pub fn keep(&mut self)
+        ensures holds { (kept flight : List Record) → Holds kept flight self.old → Holds (kept ++ flight) [] self.new }
+        ensures kept { self.new.commitments.kept ≡ self.old.commitments.kept ++ self.old.commitments.flight }
+        ensures flight { self.new.commitments.flight ≡ [] }
+    {
+        self.commitments.keep();
+        self.tips.keep();
+        self.anchors.keep();
+    }
+
+    /// Takes all records in flight away.
+    pub fn forget(&mut self)
+        ensures holds { (kept flight : List Record) → Holds kept flight self.old → Holds kept [] self.new }
+        ensures kept { self.new.commitments.kept ≡ self.old.commitments.kept }
+        ensures flight { self.new.commitments.flight ≡ [] }
+    {
+        self.commitments.forget();
+        self.tips.forget();
+        self.anchors.forget();
+    }
+}
