@@ -152,14 +152,15 @@ fn a_calendar_that_no_address_names_is_skipped(rt: HostRuntime) -> Result<(), Fa
         "https://alice.btc.calendar.opentimestamps.org skipped;",
         &file,
     )?;
-    let Some(asked) = upgraded.asked.items().first() else {
+    let asked = &upgraded.asked;
+    if asked.is_empty() {
         return Err(Fail::from("nothing was asked"));
-    };
+    }
     let message = bytes(
         alloc,
         "6553f1009c6dad1e5158af236c4278b755f93b5bc4a2afe3f04e75755a806c8a7074f8840102030405060708",
     )?;
-    assert_eq!(rt; asked.message.bytes(), message.as_slice());
+    assert_eq!(rt; asked.message(0).bytes(), message.as_slice());
     has_begun(&rt, &dialer, 0);
     Ok(())
 }
