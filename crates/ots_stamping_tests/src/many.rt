@@ -9,6 +9,7 @@ use std::test::Fail;
 
 /// So many files, and so many calendars.
 const FILES: u16 = 1024;
+
 const CALENDARS: u8 = 16;
 
 /// Room for the files and their proofs.
@@ -184,7 +185,14 @@ fn stamped(alloc: Global) -> Result<Ended, Fail> {
     let mut nonces = all_nonces(alloc)?;
     let mut out = BytesSink::new(alloc, 20_000, &[])?;
     let words = words(alloc)?;
-    let status = run_client(alloc, &words, &mut shelf, &mut out, &mut dialer, &mut nonces);
+    let status = run_client(
+        alloc,
+        &words,
+        &mut shelf,
+        &mut out,
+        &mut dialer,
+        &mut nonces,
+    );
     Ok(Ended {
         status,
         shelf,

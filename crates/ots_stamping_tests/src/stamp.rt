@@ -163,7 +163,12 @@ fn a_stamped_proof_is_pending_until_its_round_is_anchored(rt: HostRuntime) -> Re
     let proof = third_proof(alloc)?;
     let words = ["upgrade", "--calendars", CALENDAR, "p", "o"];
     let (ended, dialer) = run_asking(alloc, &words, &[("p", &proof)], &[WAITING], NONE)?;
-    expect(&rt, &ended, 1, "http://127.0.0.1:14788 status 404\npending\n");
+    expect(
+        &rt,
+        &ended,
+        1,
+        "http://127.0.0.1:14788 status 404\npending\n",
+    );
     assert_eq!(rt; ended.shelf.bytes_of("o"), Some(proof.as_slice()));
     let sent = dialer.sent(0).ok_or("nothing was sent")?;
     assert!(rt; sent.bytes.starts_with(COMMITMENT));
