@@ -1,10 +1,13 @@
 #!/usr/bin/python3
 """Processor time and peak of memory of `ots upgrade` on proofs that are made to hurt, at a quarter of
 their size and whole: many pairs of a URI and a message, many places of one pair, and many URIs at one
-message of 4096 bytes. No address of the list has their URI, so nobody is asked. build/ots has to be there.
+message of 4096 bytes, of six characters and, so that most of them fit, of three. No address of the list
+has their URI, so nobody is asked. build/ots has to be there.
 """
 
+import itertools
 import os
+import string
 import sys
 import tempfile
 
@@ -14,6 +17,9 @@ FRONT = b'\x00OpenTimestamps\x00\x00Proof\x00\xbf\x89\xe2\xe8\x84\xe8\x92\x94\x0
 PENDING = b'\x00' + bytes.fromhex('83dfe30d2ef90c8e')
 # Append 4064 bytes to the digest's 32.
 LONG = b'\xf0\xe0\x1f' + b'a' * 4064
+
+# The characters that a URI may have.
+CHARACTERS = string.ascii_letters + string.digits + '-._/:'
 
 
 def end(uri):
@@ -34,6 +40,11 @@ def places(count):
 
 def uris(count):
     return FRONT + LONG + forked([end(b'%06d' % i) for i in range(count)])
+
+
+def short_uris(count):
+    three = itertools.islice(itertools.product(CHARACTERS, repeat=3), count)
+    return FRONT + LONG + forked([end(''.join(uri).encode()) for uri in three])
 
 
 def run(name, proof, folder):
@@ -64,6 +75,8 @@ def main():
             run(f'{count} places of one pair', places(count), folder)
         for count in (56000, 224000):
             run(f'{count} URIs at one message of 4096 bytes', uris(count), folder)
+        for count in (69750, 279000):
+            run(f'{count} URIs of three characters at it', short_uris(count), folder)
 
 
 if __name__ == '__main__':

@@ -14,7 +14,7 @@ use Rattle.ots_cli.specs.declared.status.Status.{Status}
 use Rattle.ots_cli.specs.declared.status.Status.TheVariants.{Done}
 use Rattle.ots_detached.specs.File.{IsFileOf, file_of}
 use Rattle.ots_pending.specs.Bitcoin.{HasBitcoin}
-use Rattle.ots_upgrade.specs.declared.asking.AskedAt.{AskedAt}
+use Rattle.ots_upgrade.specs.Asked.{AskedAt}
 use Rattle.ots_outside.specs.Dialer.{DialerTold}
 use Rattle.ots_outside.specs.Shelf.{Names}
 use Rattle.ots_tree.specs.declared.detached.Detached.{Detached}

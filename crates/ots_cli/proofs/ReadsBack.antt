@@ -12,7 +12,7 @@ use Rattle.ots_cli.specs.declared.status.Status.TheVariants.{Done, No, Usage, Ba
 use Rattle.ots_cli.specs.Ending.{Ending, makes, printing, prints}
 use Rattle.ots_cli.specs.Asking.{IsOffline, Outside}
 use Rattle.ots_cli.specs.Text.{asked_text, complete_status, complete_text}
-use Rattle.ots_upgrade.specs.declared.asking.AskedAt.{AskedAt}
+use Rattle.ots_upgrade.specs.Asked.{AskedAt}
 use Rattle.ots_cli.specs.Answer.{Answers, AnswersAs, Comes, are_hashed, one_refused, is_list, is_bad, WritesAsked, asked_too_long, asked_made, as_defined, not_read, PrintsVerdict, RefusesInput, no_file, refuses, is_given, is_refused, WithPerhapsTable, WithProof, WithTable, WithTarget, Writes, too_long, is_made, Merges, differ, joined, VerifiesBy, VerifiesProof, VerifiesTarget}
 use Rattle.ots_cli.specs.CarriedOut.{CarriesOut, Ends, carried_out, no_memory}
 use Rattle.ots_cli.specs.Found.{RefusesProof, RefusesTarget, too_big, bad_proof}

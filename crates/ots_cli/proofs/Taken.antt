@@ -13,7 +13,7 @@ use Rattle.ots_cli.specs.Answer.{Answers, AnswersAs, Comes, RefusesInput, WithHa
 use Rattle.ots_cli.specs.Asking.{Outside}
 use Rattle.ots_address.specs.Address.{AddressParts}
 use Rattle.ots_cli.specs.Stamping.{Stamps, no_nonce, stamped, too_few}
-use Rattle.ots_upgrade.specs.declared.asking.AskedAt.{AskedAt}
+use Rattle.ots_upgrade.specs.Asked.{AskedAt}
 use Rattle.ots_cli.specs.CarriedOut.{Ends}
 use Rattle.ots_cli.proofs.Outcome.{Failed, MayEnd, only_prints, outcome}
 use Rattle.ots_cli.specs.Found.{RefusesTarget, too_big, bad_proof, cut, too_many}

@@ -5,7 +5,7 @@ use Rattle.ots_address.specs.AddressList.{IsBadAddress, IsListOf}
 use Rattle.ots_pending.specs.Bitcoin.{HasBitcoin}
 use Rattle.ots_pending.specs.Completed.{IsCompleted}
 use Rattle.ots_pending.specs.Pairs.{ArePairs, PairAt}
-use Rattle.ots_upgrade.specs.declared.asking.AskedAt.{AskedAt}
+use Rattle.ots_upgrade.specs.Asked.{AskedAt}
 use Rattle.ots_upgrade.specs.Upgrading.{AreAsked, outcomes, questions, trees_of}
 use Rattle.ots_cli.specs.Asking.{Outside}
 use Rattle.ots_cli.specs.Text.{asked_text, complete_status, complete_text}

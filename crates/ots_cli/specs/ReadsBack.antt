@@ -2,7 +2,7 @@
 use Rattle.std.specs.Prelude.{◌≡◌, ◌≤◌, ◌⊎◌, ℕ, List, length, slice_get, Option, Some, None, IsSome}
 use Rattle.ots_address.specs.Address.{AddressParts}
 use Rattle.ots_address.specs.AddressList.{IsListOf}
-use Rattle.ots_upgrade.specs.declared.asking.AskedAt.{AskedAt}
+use Rattle.ots_upgrade.specs.Asked.{AskedAt}
 use Rattle.ots_cli.specs.Answer.{IsUpgradeOf}
 use Rattle.ots_cli.specs.Asking.{Outside}
 use Rattle.ots_cli.specs.declared.status.Status.{Status}

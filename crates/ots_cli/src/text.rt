@@ -60,7 +60,7 @@ fn put_text<K: Sink>(text: &Text<'_>, status: &Status, out: &mut Printer<'_, K>)
         Text::Proof(proof) => put_proof(proof, out),
         Text::Verdict(verdict) => put_verdict(*verdict, out),
         Text::Refusal(name) => put_refusal(name, status, out),
-        Text::Asked(asked) => put_asked(asked.items(), out),
+        Text::Asked(asked) => put_asked(asked, out),
         Text::Complete(complete) => put_complete(*complete, out),
         Text::Calendars(replies) => put_calendars(&replies.calendars, &replies.outcomes, out),
         Text::Wrote(name) => put_wrote(name, out),

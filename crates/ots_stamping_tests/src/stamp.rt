@@ -1,6 +1,6 @@
 // Files that calendars are asked to timestamp. The first and the third hold `Hello World!` and LF, the second `abc`.
 // Leaves and roots were computed with Python's hashlib.
-use ots_cli_runs::{Ended, Failing, HEAD, HEAD_OF_ABC, file_of, run_stamping};
+use ots_cli_runs::{Ended, Failing, HEAD, HEAD_OF_ABC, file_of, run_asking, run_stamping};
 use ots_io::{ListNonces, ScriptDialer};
 use std::alloc::Global;
 use std::process::Abort;
@@ -80,10 +80,9 @@ fn stamped(
     run_stamping(alloc, &words, &[FIRST], &[reply], failing, &mut nonces)
 }
 
-/// Three files are stamped at two calendars, of which the second is busy and so many have to answer.
-fn all_stamped(alloc: Global, least: &str) -> Result<(Ended, ScriptDialer), Fail> {
-    let mut nonces = ListNonces::new(alloc, NONCES, &[])?;
-    let words = [
+/// The words that stamp three files at two calendars, of which so many have to answer.
+fn words_of_three(least: &str) -> [&str; 8] {
+    [
         "stamp",
         "--calendars",
         CALENDARS,
@@ -92,14 +91,23 @@ fn all_stamped(alloc: Global, least: &str) -> Result<(Ended, ScriptDialer), Fail
         "a",
         "b",
         "c",
-    ];
+    ]
+}
+
+/// Three files are stamped at two calendars, of which the second is busy and so many have to answer.
+fn all_stamped(
+    alloc: Global,
+    least: &str,
+    failing: Failing<'_>,
+) -> Result<(Ended, ScriptDialer), Fail> {
+    let mut nonces = ListNonces::new(alloc, NONCES, &[])?;
     let files = [FIRST, SECOND, THIRD];
     run_stamping(
         alloc,
-        &words,
+        &words_of_three(least),
         &files,
         &[ROUND_REPLY, BUSY],
-        NONE,
+        failing,
         &mut nonces,
     )
 }
@@ -136,13 +144,44 @@ fn one_file_is_stamped(rt: HostRuntime) -> Result<(), Fail> {
     Ok(())
 }
 
+/// The proof of the third of three files, 187 bytes.
+fn third_proof(alloc: Global) -> Result<Vec<u8>, Fail> {
+    let nonce = b"\xf0\x10CCCCCCCCCCCCCCCC\x08\xf1\x20";
+    Ok(file_of(alloc, &[HEAD, nonce, FIRST_TWO, b"\x08", ROUND])?)
+}
+
+/// The calendar's round is not anchored yet.
+const WAITING: &[u8] = b"HTTP/1.1 404 Not Found\r\nContent-Length: 8\r\n\r\npending\n";
+
+/// What that calendar is asked for: the time, SHA-256 of the root and its nonce, and its MAC.
+const COMMITMENT: &[u8] =
+    b"GET /timestamp/6553f1004e0422759408144a6fe3c066a6736ed87418c2d411ebd70c3176e8fd09c429074d4d4d4d4d4d4d4d HTTP/1.1\r\n";
+
+#[test]
+fn a_stamped_proof_is_pending_until_its_round_is_anchored(rt: HostRuntime) -> Result<(), Fail> {
+    let alloc = rt.alloc();
+    let proof = third_proof(alloc)?;
+    let words = ["upgrade", "--calendars", CALENDAR, "p", "o"];
+    let (ended, dialer) = run_asking(alloc, &words, &[("p", &proof)], &[WAITING], NONE)?;
+    expect(
+        &rt,
+        &ended,
+        1,
+        "http://127.0.0.1:14788 status 404\npending\n",
+    );
+    assert_eq!(rt; ended.shelf.bytes_of("o"), Some(proof.as_slice()));
+    let sent = dialer.sent(0).ok_or("nothing was sent")?;
+    assert!(rt; sent.bytes.starts_with(COMMITMENT));
+    Ok(())
+}
+
 /// The lines of both calendars.
 const BOTH: &str = "http://127.0.0.1:14788 ok\nhttp://127.0.0.1:14789 status 503\n";
 
 #[test]
 fn three_files_are_stamped_under_one_root(rt: HostRuntime) -> Result<(), Fail> {
     let alloc = rt.alloc();
-    let (ended, dialer) = all_stamped(alloc, "1")?;
+    let (ended, dialer) = all_stamped(alloc, "1", NONE)?;
     let text = format!(in alloc; "{BOTH}wrote a.ots\nwrote b.ots\nwrote c.ots\n")?;
     expect(&rt, &ended, 0, &text);
     let first = file_of(
@@ -156,11 +195,8 @@ fn three_files_are_stamped_under_one_root(rt: HostRuntime) -> Result<(), Fail> {
         &[b"\xf0\x10BBBBBBBBBBBBBBBB\x08\xf1\x20", FIRST_LEAF],
     )?;
     expect_file(&rt, &ended, "b.ots", &[HEAD_OF_ABC, &second, &last, ROUND])?;
-    let third = file_of(
-        alloc,
-        &[b"\xf0\x10CCCCCCCCCCCCCCCC\x08\xf1\x20", FIRST_TWO, b"\x08"],
-    )?;
-    expect_file(&rt, &ended, "c.ots", &[HEAD, &third, ROUND])?;
+    let third = third_proof(alloc)?;
+    expect_file(&rt, &ended, "c.ots", &[&third])?;
     let sent = dialer.sent(0).ok_or("nothing was sent")?;
     let request = file_of(alloc, &[REQUEST_HEAD, ROOT])?;
     assert_eq!(rt; sent.bytes, request.as_slice());
@@ -169,7 +205,7 @@ fn three_files_are_stamped_under_one_root(rt: HostRuntime) -> Result<(), Fail> {
 
 #[test]
 fn too_few_calendars_leave_no_proof(rt: HostRuntime) -> Result<(), Fail> {
-    let (ended, _dialer) = all_stamped(rt.alloc(), "2")?;
+    let (ended, _dialer) = all_stamped(rt.alloc(), "2", NONE)?;
     let text = format!(in rt.alloc(); "{BOTH}too few 1 of 2\n")?;
     expect(&rt, &ended, 10, &text);
     assert_eq!(rt; ended.shelf.bytes_of("a.ots"), None);
@@ -190,15 +226,24 @@ fn a_deep_tree_is_refused(rt: HostRuntime) -> Result<(), Fail> {
     Ok(())
 }
 
+/// Where this draw of three fails, nobody is asked and nothing is made.
+fn expect_nonce_fault(rt: &(impl Abort + AllocGlobal), draw: u64) -> Result<(), Fail> {
+    let alloc = rt.alloc();
+    let mut nonces = ListNonces::new(alloc, NONCES, &[draw])?;
+    let files = [FIRST, SECOND, THIRD];
+    let words = words_of_three("1");
+    let (ended, dialer) = run_stamping(alloc, &words, &files, &[REPLY], NONE, &mut nonces)?;
+    expect(rt, &ended, 11, "nonce fault\n");
+    assert_eq!(rt; dialer.sent(0), None);
+    assert_eq!(rt; ended.shelf.bytes_of("a.ots"), None);
+    Ok(())
+}
+
 #[test]
 fn a_failed_draw_asks_nobody(rt: HostRuntime) -> Result<(), Fail> {
-    let alloc = rt.alloc();
-    let mut nonces = ListNonces::new(alloc, NONCES, &[1])?;
-    let words = ["stamp", "--calendars", CALENDAR, "--min", "1", "a"];
-    let (ended, dialer) = run_stamping(alloc, &words, &[FIRST], &[REPLY], NONE, &mut nonces)?;
-    expect(&rt, &ended, 11, "nonce fault\n");
-    assert_eq!(rt; dialer.sent(0), None);
-    Ok(())
+    expect_nonce_fault(&rt, 1)?;
+    expect_nonce_fault(&rt, 2)?;
+    expect_nonce_fault(&rt, 3)
 }
 
 #[test]
@@ -233,6 +278,7 @@ fn expect_fault(
 fn a_failed_call_of_the_shelf_is_told(rt: HostRuntime) -> Result<(), Fail> {
     expect_fault(&rt, 1, 6, "read fault a\n")?;
     expect_fault(&rt, 2, 6, "read fault a\n")?;
+    expect_fault(&rt, 3, 6, "read fault a\n")?;
     expect_fault(&rt, 4, 7, "http://127.0.0.1:14788 ok\nwrite fault a.ots\n")?;
     expect_fault(&rt, 5, 7, "http://127.0.0.1:14788 ok\nwrite fault a.ots\n")
 }
@@ -284,6 +330,22 @@ fn a_failed_write_behind_a_proof_leaves_it_whole(rt: HostRuntime) -> Result<(), 
     expect_file(&rt, &ended, "a.ots", &[HEAD, nonce, TREE])
 }
 
+#[test]
+fn a_failed_write_between_proofs_leaves_those_before(rt: HostRuntime) -> Result<(), Fail> {
+    let failing = Failing {
+        shelf: &[],
+        dialer: &[],
+        writes: &[3],
+    };
+    let (ended, _dialer) = all_stamped(rt.alloc(), "1", failing)?;
+    let text = format!(in rt.alloc(); "{BOTH}wrote a.ots\n")?;
+    expect(&rt, &ended, 7, &text);
+    assert!(&rt; ended.shelf.bytes_of("a.ots").is_some());
+    assert!(&rt; ended.shelf.bytes_of("b.ots").is_some());
+    assert_eq!(&rt; ended.shelf.bytes_of("c.ots"), None);
+    Ok(())
+}
+
 /// A calendar that replies so is told in this line, and no proof is made.
 fn expect_bad(rt: &(impl Abort + AllocGlobal), reply: &[u8], line: &str) -> Result<(), Fail> {
     let (ended, _dialer) = stamped(rt.alloc(), reply, NONE)?;
@@ -319,6 +381,7 @@ fn expect_bad_list(rt: &(impl Abort + AllocGlobal), list: &str, text: &str) -> R
 #[test]
 fn a_bad_list_is_refused(rt: HostRuntime) -> Result<(), Fail> {
     expect_bad_list(&rt, "http://a,http://a", "bad address at 9\n")?;
+    expect_bad_list(&rt, "http://a:0", "bad address at 0\n")?;
     expect_bad_list(&rt, "https://a", "https is not supported at 0\n")?;
     expect_bad_list(&rt, "", "bad address at 0\n")
 }

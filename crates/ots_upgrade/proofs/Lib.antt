@@ -1,3 +1,4 @@
+pub mod AskedOf
 pub mod Batches
 pub mod Conversing
 pub mod Exchanging

@@ -1,3 +1,4 @@
+pub mod Asked
 pub mod Batch
 pub mod Conversation
 pub mod Exchanged

@@ -10,9 +10,9 @@ use Rattle.ots_pending.specs.Completed.{IsCompleted}
 use Rattle.ots_pending.specs.Pairs.{PairAt, ArePairs}
 use Rattle.ots_tree.specs.declared.token.Token.{Token}
 use Rattle.ots_tree.specs.declared.detached.Detached.{Detached}
+use Rattle.ots_upgrade.specs.Asked.{AskedAt}
 use Rattle.ots_upgrade.specs.Conversation.{Converse, ConverseUpTo, Question}
 use Rattle.ots_upgrade.specs.Outcome.{IsSoundOutcome}
-use Rattle.ots_upgrade.specs.declared.asking.AskedAt.{AskedAt}
 use Rattle.ots_upgrade.specs.declared.outcome.Outcome.{Outcome}
 use Rattle.ots_upgrade.specs.declared.outcome.Outcome.TheVariants as outcome
 use Rattle.ots_upgrade.specs.declared.upgrading.Upgraded.{Upgraded}

@@ -21,7 +21,7 @@ mod stamping;
 mod target;
 mod upgrading;
 
-pub use asking::{AskedAt, AskedList};
+pub use asking::AskedList;
 pub use batch::Batch;
 pub use gathering::gather_good;
 pub use laws::{one_list_of_pairs, one_outcome};

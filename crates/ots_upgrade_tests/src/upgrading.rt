@@ -1,6 +1,6 @@
 //! Proofs that calendars are asked to complete. The reference library, python-opentimestamps 0.4.2,
 //! made each proof here and merged the answers in it.
-ghost use Rattle.std.specs.Prelude.{◌<◌, ◌≤◌};
+ghost use Rattle.std.specs.Prelude.{◌<◌, ◌≤◌, length};
 
 use crate::batches::batch;
 use crate::outcomes::{TREE, bytes, reply, words};
@@ -8,7 +8,7 @@ use ots_address::read_addresses;
 use ots_detached::{read_bytes, write_file};
 use ots_io::{BytesSink, DialerRoom, ScriptDialer};
 use ots_tree::Detached;
-use ots_upgrade::{AskedAt, AskedList, Upgraded, gather_good, upgrade_with};
+use ots_upgrade::{AskedList, Upgraded, gather_good, upgrade_with};
 use std::alloc::Global;
 use std::process::Abort;
 use std::test::Fail;
@@ -71,10 +71,12 @@ fn file_of(alloc: Global, proof: &Detached) -> Result<Vec<u8>, Fail> {
     Ok(Vec::from_slice(alloc, sink.bytes())?)
 }
 
-/// A pair in words: its URI, a space, and what came of it.
-fn line(alloc: Global, asked: &AskedAt) -> Result<String, Fail> {
-    let uri = asked.uri.text();
-    let outcome = match &asked.outcome {
+/// The pair at this place in words: its URI, a space, and what came of it.
+fn line(alloc: Global, asked: &AskedList, i: usize) -> Result<String, Fail>
+    requires { i < length asked.now }
+{
+    let uri = asked.uri(i).text();
+    let outcome = match asked.outcome(i) {
         Some(outcome) => words(alloc, outcome)?,
         None => format!(in alloc; "skipped")?,
     };
@@ -84,8 +86,8 @@ fn line(alloc: Global, asked: &AskedAt) -> Result<String, Fail> {
 /// All pairs in words.
 fn lines(alloc: Global, asked: &AskedList) -> Result<String, Fail> {
     let mut all = String::new(alloc);
-    for pair in asked.items() {
-        all.push_str(&line(alloc, pair)?)?;
+    for i in 0..asked.len() {
+        all.push_str(&line(alloc, asked, i)?)?;
     }
     Ok(all)
 }
@@ -150,14 +152,15 @@ fn a_calendar_that_no_address_names_is_skipped(rt: HostRuntime) -> Result<(), Fa
         "https://alice.btc.calendar.opentimestamps.org skipped;",
         &file,
     )?;
-    let Some(asked) = upgraded.asked.items().first() else {
+    let asked = &upgraded.asked;
+    if asked.is_empty() {
         return Err(Fail::from("nothing was asked"));
-    };
+    }
     let message = bytes(
         alloc,
         "6553f1009c6dad1e5158af236c4278b755f93b5bc4a2afe3f04e75755a806c8a7074f8840102030405060708",
     )?;
-    assert_eq!(rt; asked.message.bytes(), message.as_slice());
+    assert_eq!(rt; asked.message(0).bytes(), message.as_slice());
     has_begun(&rt, &dialer, 0);
     Ok(())
 }
