@@ -2,9 +2,9 @@
 // open it takes three calls of the disk, and each of the three then four: the body, a sync, the
 // gate, a sync. An image at each moment is opened and asked for both commitments.
 use ots_calendar_runs::{
-    COMMITMENT, COMPLETE, DIGEST, JOURNAL, LATER, LATER_BLOCK, LATER_COMPLETE, LATER_TIP_ROOT, Memory,
-    NONCE, SECOND, anchor_in, block_of, book_of, bytes_of, close, disk_of, is_complete, is_pending,
-    is_unknown, put,
+    COMMITMENT, COMPLETE, DIGEST, JOURNAL, LATER, LATER_BLOCK, LATER_COMPLETE, LATER_TIP_ROOT,
+    Memory, NONCE, SECOND, anchor_in, block_of, book_of, bytes_of, close, disk_of, is_complete,
+    is_pending, is_unknown, put,
 };
 use ots_disk::{Choice, MemoryDisk};
 use std::alloc::Global;
@@ -41,7 +41,7 @@ fn left(alloc: Global, made: &MemoryDisk, moment: u64, choice: Choice) -> Result
 }
 
 // What a book answers of the second commitment, where it answers the first by its anchor.
-fn answered(alloc: Global, book: &Memory) -> Result<Answered, Fail> {
+fn answer_of(alloc: Global, book: &Memory) -> Result<Answered, Fail> {
     if !is_complete(alloc, book, COMMITMENT, COMPLETE)? {
         return Err(Fail::from("the first is lost"));
     }
@@ -97,16 +97,11 @@ fn leave(
 }
 
 // Whether each image at this moment has its answer, and goes on.
-fn leaves(
-    alloc: Global,
-    made: &MemoryDisk,
-    moment: u64,
-    answers: Answers,
-) -> Result<bool, Fail> {
+fn leaves(alloc: Global, made: &MemoryDisk, moment: u64, answers: Answers) -> Result<bool, Fail> {
     for (choice, open) in CHOICES {
         let mut book = left(alloc, made, moment, choice)?;
         let wanted = if open { answers.open } else { answers.closed };
-        if answered(alloc, &book)? != wanted || !goes_on(&mut book)? {
+        if answer_of(alloc, &book)? != wanted || !goes_on(&mut book)? {
             return Ok(false);
         }
     }

@@ -18,7 +18,7 @@ pub fn bytes_of(alloc: Global, digits: &str) -> Result<Vec<u8>, Fail> {
 pub fn spelled(alloc: Global, tree: &Tree) -> Result<Vec<u8>, Fail> {
     let mut sink = BytesSink::new(alloc, 10_000, &[])?;
     spell_to(tree, &mut sink)?;
-    Ok(sink.taken().to_vec(alloc)?)
+    Ok(sink.bytes().to_vec(alloc)?)
 }
 
 /// Whether a commitment is answered by this tree.

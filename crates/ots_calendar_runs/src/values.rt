@@ -12,16 +12,14 @@ pub const TICKET_TREE: &str =
     "f0100707070707070707070707070707070708f1046553f100f008f000359a39b694770083dfe30d2ef90c8e1716687474703a2f2f3132372e302e302e313a3134373838";
 
 /// The root of the tip over that commitment.
-pub const TIP_ROOT: &str =
-    "b562c5be8abe0c240ace4a421db9b140ce30b04c6946aa4cf837fc288f63cedf";
+pub const TIP_ROOT: &str = "b562c5be8abe0c240ace4a421db9b140ce30b04c6946aa4cf837fc288f63cedf";
 
 /// A block of 175 bytes whose one transaction holds this root.
 pub const BLOCK: &str =
     "000000000000000000000000000000000000000000000000000000000000000000000000b22796639b203220fa654857b983240d3dffb708c00ad4aa593054d8a6fb2f4c0000000000000000000000000100000000010000000000000000000000000000000000000000000000000000000000000000000000000000000000010000000000000000226a20b562c5be8abe0c240ace4a421db9b140ce30b04c6946aa4cf837fc288f63cedf00000000";
 
 /// The Merkle root in its header.
-pub const BLOCK_ROOT: &str =
-    "b22796639b203220fa654857b983240d3dffb708c00ad4aa593054d8a6fb2f4c";
+pub const BLOCK_ROOT: &str = "b22796639b203220fa654857b983240d3dffb708c00ad4aa593054d8a6fb2f4c";
 
 /// The tree from the commitment to that root, with the block at height 7.
 pub const COMPLETE: &str =
@@ -36,8 +34,7 @@ pub const LATER: &str =
     "6553f101b9cc28fda59c8992e3e5f35e8b04edd86e4f2057ea2c6c9cf7c14e769364979d62625f7d1c5fafd0";
 
 /// The root of the tip over it alone.
-pub const LATER_TIP_ROOT: &str =
-    "9370149abf495d2b5dd94f0960b2512c021bfdb3a6178924927f924a89174333";
+pub const LATER_TIP_ROOT: &str = "9370149abf495d2b5dd94f0960b2512c021bfdb3a6178924927f924a89174333";
 
 /// A block whose one transaction holds this root.
 pub const LATER_BLOCK: &str =

@@ -60,7 +60,12 @@ fn a_block_of_one_transaction_anchors_a_tip(rt: HostRuntime) -> Result<(), Fail>
     assert!(rt; matches!(again, Err(AnchorError::NoTip)));
     assert!(rt; book.store().tips().len() == 1 && book.faults() == 0);
     let root = bytes_of(alloc, TIP_ROOT)?;
-    assert!(rt; book.store().tips().iter().all(|tip| tip.root.as_slice() == root.as_slice()));
+    assert!(rt;
+        book.store()
+            .tips()
+            .iter()
+            .all(|tip| tip.root.as_slice() == root.as_slice())
+    );
     let disk = book.into_disk();
     assert!(rt; disk.bytes() == bytes_of(alloc, JOURNAL)?.as_slice());
     Ok(())

@@ -37,10 +37,7 @@ fn is_given(
     let reached = led_to(alloc, &tree, &digest_of(number))?;
     let gone = is_gone(alloc, book, ticket)?;
     let leads = reached.as_slice() == bytes_of(alloc, FULL)?.as_slice();
-    Ok(gone
-        && leads
-        && tree.tokens().len() == 37
-        && is_in_receipt(alloc, book, &receipt, 0, FULL)?)
+    Ok(gone && leads && tree.tokens().len() == 37 && is_in_receipt(alloc, book, &receipt, 0, FULL)?)
 }
 
 // Whether there is no such ticket.
@@ -67,7 +64,10 @@ fn one_commitment_settles_a_full_round(rt: HostRuntime) -> Result<(), Fail> {
     assert_eq!(rt; close(&mut book, SECOND)?, Ok(None));
     assert!(rt; book.waiting() == 0 && book.store().entries() == 1);
     for number in [0, 1, 40_000, 65_535] {
-        assert!(rt; is_given(alloc, &mut book, &tickets, number)?, "ticket {number}");
+        assert!(rt;
+            is_given(alloc, &mut book, &tickets, number)?,
+            "ticket {number}"
+        );
     }
     // It takes four calls to open the book and four to close the round.
     let disk = book.into_disk();
@@ -76,15 +76,11 @@ fn one_commitment_settles_a_full_round(rt: HostRuntime) -> Result<(), Fail> {
 }
 
 // The tree that is given for a ticket is that of the digest alone in its round, at this index.
-fn is_alone(
-    alloc: Global,
-    book: &mut Memory,
-    ticket: &Ticket,
-    index: u64,
-) -> Result<bool, Fail> {
+fn is_alone(alloc: Global, book: &mut Memory, ticket: &Ticket, index: u64) -> Result<bool, Fail> {
     match book.take(ticket, &uri(alloc)?)? {
         Taken::Settled(tree, receipt) => {
-            let same = spelled(alloc, &tree)?.as_slice() == bytes_of(alloc, TICKET_TREE)?.as_slice();
+            let same = spelled(alloc, &tree)?.as_slice()
+                == bytes_of(alloc, TICKET_TREE)?.as_slice();
             Ok(same && is_in_receipt(alloc, book, &receipt, index, COMMITMENT)?)
         }
         _ => Ok(false),
