@@ -236,6 +236,8 @@ def several():
     show('THIRD_TICKET_TREE', spelled(way(SECOND, tickets, 2)) + pending())
     show('EARLY_BLOCK', block(in_second))
     show('EARLY_BLOCK_ROOT', early.block_root)
+    show('EARLY_TIP_ROOT', early.root)
+    show('SECOND_TIP_ROOT', sha256(second))
     show('LATE_BLOCK', block(in_last))
     show('LATE_BLOCK_ROOT', late.block_root)
     show('LATE_TIP_ROOT', late.root)

@@ -3,8 +3,8 @@
 // gate, a sync. An image at each moment is opened and asked for both commitments.
 use ots_calendar_runs::{
     COMMITMENT, COMPLETE, DIGEST, JOURNAL, LATER, LATER_BLOCK, LATER_COMPLETE, LATER_TIP_ROOT,
-    Memory, NONCE, SECOND, anchor_in, block_of, book_of, bytes_of, close, disk_of, is_complete,
-    is_pending, is_unknown, put,
+    Memory, NONCE, SECOND, anchor_in, block_of, book_of, bytes_of, close, counts_of, disk_of,
+    disk_under, is_complete, is_pending, is_tip, is_unknown, put,
 };
 use ots_disk::{Choice, MemoryDisk};
 use std::alloc::Global;
@@ -23,12 +23,12 @@ fn made(alloc: Global) -> Result<MemoryDisk, Fail> {
     let mut book = book_of(alloc, disk_of(alloc, &bytes_of(alloc, JOURNAL)?, &[])?)?;
     put(&mut book, &DIGEST, NONCE)?;
     let closed = close(&mut book, SECOND + 1)? == Ok(Some(1));
-    let tip = book.tip().is_ok();
+    let tip = is_tip(alloc, &mut book, 1, 1, LATER_TIP_ROOT)?;
     let anchored = anchor_in(&mut book, &block_of(alloc, LATER_BLOCK)?, 8)?.is_ok();
     if !closed || !tip || !anchored {
         return Err(Fail::from("not anchored"));
     }
-    Ok(book.into_disk())
+    Ok(disk_under(book))
 }
 
 // The book of the image of this choice at this moment.
@@ -60,7 +60,7 @@ fn answer_of(alloc: Global, book: &Memory) -> Result<Answered, Fail> {
 // Whether a book that was opened again goes on: it closes a round.
 fn goes_on(book: &mut Memory) -> Result<bool, Fail> {
     put(book, &DIGEST, NONCE)?;
-    let next = book.store().commits();
+    let next = counts_of(book).commits;
     Ok(close(book, SECOND + 2)? == Ok(Some(next)))
 }
 
@@ -134,12 +134,9 @@ fn a_crash_while_a_round_is_closed(rt: HostRuntime) -> Result<(), Fail> {
 // Whether the book of each image at this moment gives the tip over the second commitment, and has
 // it once.
 fn give_the_tip(alloc: Global, made: &MemoryDisk, moment: u64) -> Result<bool, Fail> {
-    let root = bytes_of(alloc, LATER_TIP_ROOT)?;
     for (choice, _) in CHOICES {
         let mut book = left(alloc, made, moment, choice)?;
-        let tip = book.tip()?;
-        let right = tip.first == 1 && tip.count == 1 && tip.root.as_slice() == root.as_slice();
-        if !right || book.store().tips().len() != 2 {
+        if !is_tip(alloc, &mut book, 1, 1, LATER_TIP_ROOT)? || counts_of(&book).tips != 2 {
             return Ok(false);
         }
     }

@@ -1,6 +1,5 @@
 // What a book answers.
-use crate::books::Memory;
-use hex::decode;
+use crate::books::{Memory, bytes_of};
 use ots_calendar::Answer;
 use ots_io::BytesSink;
 use ots_ops::Op;
@@ -9,16 +8,11 @@ use sha2::{Digest, Sha256};
 use std::alloc::Global;
 use std::test::Fail;
 
-/// The bytes that these digits write.
-pub fn bytes_of(alloc: Global, digits: &str) -> Result<Vec<u8>, Fail> {
-    Ok(decode(alloc, digits)?)
-}
-
-/// The bytes that spell a tree.
-pub fn spelled(alloc: Global, tree: &Tree) -> Result<Vec<u8>, Fail> {
+/// Whether a tree is spelled by these bytes, in hexadecimal.
+pub fn spelled(alloc: Global, tree: &Tree, digits: &str) -> Result<bool, Fail> {
     let mut sink = BytesSink::new(alloc, 10_000, &[])?;
     spell_to(tree, &mut sink)?;
-    Ok(sink.bytes().to_vec(alloc)?)
+    Ok(sink.bytes() == bytes_of(alloc, digits)?.as_slice())
 }
 
 /// Whether a commitment is answered by this tree.
@@ -29,9 +23,7 @@ pub fn is_complete(
     tree: &str,
 ) -> Result<bool, Fail> {
     match book.ask(&bytes_of(alloc, commitment)?)? {
-        Answer::Complete(answered) => {
-            Ok(spelled(alloc, &answered)?.as_slice() == bytes_of(alloc, tree)?.as_slice())
-        }
+        Answer::Complete(answered) => spelled(alloc, &answered, tree),
         _ => Ok(false),
     }
 }
@@ -46,6 +38,14 @@ pub fn is_pending(alloc: Global, book: &Memory, commitment: &str) -> Result<bool
 pub fn is_unknown(alloc: Global, book: &Memory, commitment: &str) -> Result<bool, Fail> {
     let answer = book.ask(&bytes_of(alloc, commitment)?)?;
     Ok(matches!(answer, Answer::Unknown))
+}
+
+/// Where the path of the answer leads from a commitment.
+pub fn led_on(alloc: Global, book: &Memory, commitment: &[u8]) -> Result<Vec<u8>, Fail> {
+    match book.ask(commitment)? {
+        Answer::Complete(tree) => led_to(alloc, &tree, commitment),
+        _ => Err(Fail::from("not complete")),
+    }
 }
 
 /// What the operations of a tree of one path make of a message, by plain means.

@@ -1,13 +1,13 @@
 // Books in memory.
 ghost use Rattle.std.specs.Prelude.{◌≡◌, true, IfOk};
 
-use crate::answers::bytes_of;
+use hex::decode;
 use ots_attest::Uri;
 use ots_block::Block;
-use ots_calendar::{AnchorError, Book, Key, Leaf, Receipt, Ticket};
+use ots_calendar::{Book, Key};
 use ots_disk::{DiskRoom, MemoryDisk};
-use ots_journal::{AppendError, Journal};
-use ots_store::{Anchor, Store};
+use ots_journal::Journal;
+use ots_store::Store;
 use std::alloc::Global;
 use std::test::Fail;
 
@@ -19,17 +19,13 @@ const ROOM: DiskRoom = DiskRoom {
     file: 4000,
 };
 
-/// The most transactions of a block.
-const MOST: usize = 4_194_304;
-
 /// A book in memory.
 pub type Memory = Book<MemoryDisk>;
 
-/// A nonce.
-pub const NONCE: [u8; 16] = [7; 16];
-
-/// A Unix second.
-pub const SECOND: u32 = 1_700_000_000;
+/// The bytes that these digits write.
+pub fn bytes_of(alloc: Global, digits: &str) -> Result<Vec<u8>, Fail> {
+    Ok(decode(alloc, digits)?)
+}
 
 /// The calendar's key.
 pub fn key() -> Result<Key, Fail> {
@@ -39,6 +35,11 @@ pub fn key() -> Result<Key, Fail> {
 /// The calendar's URI.
 pub fn uri(alloc: Global) -> Result<Uri, Fail> {
     Ok(Uri::new(alloc, "http://127.0.0.1:14788")?)
+}
+
+/// The block of these bytes, in hexadecimal.
+pub fn block_of(alloc: Global, digits: &str) -> Result<Block, Fail> {
+    Ok(Block::read(alloc, &bytes_of(alloc, digits)?)?)
 }
 
 /// A disk with these bytes, of which these calls fail.
@@ -77,44 +78,4 @@ pub fn book_of(alloc: Global, disk: MemoryDisk) -> Result<Memory, Fail> {
 /// A book with no record, on a disk of which these calls fail. To open it takes four calls.
 pub fn new_book(alloc: Global, failing: &[u64]) -> Result<Memory, Fail> {
     book_of(alloc, disk_of(alloc, &[], failing)?)
-}
-
-/// Puts a digest.
-pub fn put(book: &mut Memory, digest: &[u8], nonce: [u8; 16]) -> Result<Ticket, Fail> {
-    Ok(book.put(Leaf::new(digest)?, nonce)?)
-}
-
-/// Closes the round at this second.
-pub fn close(book: &mut Memory, second: u32) -> Result<Result<Option<u64>, AppendError>, Fail> {
-    Ok(book.close(second, &key()?))
-}
-
-/// The block of these bytes, in hexadecimal.
-pub fn block_of(alloc: Global, digits: &str) -> Result<Block, Fail> {
-    Ok(Block::read(alloc, &bytes_of(alloc, digits)?)?)
-}
-
-/// Anchors a tip in a block at this height.
-pub fn anchor_in(
-    book: &mut Memory,
-    block: &Block,
-    height: u32,
-) -> Result<Result<Anchor, AnchorError>, Fail> {
-    if block.count() < 1 || block.count() > MOST {
-        return Err(Fail::from("no such block"));
-    }
-    Ok(book.anchor(block, height as u64))
-}
-
-/// Whether a receipt is of the commitment at this index, which is stored there.
-pub fn is_in_receipt(
-    alloc: Global,
-    book: &Memory,
-    receipt: &Receipt,
-    index: u64,
-    commitment: &str,
-) -> Result<bool, Fail> {
-    let wanted = bytes_of(alloc, commitment)?;
-    let there = index < book.store().commits() && book.store().commit(index) == receipt.commitment;
-    Ok(there && receipt.index == index && receipt.commitment.as_slice() == wanted.as_slice())
 }

@@ -1,15 +1,17 @@
 //! Books on disks in memory, and the values that they have by another program, for the tests of the
-//! calendar.
+//! calendar. What is answered is told in plain values.
 #![tactic(auto)]
 
 mod answers;
 mod books;
+mod calls;
 mod values;
 
-pub use answers::{bytes_of, is_complete, is_pending, is_unknown, led_to, spelled};
-pub use books::{
-    Memory, NONCE, SECOND, anchor_in, block_of, book_of, close, disk_of, is_in_receipt, key,
-    new_book, put, uri,
+pub use answers::{is_complete, is_pending, is_unknown, led_on, led_to, spelled};
+pub use books::{Memory, block_of, book_of, bytes_of, disk_of, key, new_book, uri};
+pub use calls::{
+    Counts, NONCE, SECOND, anchor_in, close, counts_of, disk_under, is_gone, is_tip, is_waiting,
+    put, stands, take, tip, withdraw,
 };
 pub use values::{
     BLOCK, BLOCK_ROOT, COMMITMENT, COMPLETE, DIGEST, JOURNAL, LATER, LATER_BLOCK, LATER_COMPLETE,

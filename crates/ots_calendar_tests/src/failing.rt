@@ -1,41 +1,45 @@
 // Each call of the disk failing in turn, and what the next call makes of it. It takes four calls to
 // open a new book, and four each to store a commitment, a tip and an anchor: the body, a sync, the
-// gate, a sync. What fails in the last sync is found by the next call; all before is stored anew.
-use ots_calendar::{AnchorError, Taken, TipError};
+// gate, a sync. Where the last sync fails, the next call finds what was stored; where an earlier one
+// fails, it is stored anew.
+use ots_block::Block;
+use ots_calendar::{AnchorError, TipError};
 use ots_calendar_runs::{
-    BLOCK, COMMITMENT, COMPLETE, DIGEST, JOURNAL, Memory, NONCE, SECOND, TIP_ROOT, anchor_in,
-    block_of, book_of, bytes_of, close, disk_of, is_complete, is_in_receipt, is_pending,
-    is_unknown, new_book, put, uri,
+    BLOCK, COMMITMENT, COMPLETE, Counts, DIGEST, JOURNAL, Memory, NONCE, SECOND, TIP_ROOT,
+    anchor_in, block_of, book_of, bytes_of, close, counts_of, disk_of, disk_under, is_complete,
+    is_pending, is_tip, is_unknown, new_book, put, stands, take, tip,
 };
 use ots_journal::AppendError;
 use std::alloc::Global;
 use std::test::Fail;
 
-// Whether a digest waits where these calls of the disk fail, the first of which is in `close`, so
-// many of its closes are refused, and the next one stores its commitment at this index.
-fn is_settled_after(
-    alloc: Global,
-    failing: &[u64],
-    refused: u64,
-    index: u64,
-) -> Result<bool, Fail> {
+// How many of each there are where one digest waits and this many calls have failed.
+fn still_waits(faults: u64) -> Counts {
+    Counts {
+        commits: 0,
+        tips: 0,
+        entries: 0,
+        waiting: 1,
+        faults,
+    }
+}
+
+// Whether so many closes are refused, one for each of these calls that fail, and leave the digest
+// waiting; and the next one stores its commitment at this index.
+fn settles_after(alloc: Global, failing: &[u64], refused: u64, index: u64) -> Result<bool, Fail> {
     let mut book = new_book(alloc, failing)?;
     let ticket = put(&mut book, &DIGEST, NONCE)?;
     for faults in 0..refused {
         let closed = close(&mut book, SECOND)?;
-        let as_before = book.waiting() == 1 && book.faults() == faults + 1;
-        if closed != Err(AppendError::DiskFault) || !as_before {
+        if closed != Err(AppendError::DiskFault) || counts_of(&book) != still_waits(faults + 1) {
             return Ok(false);
         }
     }
-    let unknown = is_unknown(alloc, &book, COMMITMENT)?;
-    let closed = close(&mut book, SECOND)? == Ok(Some(index)) && book.waiting() == 0;
-    let Taken::Settled(_, receipt) = book.take(&ticket, &uri(alloc)?)? else {
+    if !is_unknown(alloc, &book, COMMITMENT)? || close(&mut book, SECOND)? != Ok(Some(index)) {
         return Ok(false);
-    };
-    let stands = is_in_receipt(alloc, &book, &receipt, index, COMMITMENT)?;
-    let last = book.store().commits().checked_sub(1) == Some(index);
-    Ok(unknown && closed && stands && last)
+    }
+    let (_, receipt) = take(alloc, &mut book, &ticket)?;
+    stands(alloc, &book, &receipt, index, COMMITMENT)
 }
 
 #[test]
@@ -43,13 +47,13 @@ fn a_close_that_fails_leaves_its_ticket_waiting(rt: HostRuntime) -> Result<(), F
     let alloc = rt.alloc();
     for (failing, index) in [(5, 0), (6, 0), (7, 0), (8, 1)] {
         assert!(rt;
-            is_settled_after(alloc, &[failing], 1, index)?,
+            settles_after(alloc, &[failing], 1, index)?,
             "call {failing}"
         );
     }
     // The next close begins with a read of the gate, which fails too.
-    assert!(rt; is_settled_after(alloc, &[5, 6], 2, 0)?);
-    assert!(rt; is_settled_after(alloc, &[8, 9], 2, 1)?);
+    assert!(rt; settles_after(alloc, &[5, 6], 2, 0)?);
+    assert!(rt; settles_after(alloc, &[8, 9], 2, 1)?);
     Ok(())
 }
 
@@ -63,33 +67,40 @@ fn closed(alloc: Global, failing: u64) -> Result<Memory, Fail> {
     Ok(book)
 }
 
-// Whether the tip over the first commitment is answered, and is the only one.
-fn is_tip(alloc: Global, book: &mut Memory) -> Result<bool, Fail> {
-    let root = bytes_of(alloc, TIP_ROOT)?;
-    match book.tip() {
-        Ok(tip) => Ok(
-            tip.first == 0
-                && tip.count == 1
-                && tip.root.as_slice() == root.as_slice()
-                && book.store().tips() == [tip].as_slice(),
-        ),
-        Err(_) => Ok(false),
+// A commitment and its tip, and a call that failed.
+const ONE_TIP: Counts = Counts {
+    commits: 1,
+    tips: 1,
+    entries: 2,
+    waiting: 0,
+    faults: 1,
+};
+
+// Whether a tip is refused where this call fails, and two later ones are answered by one entry.
+fn tips_once(alloc: Global, failing: u64) -> Result<bool, Fail> {
+    let mut book = closed(alloc, failing)?;
+    if tip(&mut book).err() != Some(TipError::DiskFault) || counts_of(&book).tips != 0 {
+        return Ok(false);
     }
+    let first = is_tip(alloc, &mut book, 0, 1, TIP_ROOT)?;
+    let second = is_tip(alloc, &mut book, 0, 1, TIP_ROOT)?;
+    Ok(first && second && counts_of(&book) == ONE_TIP)
 }
 
 #[test]
 fn a_tip_that_failed_is_stored_once(rt: HostRuntime) -> Result<(), Fail> {
     let alloc = rt.alloc();
     for failing in 9..13 {
-        let mut book = closed(alloc, failing)?;
-        assert!(rt; book.tip() == Err(TipError::DiskFault) && book.store().tips().is_empty());
-        assert!(rt; is_tip(alloc, &mut book)? && is_tip(alloc, &mut book)?);
-        assert!(rt;
-            book.store().entries() == 2 && book.faults() == 1,
-            "call {failing}"
-        );
+        assert!(rt; tips_once(alloc, failing)?, "call {failing}");
     }
     Ok(())
+}
+
+// Whether an anchor is refused where this call fails, and the commitment is as before.
+fn is_refused(alloc: Global, book: &mut Memory, block: &Block) -> Result<bool, Fail> {
+    let anchored = anchor_in(book, block, 7)?;
+    let refused = matches!(anchored, Err(AnchorError::DiskFault));
+    Ok(refused && is_pending(alloc, book, COMMITMENT)? && counts_of(book) == ONE_TIP)
 }
 
 // Whether the bytes of a disk are those of the commitment, its tip and its anchor, and a book opened
@@ -100,23 +111,29 @@ fn is_whole(alloc: Global, bytes: &[u8]) -> Result<bool, Fail> {
     Ok(same && is_complete(alloc, &book, COMMITMENT, COMPLETE)?)
 }
 
+// Whether an anchor is refused where this call fails, and later stands once. The next call answers
+// `NoTip` where it finds the anchor stored, and else stores it.
+fn anchors_once(alloc: Global, failing: u64) -> Result<bool, Fail> {
+    let block = block_of(alloc, BLOCK)?;
+    let mut book = closed(alloc, failing)?;
+    if !is_tip(alloc, &mut book, 0, 1, TIP_ROOT)? || !is_refused(alloc, &mut book, &block)? {
+        return Ok(false);
+    }
+    let again = anchor_in(&mut book, &block, 7)?;
+    let right = match again {
+        Ok(_) => failing < 16,
+        Err(AnchorError::NoTip) => failing == 16,
+        Err(_) => false,
+    };
+    let complete = is_complete(alloc, &book, COMMITMENT, COMPLETE)?;
+    Ok(right && complete && is_whole(alloc, disk_under(book).bytes())?)
+}
+
 #[test]
 fn an_anchor_that_failed_is_stored_once(rt: HostRuntime) -> Result<(), Fail> {
     let alloc = rt.alloc();
-    let block = block_of(alloc, BLOCK)?;
     for failing in 13..17 {
-        let mut book = closed(alloc, failing)?;
-        assert!(rt; is_tip(alloc, &mut book)?);
-        let failed = anchor_in(&mut book, &block, 7)?;
-        assert!(rt; matches!(failed, Err(AnchorError::DiskFault)));
-        assert!(rt; is_pending(alloc, &book, COMMITMENT)? && book.faults() == 1);
-        // Behind the last sync the next call finds the anchor, and then no tip that is open.
-        let again = anchor_in(&mut book, &block, 7)?;
-        assert_eq!(rt; matches!(again, Err(AnchorError::NoTip)), failing == 16);
-        assert_eq!(rt; again.is_ok(), failing < 16);
-        assert!(rt; is_complete(alloc, &book, COMMITMENT, COMPLETE)?);
-        let disk = book.into_disk();
-        assert!(rt; is_whole(alloc, disk.bytes())?, "call {failing}");
+        assert!(rt; anchors_once(alloc, failing)?, "call {failing}");
     }
     Ok(())
 }
