@@ -8,6 +8,7 @@ use ots_calendar_runs::{
 };
 use ots_disk::{Choice, MemoryDisk};
 use std::alloc::Global;
+use std::process::Abort;
 use std::test::Fail;
 
 /// What is answered of the second commitment.
@@ -18,26 +19,48 @@ enum Answered {
     Complete,
 }
 
+// Closes the second round, and gives and anchors its tip.
+fn play(rt: &impl Abort, alloc: Global, book: &mut Memory) -> Result<(), Fail> {
+    put(book, &DIGEST, NONCE)?;
+    assert_eq!(rt; close(book, SECOND + 1)?, Ok(Some(1)));
+    assert!(rt; is_tip(alloc, book, 1, 1, LATER_TIP_ROOT)?);
+    let block = block_of(alloc, LATER_BLOCK)?;
+    assert_eq!(rt; anchor_in(book, &block, 8)?, Ok([1, 1, 8]));
+    Ok(())
+}
+
+// The book of these bytes.
+fn reopened(alloc: Global, bytes: &[u8]) -> Result<Memory, Fail> {
+    let disk = disk_of(alloc, bytes, &[])?;
+    book_of(alloc, disk)
+}
+
 // The disk of such a book, with all its calls.
-fn made(alloc: Global) -> Result<MemoryDisk, Fail> {
-    let mut book = book_of(alloc, disk_of(alloc, &bytes_of(alloc, JOURNAL)?, &[])?)?;
-    put(&mut book, &DIGEST, NONCE)?;
-    let closed = close(&mut book, SECOND + 1)? == Ok(Some(1));
-    let tip = is_tip(alloc, &mut book, 1, 1, LATER_TIP_ROOT)?;
-    let anchored = anchor_in(&mut book, &block_of(alloc, LATER_BLOCK)?, 8)?.is_ok();
-    if !closed || !tip || !anchored {
-        return Err(Fail::from("not anchored"));
-    }
+fn made(rt: &impl Abort, alloc: Global) -> Result<MemoryDisk, Fail> {
+    let bytes = bytes_of(alloc, JOURNAL)?;
+    let mut book = reopened(alloc, &bytes)?;
+    play(rt, alloc, &mut book)?;
     Ok(disk_under(book))
 }
 
-// The book of the image of this choice at this moment.
-fn left(alloc: Global, made: &MemoryDisk, moment: u64, choice: Choice) -> Result<Memory, Fail> {
+// An image of a crash.
+fn image_at(
+    alloc: Global,
+    made: &MemoryDisk,
+    moment: u64,
+    choice: Choice,
+) -> Result<Vec<u8>, Fail> {
     if moment < 1 || moment > made.calls().len() as u64 + 1 {
         return Err(Fail::from("no such moment"));
     }
     let image = made.image(moment, choice)?;
-    book_of(alloc, disk_of(alloc, image.items(), &[])?)
+    Ok(image.items().to_vec(alloc)?)
+}
+
+// The book of an image.
+fn left(alloc: Global, made: &MemoryDisk, moment: u64, choice: Choice) -> Result<Memory, Fail> {
+    let image = image_at(alloc, made, moment, choice)?;
+    reopened(alloc, &image)
 }
 
 // What a book answers of the second commitment, where it answers the first by its anchor.
@@ -57,11 +80,26 @@ fn answer_of(alloc: Global, book: &Memory) -> Result<Answered, Fail> {
     Err(Fail::from("another anchor"))
 }
 
-// Whether a book that was opened again goes on: it closes a round.
-fn goes_on(book: &mut Memory) -> Result<bool, Fail> {
+// What a book answers of the second commitment, once it is shown that it goes on: it closes a round.
+fn found(alloc: Global, book: &mut Memory) -> Result<Answered, Fail> {
+    let answer = answer_of(alloc, book)?;
     put(book, &DIGEST, NONCE)?;
     let next = counts_of(book).commits;
-    Ok(close(book, SECOND + 2)? == Ok(Some(next)))
+    if close(book, SECOND + 2)? != Ok(Some(next)) || answer_of(alloc, book)? != answer {
+        return Err(Fail::from("it does not go on"));
+    }
+    Ok(answer)
+}
+
+// The same of the book of an image.
+fn found_at(
+    alloc: Global,
+    made: &MemoryDisk,
+    moment: u64,
+    choice: Choice,
+) -> Result<Answered, Fail> {
+    let mut book = left(alloc, made, moment, choice)?;
+    found(alloc, &mut book)
 }
 
 /// What each image at some moments is to answer: where the gate is closed, and where it is open.
@@ -81,31 +119,23 @@ const CHOICES: [(Choice, bool); 5] = [
     (Choice::Fill(0xa5), true),
 ];
 
-// Whether each image at one of these moments has its answer, and goes on.
+// Each image at this moment has its answer.
 fn leave(
+    rt: &impl Abort,
     alloc: Global,
     made: &MemoryDisk,
-    moments: [u64; 2],
+    moment: u64,
     answers: Answers,
-) -> Result<bool, Fail> {
-    for moment in moments[0]..moments[1] {
-        if !leaves(alloc, made, moment, answers)? {
-            return Ok(false);
-        }
-    }
-    Ok(true)
-}
-
-// Whether each image at this moment has its answer, and goes on.
-fn leaves(alloc: Global, made: &MemoryDisk, moment: u64, answers: Answers) -> Result<bool, Fail> {
+) -> Result<(), Fail> {
     for (choice, open) in CHOICES {
-        let mut book = left(alloc, made, moment, choice)?;
         let wanted = if open { answers.open } else { answers.closed };
-        if answer_of(alloc, &book)? != wanted || !goes_on(&mut book)? {
-            return Ok(false);
-        }
+        assert_eq!(rt;
+            found_at(alloc, made, moment, choice)?,
+            wanted,
+            "moment {moment}"
+        );
     }
-    Ok(true)
+    Ok(())
 }
 
 // These answers, whatever becomes of the writes.
@@ -116,54 +146,71 @@ fn both(answer: Answered) -> Answers {
     }
 }
 
-#[test]
-fn a_crash_while_a_round_is_closed(rt: HostRuntime) -> Result<(), Fail> {
-    let alloc = rt.alloc();
-    let made = made(alloc)?;
-    assert_eq!(rt; made.calls().len(), 15);
+// The moments up to the first one behind `close`.
+fn close_moments(rt: &impl Abort, alloc: Global, made: &MemoryDisk) -> Result<(), Fail> {
     let stored = Answers {
         closed: Answered::Unknown,
         open: Answered::Pending,
     };
-    assert!(rt; leave(alloc, &made, [1, 6], both(Answered::Unknown))?);
-    assert!(rt; leave(alloc, &made, [6, 8], stored)?);
-    assert!(rt; leave(alloc, &made, [8, 9], both(Answered::Pending))?);
-    Ok(())
+    for moment in 1..6 {
+        leave(rt, alloc, made, moment, both(Answered::Unknown))?;
+    }
+    leave(rt, alloc, made, 6, stored)?;
+    leave(rt, alloc, made, 7, stored)?;
+    leave(rt, alloc, made, 8, both(Answered::Pending))
 }
 
-// Whether the book of each image at this moment gives the tip over the second commitment, and has
-// it once.
-fn give_the_tip(alloc: Global, made: &MemoryDisk, moment: u64) -> Result<bool, Fail> {
-    for (choice, _) in CHOICES {
-        let mut book = left(alloc, made, moment, choice)?;
-        if !is_tip(alloc, &mut book, 1, 1, LATER_TIP_ROOT)? || counts_of(&book).tips != 2 {
-            return Ok(false);
+#[test]
+fn a_crash_while_a_round_is_closed(rt: HostRuntime) -> Result<(), Fail> {
+    let made = made(&rt, rt.alloc())?;
+    close_moments(&rt, rt.alloc(), &made)
+}
+
+// Whether a book gives the tip over the second commitment, and has it once.
+fn has_the_tip(alloc: Global, book: &mut Memory) -> Result<bool, Fail> {
+    Ok(is_tip(alloc, book, 1, 1, LATER_TIP_ROOT)? && counts_of(book).tips == 2)
+}
+
+// The same of the book of an image.
+fn has_it_at(alloc: Global, made: &MemoryDisk, moment: u64, choice: Choice) -> Result<bool, Fail> {
+    let mut book = left(alloc, made, moment, choice)?;
+    has_the_tip(alloc, &mut book)
+}
+
+// The moments from the first in `tip` to the first one behind it.
+fn tip_moments(rt: &impl Abort, alloc: Global, made: &MemoryDisk) -> Result<(), Fail> {
+    for moment in 8..13 {
+        leave(rt, alloc, made, moment, both(Answered::Pending))?;
+        for (choice, _) in CHOICES {
+            assert!(rt; has_it_at(alloc, made, moment, choice)?, "moment {moment}");
         }
     }
-    Ok(true)
+    Ok(())
 }
 
 #[test]
 fn a_crash_while_a_tip_is_stored(rt: HostRuntime) -> Result<(), Fail> {
-    let alloc = rt.alloc();
-    let made = made(alloc)?;
-    assert!(rt; leave(alloc, &made, [8, 13], both(Answered::Pending))?);
-    for moment in 8..13 {
-        assert!(rt; give_the_tip(alloc, &made, moment)?, "moment {moment}");
-    }
+    let made = made(&rt, rt.alloc())?;
+    tip_moments(&rt, rt.alloc(), &made)
+}
+
+// The moments from the first in `anchor` to now.
+fn anchor_moments(rt: &impl Abort, alloc: Global, made: &MemoryDisk) -> Result<(), Fail> {
+    let stored = Answers {
+        closed: Answered::Pending,
+        open: Answered::Complete,
+    };
+    leave(rt, alloc, made, 12, both(Answered::Pending))?;
+    leave(rt, alloc, made, 13, both(Answered::Pending))?;
+    leave(rt, alloc, made, 14, stored)?;
+    leave(rt, alloc, made, 15, stored)?;
+    leave(rt, alloc, made, 16, both(Answered::Complete))?;
+    assert_eq!(rt; made.calls().len(), 15);
     Ok(())
 }
 
 #[test]
 fn a_crash_while_an_anchor_is_stored(rt: HostRuntime) -> Result<(), Fail> {
-    let alloc = rt.alloc();
-    let made = made(alloc)?;
-    let anchored = Answers {
-        closed: Answered::Pending,
-        open: Answered::Complete,
-    };
-    assert!(rt; leave(alloc, &made, [12, 14], both(Answered::Pending))?);
-    assert!(rt; leave(alloc, &made, [14, 16], anchored)?);
-    assert!(rt; leave(alloc, &made, [16, 17], both(Answered::Complete))?);
-    Ok(())
+    let made = made(&rt, rt.alloc())?;
+    anchor_moments(&rt, rt.alloc(), &made)
 }

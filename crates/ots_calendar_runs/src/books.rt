@@ -27,6 +27,11 @@ pub fn bytes_of(alloc: Global, digits: &str) -> Result<Vec<u8>, Fail> {
     Ok(decode(alloc, digits)?)
 }
 
+/// Whether these digits write the bytes.
+pub fn is_written(alloc: Global, bytes: &[u8], digits: &str) -> Result<bool, Fail> {
+    Ok(bytes_of(alloc, digits)?.as_slice() == bytes)
+}
+
 /// The calendar's key.
 pub fn key() -> Result<Key, Fail> {
     Ok(Key::new(b"Jefe")?)

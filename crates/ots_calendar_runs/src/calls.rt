@@ -1,11 +1,10 @@
 // Calls of a book, one each.
-use crate::books::{Memory, bytes_of, key, uri};
+use crate::books::{Memory, is_written, key, uri};
 use ots_block::Block;
-use ots_calendar::{AnchorError, Leaf, Receipt, Taken, Ticket, TipError};
+use ots_calendar::{AnchorError, Leaf, PutError, Taken, Ticket, TipError};
 use ots_disk::MemoryDisk;
 use ots_journal::AppendError;
-use ots_store::{Anchor, Tip};
-use ots_tree::Tree;
+use ots_store::Tip;
 use std::alloc::Global;
 use std::test::Fail;
 
@@ -51,6 +50,12 @@ pub fn put(book: &mut Memory, digest: &[u8], nonce: [u8; 16]) -> Result<Ticket, 
     Ok(book.put(Leaf::new(digest)?, nonce)?)
 }
 
+/// Whether one digest more is refused since too many wait.
+pub fn is_busy(book: &mut Memory, digest: &[u8]) -> Result<bool, Fail> {
+    let put = book.put(Leaf::new(digest)?, NONCE);
+    Ok(matches!(put, Err(PutError::Busy)))
+}
+
 /// Closes the round at this second.
 pub fn close(book: &mut Memory, second: u32) -> Result<Result<Option<u64>, AppendError>, Fail> {
     Ok(book.close(second, &key()?))
@@ -69,34 +74,25 @@ pub fn is_tip(
     count: u64,
     root: &str,
 ) -> Result<bool, Fail> {
-    let wanted = bytes_of(alloc, root)?;
     match tip(book) {
-        Ok(tip) => {
-            let same = tip.root.as_slice() == wanted.as_slice();
-            Ok(same && tip.first == first && tip.count == count)
-        }
-        Err(_) => Ok(false),
+        Ok(tip) if tip.first == first && tip.count == count => is_written(alloc, &tip.root, root),
+        _ => Ok(false),
     }
 }
 
-/// Anchors a tip in a block at this height.
+/// Anchors a tip in a block at this height: the first of its commitments, how many there are, and
+/// the height.
 pub fn anchor_in(
     book: &mut Memory,
     block: &Block,
     height: u32,
-) -> Result<Result<Anchor, AnchorError>, Fail> {
+) -> Result<Result<[u64; 3], AnchorError>, Fail> {
     if block.count() < 1 || block.count() > MOST {
         return Err(Fail::from("no such block"));
     }
-    Ok(book.anchor(block, height as u64))
-}
-
-/// The tree and the receipt of a ticket whose round is closed.
-pub fn take(alloc: Global, book: &mut Memory, ticket: &Ticket) -> Result<(Tree, Receipt), Fail> {
-    match book.take(ticket, &uri(alloc)?)? {
-        Taken::Settled(tree, receipt) => Ok((tree, receipt)),
-        Taken::Waiting => Err(Fail::from("it waits")),
-        Taken::Unknown => Err(Fail::from("no such ticket")),
+    match book.anchor(block, height as u64) {
+        Ok(anchor) => Ok(Ok([anchor.first, anchor.count, anchor.height])),
+        Err(why) => Ok(Err(why)),
     }
 }
 
@@ -115,17 +111,4 @@ pub fn is_gone(alloc: Global, book: &mut Memory, ticket: &Ticket) -> Result<bool
 /// Gives a ticket up.
 pub fn withdraw(book: &mut Memory, ticket: &Ticket) -> bool {
     book.withdraw(ticket)
-}
-
-/// Whether a receipt is of the commitment at this index, which is stored there.
-pub fn stands(
-    alloc: Global,
-    book: &Memory,
-    receipt: &Receipt,
-    index: u64,
-    commitment: &str,
-) -> Result<bool, Fail> {
-    let wanted = bytes_of(alloc, commitment)?;
-    let stored = index < book.store().commits() && book.store().commit(index) == receipt.commitment;
-    Ok(stored && receipt.index == index && receipt.commitment.as_slice() == wanted.as_slice())
 }

@@ -6,14 +6,16 @@ mod answers;
 mod books;
 mod calls;
 mod values;
+mod ways;
 
-pub use answers::{is_complete, is_pending, is_unknown, led_on, led_to, spelled};
-pub use books::{Memory, block_of, book_of, bytes_of, disk_of, key, new_book, uri};
+pub use answers::{is_complete, is_pending, is_unknown};
+pub use books::{Memory, block_of, book_of, bytes_of, disk_of, is_written, key, new_book, uri};
 pub use calls::{
-    Counts, NONCE, SECOND, anchor_in, close, counts_of, disk_under, is_gone, is_tip, is_waiting,
-    put, stands, take, tip, withdraw,
+    Counts, NONCE, SECOND, anchor_in, close, counts_of, disk_under, is_busy, is_gone, is_tip,
+    is_waiting, put, tip, withdraw,
 };
 pub use values::{
     BLOCK, BLOCK_ROOT, COMMITMENT, COMPLETE, DIGEST, JOURNAL, LATER, LATER_BLOCK, LATER_COMPLETE,
     LATER_TIP_ROOT, TICKET_TREE, TIP_ROOT,
 };
+pub use ways::{Given, give, is_given, leads_to};

@@ -6,11 +6,12 @@ use ots_block::Block;
 use ots_calendar::{AnchorError, TipError};
 use ots_calendar_runs::{
     BLOCK, COMMITMENT, COMPLETE, Counts, DIGEST, JOURNAL, Memory, NONCE, SECOND, TIP_ROOT,
-    anchor_in, block_of, book_of, bytes_of, close, counts_of, disk_of, disk_under, is_complete,
-    is_pending, is_tip, is_unknown, new_book, put, stands, take, tip,
+    anchor_in, block_of, close, counts_of, disk_under, give, is_complete, is_pending, is_tip,
+    is_unknown, is_written, new_book, put, tip,
 };
 use ots_journal::AppendError;
 use std::alloc::Global;
+use std::process::Abort;
 use std::test::Fail;
 
 // How many of each there are where one digest waits and this many calls have failed.
@@ -24,47 +25,47 @@ fn still_waits(faults: u64) -> Counts {
     }
 }
 
-// Whether so many closes are refused, one for each of these calls that fail, and leave the digest
-// waiting; and the next one stores its commitment at this index.
-fn settles_after(alloc: Global, failing: &[u64], refused: u64, index: u64) -> Result<bool, Fail> {
-    let mut book = new_book(alloc, failing)?;
-    let ticket = put(&mut book, &DIGEST, NONCE)?;
+// So many closes are refused and leave the digest waiting; the next one stores its commitment at this
+// index.
+fn close_again(
+    rt: &impl Abort,
+    alloc: Global,
+    book: &mut Memory,
+    refused: u64,
+    index: u64,
+) -> Result<(), Fail> {
+    let ticket = put(book, &DIGEST, NONCE)?;
     for faults in 0..refused {
-        let closed = close(&mut book, SECOND)?;
-        if closed != Err(AppendError::DiskFault) || counts_of(&book) != still_waits(faults + 1) {
-            return Ok(false);
-        }
+        assert_eq!(rt; close(book, SECOND)?, Err(AppendError::DiskFault));
+        assert_eq!(rt; counts_of(book), still_waits(faults + 1));
     }
-    if !is_unknown(alloc, &book, COMMITMENT)? || close(&mut book, SECOND)? != Ok(Some(index)) {
-        return Ok(false);
-    }
-    let (_, receipt) = take(alloc, &mut book, &ticket)?;
-    stands(alloc, &book, &receipt, index, COMMITMENT)
+    assert!(rt; is_unknown(alloc, book, COMMITMENT)?);
+    assert_eq!(rt; close(book, SECOND)?, Ok(Some(index)));
+    let receipt = give(alloc, book, &ticket)?.receipt;
+    assert!(rt; is_written(alloc, &receipt.commitment, COMMITMENT)? && receipt.index == index);
+    Ok(())
+}
+
+// These calls of the disk fail.
+fn fail_close(
+    rt: &impl Abort,
+    alloc: Global,
+    failing: &[u64],
+    refused: u64,
+    index: u64,
+) -> Result<(), Fail> {
+    let mut book = new_book(alloc, failing)?;
+    close_again(rt, alloc, &mut book, refused, index)
 }
 
 #[test]
 fn a_close_that_fails_leaves_its_ticket_waiting(rt: HostRuntime) -> Result<(), Fail> {
-    let alloc = rt.alloc();
     for (failing, index) in [(5, 0), (6, 0), (7, 0), (8, 1)] {
-        assert!(rt;
-            settles_after(alloc, &[failing], 1, index)?,
-            "call {failing}"
-        );
+        fail_close(&rt, rt.alloc(), &[failing], 1, index)?;
     }
     // The next close begins with a read of the gate, which fails too.
-    assert!(rt; settles_after(alloc, &[5, 6], 2, 0)?);
-    assert!(rt; settles_after(alloc, &[8, 9], 2, 1)?);
-    Ok(())
-}
-
-// The digest alone in its round, on a disk of which this call fails, behind the first eight.
-fn closed(alloc: Global, failing: u64) -> Result<Memory, Fail> {
-    let mut book = new_book(alloc, &[failing])?;
-    put(&mut book, &DIGEST, NONCE)?;
-    if close(&mut book, SECOND)? != Ok(Some(0)) {
-        return Err(Fail::from("not closed"));
-    }
-    Ok(book)
+    fail_close(&rt, rt.alloc(), &[5, 6], 2, 0)?;
+    fail_close(&rt, rt.alloc(), &[8, 9], 2, 1)
 }
 
 // A commitment and its tip, and a call that failed.
@@ -76,64 +77,68 @@ const ONE_TIP: Counts = Counts {
     faults: 1,
 };
 
-// Whether a tip is refused where this call fails, and two later ones are answered by one entry.
-fn tips_once(alloc: Global, failing: u64) -> Result<bool, Fail> {
-    let mut book = closed(alloc, failing)?;
-    if tip(&mut book).err() != Some(TipError::DiskFault) || counts_of(&book).tips != 0 {
-        return Ok(false);
-    }
-    let first = is_tip(alloc, &mut book, 0, 1, TIP_ROOT)?;
-    let second = is_tip(alloc, &mut book, 0, 1, TIP_ROOT)?;
-    Ok(first && second && counts_of(&book) == ONE_TIP)
+// The tip over the digest alone in its round is refused, and then given twice by one entry.
+fn tip_again(rt: &impl Abort, alloc: Global, book: &mut Memory) -> Result<(), Fail> {
+    put(book, &DIGEST, NONCE)?;
+    assert_eq!(rt; close(book, SECOND)?, Ok(Some(0)));
+    assert_eq!(rt; tip(book), Err(TipError::DiskFault));
+    assert_eq!(rt; counts_of(book).tips, 0);
+    assert!(rt; is_tip(alloc, book, 0, 1, TIP_ROOT)? && is_tip(alloc, book, 0, 1, TIP_ROOT)?);
+    assert_eq!(rt; counts_of(book), ONE_TIP);
+    Ok(())
+}
+
+// This call of the disk fails.
+fn fail_tip(rt: &impl Abort, alloc: Global, failing: u64) -> Result<(), Fail> {
+    let mut book = new_book(alloc, &[failing])?;
+    tip_again(rt, alloc, &mut book)
 }
 
 #[test]
 fn a_tip_that_failed_is_stored_once(rt: HostRuntime) -> Result<(), Fail> {
-    let alloc = rt.alloc();
     for failing in 9..13 {
-        assert!(rt; tips_once(alloc, failing)?, "call {failing}");
+        fail_tip(&rt, rt.alloc(), failing)?;
     }
     Ok(())
 }
 
-// Whether an anchor is refused where this call fails, and the commitment is as before.
-fn is_refused(alloc: Global, book: &mut Memory, block: &Block) -> Result<bool, Fail> {
-    let anchored = anchor_in(book, block, 7)?;
-    let refused = matches!(anchored, Err(AnchorError::DiskFault));
-    Ok(refused && is_pending(alloc, book, COMMITMENT)? && counts_of(book) == ONE_TIP)
-}
-
-// Whether the bytes of a disk are those of the commitment, its tip and its anchor, and a book opened
-// on them answers by that anchor.
-fn is_whole(alloc: Global, bytes: &[u8]) -> Result<bool, Fail> {
-    let same = bytes == bytes_of(alloc, JOURNAL)?.as_slice();
-    let book = book_of(alloc, disk_of(alloc, bytes, &[])?)?;
-    Ok(same && is_complete(alloc, &book, COMMITMENT, COMPLETE)?)
-}
-
-// Whether an anchor is refused where this call fails, and later stands once. The next call answers
-// `NoTip` where it finds the anchor stored, and else stores it.
-fn anchors_once(alloc: Global, failing: u64) -> Result<bool, Fail> {
-    let block = block_of(alloc, BLOCK)?;
-    let mut book = closed(alloc, failing)?;
-    if !is_tip(alloc, &mut book, 0, 1, TIP_ROOT)? || !is_refused(alloc, &mut book, &block)? {
-        return Ok(false);
-    }
-    let again = anchor_in(&mut book, &block, 7)?;
-    let right = match again {
-        Ok(_) => failing < 16,
-        Err(AnchorError::NoTip) => failing == 16,
-        Err(_) => false,
+// The anchor is refused. It may be stored, which the next call finds: then no tip is open.
+fn anchor_again(
+    rt: &impl Abort,
+    alloc: Global,
+    book: &mut Memory,
+    block: &Block,
+    stored: bool,
+) -> Result<(), Fail> {
+    put(book, &DIGEST, NONCE)?;
+    assert_eq!(rt; close(book, SECOND)?, Ok(Some(0)));
+    assert!(rt; is_tip(alloc, book, 0, 1, TIP_ROOT)?);
+    assert_eq!(rt; anchor_in(book, block, 7)?, Err(AnchorError::DiskFault));
+    assert!(rt; is_pending(alloc, book, COMMITMENT)?);
+    let again = if stored {
+        Err(AnchorError::NoTip)
+    } else {
+        Ok([0, 1, 7])
     };
-    let complete = is_complete(alloc, &book, COMMITMENT, COMPLETE)?;
-    Ok(right && complete && is_whole(alloc, disk_under(book).bytes())?)
+    assert_eq!(rt; anchor_in(book, block, 7)?, again);
+    assert!(rt; is_complete(alloc, book, COMMITMENT, COMPLETE)?);
+    Ok(())
+}
+
+// This call of the disk fails. Then the bytes are those of the commitment, its tip and its anchor.
+fn fail_anchor(rt: &impl Abort, alloc: Global, failing: u64) -> Result<(), Fail> {
+    let block = block_of(alloc, BLOCK)?;
+    let mut book = new_book(alloc, &[failing])?;
+    anchor_again(rt, alloc, &mut book, &block, failing == 16)?;
+    let disk = disk_under(book);
+    assert!(rt; is_written(alloc, disk.bytes(), JOURNAL)?, "call {failing}");
+    Ok(())
 }
 
 #[test]
 fn an_anchor_that_failed_is_stored_once(rt: HostRuntime) -> Result<(), Fail> {
-    let alloc = rt.alloc();
     for failing in 13..17 {
-        assert!(rt; anchors_once(alloc, failing)?, "call {failing}");
+        fail_anchor(&rt, rt.alloc(), failing)?;
     }
     Ok(())
 }

@@ -7,6 +7,8 @@ mod anchors;
 #[cfg(test)]
 mod failing;
 #[cfg(test)]
+mod roots;
+#[cfg(test)]
 mod rounds;
 #[cfg(test)]
 mod values;

@@ -1,48 +1,29 @@
 // Rounds and their tickets.
 use crate::values::FULL;
-use ots_calendar::{BadKey, Key, Leaf, PutError, Ticket};
+use ots_calendar::{BadKey, Key, Ticket};
 use ots_calendar_runs::{
-    COMMITMENT, Counts, DIGEST, Memory, NONCE, SECOND, TICKET_TREE, bytes_of, close, counts_of,
-    disk_under, is_gone, is_waiting, led_to, new_book, put, spelled, stands, take, withdraw,
+    Counts, DIGEST, Memory, NONCE, SECOND, TICKET_TREE, close, counts_of, disk_under, give,
+    is_busy, is_given, is_gone, is_waiting, is_written, new_book, put, withdraw,
 };
 use std::alloc::Global;
+use std::process::Abort;
 use std::test::Fail;
 
-// The digest of a number: its 8 bytes, the high byte first.
-fn digest_of(number: u64) -> [u8; 8] {
-    number.to_be_bytes()
-}
-
-// A book in which 65,536 digests wait, and their tickets.
-fn full_house(alloc: Global) -> Result<(Memory, Vec<Ticket>), Fail> {
-    let mut book = new_book(alloc, &[])?;
+// Puts 65,536 digests, each the 8 bytes of its number, the high byte first.
+fn fill(alloc: Global, book: &mut Memory) -> Result<Vec<Ticket>, Fail> {
     let mut tickets = Vec::new(alloc);
-    for number in 0..65_536 {
-        tickets.push(put(&mut book, &digest_of(number), NONCE)?)?;
+    for number in 0..65_536u64 {
+        tickets.push(put(book, &number.to_be_bytes(), NONCE)?)?;
     }
-    Ok((book, tickets))
+    Ok(tickets)
 }
 
-// Whether one digest more is refused.
-fn is_busy(book: &mut Memory) -> Result<bool, Fail> {
-    let one_more = book.put(Leaf::new(&DIGEST)?, NONCE);
-    Ok(matches!(one_more, Err(PutError::Busy)))
-}
-
-// Whether the ticket of this number is given in 37 tokens that lead from its digest to the round's
-// commitment, and is then gone.
-fn is_given(
-    alloc: Global,
-    book: &mut Memory,
-    tickets: &[Ticket],
-    number: u64,
-) -> Result<bool, Fail> {
-    let ticket = tickets.get(number as usize).ok_or("no ticket")?;
-    let (tree, receipt) = take(alloc, book, ticket)?;
-    let reached = led_to(alloc, &tree, &digest_of(number))?;
-    let leads = reached.as_slice() == bytes_of(alloc, FULL)?.as_slice();
-    let stands = stands(alloc, book, &receipt, 0, FULL)?;
-    Ok(leads && stands && tree.tokens().len() == 37 && is_gone(alloc, book, ticket)?)
+// Whether a ticket of a full round is given, in a tree of 37 tokens that leads to its commitment, and
+// is then gone.
+fn is_in_full_round(alloc: Global, book: &mut Memory, ticket: &Ticket) -> Result<bool, Fail> {
+    let given = give(alloc, book, ticket)?;
+    let full = is_written(alloc, &given.receipt.commitment, FULL)?;
+    Ok(full && given.receipt.index == 0 && given.tokens == 37 && is_gone(alloc, book, ticket)?)
 }
 
 // A round is stored, and nothing waits.
@@ -54,59 +35,63 @@ const ONE_ROUND: Counts = Counts {
     faults: 0,
 };
 
+// Closes a full round, and takes some of its tickets.
+fn close_full(rt: &impl Abort, alloc: Global, book: &mut Memory) -> Result<(), Fail> {
+    let tickets = fill(alloc, book)?;
+    assert!(rt; is_busy(book, &DIGEST)?);
+    assert_eq!(rt; close(book, SECOND)?, Ok(Some(0)));
+    assert_eq!(rt; close(book, SECOND)?, Ok(None));
+    assert_eq!(rt; counts_of(book), ONE_ROUND);
+    for number in [0, 1, 40_000, 65_535] {
+        let ticket = tickets.get(number).ok_or("no ticket")?;
+        assert!(rt; is_in_full_round(alloc, book, ticket)?, "ticket {number}");
+    }
+    Ok(())
+}
+
 #[test]
 fn one_commitment_settles_a_full_round(rt: HostRuntime) -> Result<(), Fail> {
-    let alloc = rt.alloc();
-    let (mut book, tickets) = full_house(alloc)?;
-    assert!(rt; is_busy(&mut book)?);
-    assert_eq!(rt; close(&mut book, SECOND)?, Ok(Some(0)));
-    assert_eq!(rt; close(&mut book, SECOND)?, Ok(None));
-    assert_eq!(rt; counts_of(&book), ONE_ROUND);
-    for number in [0, 1, 40_000, 65_535] {
-        assert!(rt;
-            is_given(alloc, &mut book, &tickets, number)?,
-            "ticket {number}"
-        );
-    }
+    let mut book = new_book(rt.alloc(), &[])?;
+    close_full(&rt, rt.alloc(), &mut book)?;
     // It takes four calls to open the book and four to close the round.
     assert_eq!(rt; disk_under(book).calls().len(), 8);
     Ok(())
 }
 
-// Whether the tree that is given for a ticket is that of the digest alone in its round, which is
-// stored at this index.
-fn is_alone(alloc: Global, book: &mut Memory, ticket: &Ticket, index: u64) -> Result<bool, Fail> {
-    let (tree, receipt) = take(alloc, book, ticket)?;
-    let stands = stands(alloc, book, &receipt, index, COMMITMENT)?;
-    Ok(stands && spelled(alloc, &tree, TICKET_TREE)?)
+// One of two tickets is withdrawn, and the other's round is closed.
+fn withdraw_one(rt: &impl Abort, alloc: Global, book: &mut Memory) -> Result<(), Fail> {
+    let left = put(book, &DIGEST, NONCE)?;
+    let given_up = put(book, &DIGEST, NONCE)?;
+    assert!(rt; left.number != given_up.number);
+    assert!(rt; withdraw(book, &given_up) && !withdraw(book, &given_up));
+    assert!(rt; is_gone(alloc, book, &given_up)? && is_waiting(alloc, book, &left)?);
+    assert_eq!(rt; close(book, SECOND)?, Ok(Some(0)));
+    // The tree of the digest alone in its round.
+    assert!(rt; is_given(alloc, book, &left, TICKET_TREE)? && is_gone(alloc, book, &left)?);
+    Ok(())
 }
 
 #[test]
 fn a_ticket_that_is_withdrawn_leaves_the_other(rt: HostRuntime) -> Result<(), Fail> {
-    let alloc = rt.alloc();
-    let mut book = new_book(alloc, &[])?;
-    let left = put(&mut book, &DIGEST, NONCE)?;
-    let given_up = put(&mut book, &DIGEST, NONCE)?;
-    assert!(rt; left.number != given_up.number);
-    assert!(rt; withdraw(&mut book, &given_up) && !withdraw(&mut book, &given_up));
-    assert!(rt; is_gone(alloc, &mut book, &given_up)? && is_waiting(alloc, &mut book, &left)?);
-    assert_eq!(rt; close(&mut book, SECOND)?, Ok(Some(0)));
-    assert!(rt; is_alone(alloc, &mut book, &left, 0)? && is_gone(alloc, &mut book, &left)?);
+    let mut book = new_book(rt.alloc(), &[])?;
+    withdraw_one(&rt, rt.alloc(), &mut book)
+}
+
+// One of two tickets whose rounds are closed is withdrawn. Their commitments are the same.
+fn withdraw_settled(rt: &impl Abort, alloc: Global, book: &mut Memory) -> Result<(), Fail> {
+    let first = put(book, &DIGEST, NONCE)?;
+    assert_eq!(rt; close(book, SECOND)?, Ok(Some(0)));
+    let second = put(book, &DIGEST, NONCE)?;
+    assert_eq!(rt; close(book, SECOND)?, Ok(Some(1)));
+    assert!(rt; withdraw(book, &first) && is_gone(alloc, book, &first)?);
+    assert_eq!(rt; give(alloc, book, &second)?.receipt.index, 1);
     Ok(())
 }
 
 #[test]
 fn a_ticket_whose_round_is_closed_may_be_withdrawn(rt: HostRuntime) -> Result<(), Fail> {
-    let alloc = rt.alloc();
-    let mut book = new_book(alloc, &[])?;
-    let first = put(&mut book, &DIGEST, NONCE)?;
-    assert_eq!(rt; close(&mut book, SECOND)?, Ok(Some(0)));
-    // The same commitment once more.
-    let second = put(&mut book, &DIGEST, NONCE)?;
-    assert_eq!(rt; close(&mut book, SECOND)?, Ok(Some(1)));
-    assert!(rt; withdraw(&mut book, &first) && is_gone(alloc, &mut book, &first)?);
-    assert!(rt; is_alone(alloc, &mut book, &second, 1)?);
-    Ok(())
+    let mut book = new_book(rt.alloc(), &[])?;
+    withdraw_settled(&rt, rt.alloc(), &mut book)
 }
 
 #[test]
