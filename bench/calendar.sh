@@ -1,0 +1,58 @@
+#!/bin/sh
+# Measures a calendar's book on a real file: a round of 16,384 digests and one of 65,536; 250 rounds of 100 digests and
+# 1,000; a tip over one million commitments and over four; and an answer under an anchor of 250,000 commitments and of
+# 1,000,000. Each is run three times. It needs rt, python3 and 1 GB of room in FOLDER (the first word, else a temporary
+# folder). The proved program is built in a folder of its own, outside the repository; it takes what the crates keep in
+# out/, so prove ots_calendar first.
+set -eu
+here=$(cd "$(dirname "$0")" && pwd)
+work=$(mktemp -d -p "${1:-${TMPDIR:-/tmp}}")
+trap 'rm -rf "$work"' EXIT
+speed="$work/crates/calendar_speed"
+mkdir -p "$speed/src" "$speed/specs"
+for name in ots_base ots_outside ots_varint ots_ripemd ots_ops ots_attest ots_tree ots_merkle ots_bitcoin ots_block \
+    ots_anchor ots_disk ots_journal ots_store ots_round ots_tickets ots_calendar; do
+    cp -r "$here/../crates/$name" "$work/crates/$name"
+    grep "^$name:" "$here/../crates.txt" >> "$work/crates.txt"
+done
+echo 'calendar_speed: ots_calendar ots_store ots_journal ots_disk ots_attest anyhow' >> "$work/crates.txt"
+cp "$here/calendar/main.rt.in" "$speed/src/main.rt"
+: > "$speed/specs/Lib.antt"
+(cd "$speed" && rt run -- round "$work/first" 100 > "$work/log" 2>&1) || {
+    cat "$work/log"
+    exit 1
+}
+proved="$speed/out/calendar_speed"
+
+# Three runs on a file that is not there.
+anew() {
+    for run in 1 2 3; do
+        rm -f "$work/new"
+        echo "$*: $("$proved" "$1" "$work/new" "$2")"
+    done
+}
+
+# Three runs on copies of a file.
+upon() {
+    for run in 1 2 3; do
+        cp "$work/made" "$work/copy"
+        echo "$*: $("$proved" "$1" "$work/copy" "$2")"
+    done
+}
+
+echo 'microseconds of processor time: the puts, the close, 100 takes'
+anew round 16384
+anew round 65536
+echo 'all rounds, and by the clock'
+anew rounds 250
+anew rounds 1000
+echo 'opening the store, the book, the first tip, the second'
+for count in 1000000 4000000; do
+    python3 "$here/calendar/journal.py" "$work/made" "$count"
+    upon tip 0 "$count"
+done
+echo 'opening, and the mean of 20 answers'
+for count in 250000 1000000; do
+    python3 "$here/calendar/journal.py" "$work/made" "$count" anchored
+    upon ask 20 "$count"
+done
