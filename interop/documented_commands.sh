@@ -4,15 +4,17 @@
 # README.md, docs/GUIDE.md, docs/FORMAT.md: in a block between ``` a line that begins with "$ " is a command,
 # and the lines behind it, up to the next one, are what it prints. A block of the language sh is one command;
 # its lines "# prints TEXT" are what it prints. Blocks that ask a node are left out. man/ots.1: the same of its
-# literal blocks. The program has to be built (./run ots); xxd and openssl have to be there. It ends with 0 where
+# literal blocks. The programs have to be built (./run ots, ./run otsd); xxd and openssl have to be there. It ends with 0 where
 # all is as written, with 1 on a difference, and with 70 where the program is not there.
 set -u
 
 top=$(CDPATH='' cd -- "$(dirname -- "$0")/.." && pwd) || exit 70
-if [ ! -x "$top/build/ots" ]; then
-    echo "build/ots is not there: ./run ots builds it" >&2
-    exit 70
-fi
+for program in ots otsd; do
+    if [ ! -x "$top/build/$program" ]; then
+        echo "build/$program is not there: ./run $program builds it" >&2
+        exit 70
+    fi
+done
 work=$(mktemp -d) || exit 70
 trap 'rm -rf "$work"' EXIT
 trap 'exit 70' HUP INT TERM
@@ -76,6 +78,7 @@ make_folder() {
     cp "$top/examples/coinbase" "$1/file"
     cp "$top/examples/coinbase.ots" "$1/file.ots"
     ln -s "$top/build/ots" "$1/bin/ots"
+    ln -s "$top/build/otsd" "$1/bin/otsd"
     for script in run install; do
         printf '#!/bin/sh\nexec "%s/%s" "$@"\n' "$top" "$script" >"$1/$script"
         chmod +x "$1/$script"

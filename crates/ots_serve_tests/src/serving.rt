@@ -1,0 +1,98 @@
+// What connections are answered.
+use crate::bytes::{BLOCK, COMPLETE, QUESTION, STORED, TIP, TREE};
+use crate::runs::{On, SERVE_ALL, SERVE_IN_TURN, SERVE_ONE, bytes_of, reply, run};
+use std::alloc::Global;
+use std::sync::Wait;
+use std::test::Fail;
+use std::thread::Threads;
+
+// The question for a commitment that is not stored.
+const QUERY: &[u8] = b"GET /timestamp/00 HTTP/1.1\r\n\r\n";
+
+/// The digest of the bytes 0 to 31.
+pub const DIGEST: &[u8] =
+    b"POST /digest HTTP/1.1\r\nContent-Length: 32\r\n\r\n\x00\x01\x02\x03\x04\x05\x06\x07\x08\x09\x0a\x0b\x0c\x0d\x0e\x0f\x10\x11\x12\x13\x14\x15\x16\x17\x18\x19\x1a\x1b\x1c\x1d\x1e\x1f";
+
+/// A reply with a tree.
+pub fn tree_reply(alloc: Global, tree: &str) -> Result<Vec<u8>, Fail> {
+    reply(
+        alloc,
+        "200 OK",
+        "application/octet-stream",
+        &bytes_of(alloc, tree)?,
+    )
+}
+
+#[test]
+fn one_digest_is_stamped_and_the_other_link_is_left(rt: HostRuntime) -> Result<(), Fail> {
+    let ended = run(&rt, &SERVE_ONE, &On::new(&[], DIGEST, 2))?;
+    assert!(rt; ended.is(0, "listening 14788\nserved 1\n"));
+    assert_eq!(rt; ended.links(), (1, 1, 1));
+    assert!(rt; ended.reply(0) == tree_reply(rt.alloc(), TREE)?.as_slice());
+    assert!(rt; ended.disk.bytes() == bytes_of(rt.alloc(), STORED)?.as_slice());
+    Ok(())
+}
+
+#[test]
+fn all_links_are_answered_and_then_serving_is_over(rt: HostRuntime) -> Result<(), Fail> {
+    let ended = run(&rt, &SERVE_ALL, &On::new(&[], QUERY, 5))?;
+    assert!(rt; ended.is(0, "listening 14788\nserved 5\n"));
+    assert_eq!(rt; ended.links(), (5, 5, 0));
+    let wanted = reply(rt.alloc(), "404 Not Found", "text/plain", b"not found\n")?;
+    for index in 0..5 {
+        assert!(rt; ended.reply(index) == wanted.as_slice());
+    }
+    assert_eq!(rt; ended.disk.bytes().len(), 9);
+    Ok(())
+}
+
+#[test]
+fn a_commitment_is_pending_and_then_complete(rt: HostRuntime) -> Result<(), Fail> {
+    let stored = bytes_of(rt.alloc(), STORED)?;
+    let pending = run(&rt, &SERVE_ALL, &On::new(&stored, QUESTION, 1))?;
+    let wanted = reply(rt.alloc(), "404 Not Found", "text/plain", b"pending\n")?;
+    assert!(rt; pending.reply(0) == wanted.as_slice());
+    let anchored = anchored(&rt, &stored)?;
+    let complete = run(&rt, &SERVE_ALL, &On::new(&anchored, QUESTION, 1))?;
+    assert!(rt; complete.reply(0) == tree_reply(rt.alloc(), COMPLETE)?.as_slice());
+    Ok(())
+}
+
+// The journal with its tip, anchored in the block.
+fn anchored(
+    rt: &(impl AllocGlobal + Threads + Wait + Sync),
+    journal: &[u8],
+) -> Result<Vec<u8>, Fail> {
+    let tip = run(rt, &["j", "tip"], &On::new(journal, &[], 0))?;
+    if !tip.is(0, TIP) {
+        return Err(Fail::from("another tip"));
+    }
+    let block = bytes_of(rt.alloc(), BLOCK)?;
+    let mut on = On::new(tip.disk.bytes(), &[], 0);
+    on.file = &block;
+    let anchored = run(rt, &["j", "anchor", "k", "--height", "7"], &on)?;
+    if !anchored.is(0, "anchored 0 1 block 7\n") {
+        return Err(Fail::from("no anchor"));
+    }
+    Ok(anchored.disk.bytes().to_vec(rt.alloc())?)
+}
+
+// A disk that fails is told to the connection, and serving goes on.
+#[test]
+fn a_failing_disk_does_not_end_serving(rt: HostRuntime) -> Result<(), Fail> {
+    let well = run(&rt, &SERVE_IN_TURN, &On::new(&[], DIGEST, 1))?;
+    let last = [well.disk.calls().len() as u64];
+    let mut on = On::new(&[], DIGEST, 2);
+    on.disk = &last;
+    let ended = run(&rt, &SERVE_IN_TURN, &on)?;
+    assert!(rt; ended.is(0, "listening 14788\nserved 2\n"));
+    let wanted = reply(
+        rt.alloc(),
+        "503 Service Unavailable",
+        "text/plain",
+        b"disk\n",
+    )?;
+    assert!(rt; ended.reply(0) == wanted.as_slice());
+    assert!(rt; ended.reply(1).starts_with(b"HTTP/1.1 200 OK\r\n"));
+    Ok(())
+}
