@@ -1,5 +1,7 @@
 // The index and the ranges beside a walk over the list, on random runs.
 use crate::steps::{Memory, add, add_anchor, add_tip, new_store, opened};
+use ots_io::Bytes;
+use ots_journal::{Entry, is_group};
 use std::alloc::Global;
 use std::test::Fail;
 
@@ -137,5 +139,38 @@ fn commitments_in_any_order_are_found_as_by_a_walk(rt: HostRuntime) -> Result<()
     assert!(rt; stepping(alloc, 3, 97, 250)?);
     assert!(rt; stepping(alloc, 0, 12, 12)?);
     assert!(rt; stepping(alloc, 0, 7, 22)?);
+    Ok(())
+}
+
+// 25 commitments, the value of each a step behind the one before, modulo 101.
+fn group(alloc: Global, start: u64, step: u8) -> Result<Vec<Entry>, Fail> {
+    let mut entries = Vec::new(alloc);
+    let mut value = start;
+    for _ in 0..25 {
+        value = (value % 256 + u64::from(step)) % 101;
+        let payload = Bytes::from_vec([value as u8; 44].as_slice().to_vec(alloc)?);
+        entries.push(Entry { kind: 1, payload })?;
+    }
+    Ok(entries)
+}
+
+// Adds a group, of which no entry is bad.
+fn add_group(store: &mut Memory, entries: &[Entry]) -> bool {
+    if !store.is_sure() || !is_group(entries) || store.first_bad(entries).is_some() {
+        return false;
+    }
+    store.add_group(entries).is_ok()
+}
+
+#[test]
+fn groups_in_any_order_are_found_as_by_a_walk(rt: HostRuntime) -> Result<(), Fail> {
+    let alloc = rt.alloc();
+    let mut store = new_store(alloc, &[])?;
+    // Shuffled, falling, rising among those that are there, and one value alone.
+    assert!(rt; add_group(&mut store, &group(alloc, 0, 37)?) && same_indexes(&store, 101));
+    assert!(rt; add_group(&mut store, &group(alloc, 90, 100)?) && same_indexes(&store, 101));
+    assert!(rt; add_group(&mut store, &group(alloc, 20, 1)?) && same_indexes(&store, 101));
+    assert!(rt; add_group(&mut store, &group(alloc, 7, 0)?) && same_indexes(&store, 101));
+    assert!(rt; store.commits() == 100 && store.index_of(&[37; 44]) == Some(0));
     Ok(())
 }
