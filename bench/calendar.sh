@@ -46,12 +46,12 @@ anew round 65536
 echo 'all rounds, and by the clock'
 anew rounds 250
 anew rounds 1000
-echo 'opening the store, the book, the first tip, the second'
+echo 'the opening, the first tip, the second'
 for count in 1000000 4000000; do
     python3 "$here/calendar/journal.py" "$work/made" "$count"
     upon tip 0 "$count"
 done
-echo 'opening, and the mean of 20 answers'
+echo 'the opening, and the mean of 20 answers'
 for count in 250000 1000000; do
     python3 "$here/calendar/journal.py" "$work/made" "$count" anchored
     upon ask 20 "$count"

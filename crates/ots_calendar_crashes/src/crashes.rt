@@ -4,7 +4,7 @@
 use ots_calendar_runs::{
     COMMITMENT, COMPLETE, DIGEST, JOURNAL, LATER, LATER_BLOCK, LATER_COMPLETE, LATER_TIP_ROOT,
     Memory, NONCE, SECOND, anchor_in, block_of, book_of, bytes_of, close, counts_of, disk_of,
-    disk_under, is_complete, is_pending, is_tip, is_unknown, put,
+    disk_under, is_complete, is_pending, is_tip, is_unknown, let_go, put,
 };
 use ots_disk::{Choice, MemoryDisk};
 use std::alloc::Global;
@@ -39,8 +39,10 @@ fn reopened(alloc: Global, bytes: &[u8]) -> Result<Memory, Fail> {
 fn made(rt: &impl Abort, alloc: Global) -> Result<MemoryDisk, Fail> {
     let bytes = bytes_of(alloc, JOURNAL)?;
     let mut book = reopened(alloc, &bytes)?;
-    play(rt, alloc, &mut book)?;
-    Ok(disk_under(book))
+    let ended = play(rt, alloc, &mut book);
+    let disk = disk_under(book);
+    ended?;
+    Ok(disk)
 }
 
 // An image of a crash.
@@ -99,7 +101,9 @@ fn found_at(
     choice: Choice,
 ) -> Result<Answered, Fail> {
     let mut book = left(alloc, made, moment, choice)?;
-    found(alloc, &mut book)
+    let answer = found(alloc, &mut book);
+    let_go(book);
+    answer
 }
 
 /// What each image at some moments is to answer: where the gate is closed, and where it is open.
@@ -174,7 +178,9 @@ fn has_the_tip(alloc: Global, book: &mut Memory) -> Result<bool, Fail> {
 // The same of the book of an image.
 fn has_it_at(alloc: Global, made: &MemoryDisk, moment: u64, choice: Choice) -> Result<bool, Fail> {
     let mut book = left(alloc, made, moment, choice)?;
-    has_the_tip(alloc, &mut book)
+    let has = has_the_tip(alloc, &mut book);
+    let_go(book);
+    has
 }
 
 // The moments from the first in `tip` to the first one behind it.

@@ -1,5 +1,6 @@
 // Calls of a book, one each.
 use crate::books::{Memory, is_written, key, uri};
+use hex::decode;
 use ots_block::Block;
 use ots_calendar::{AnchorError, Leaf, PutError, Taken, Ticket, TipError};
 use ots_disk::MemoryDisk;
@@ -44,6 +45,24 @@ pub fn counts_of(book: &Memory) -> Counts {
 pub fn disk_under(book: Memory) -> MemoryDisk {
     book.into_disk()
 }
+
+/// How many calls were made of the disk under a book.
+pub fn calls_under(book: Memory) -> usize {
+    let disk = book.into_disk();
+    disk.calls().len()
+}
+
+/// Whether the disk under a book holds these bytes, in hexadecimal.
+pub fn is_left(alloc: Global, book: Memory, digits: &str) -> bool {
+    let disk = book.into_disk();
+    match decode(alloc, digits) {
+        Ok(bytes) => bytes.as_slice() == disk.bytes(),
+        Err(_) => false,
+    }
+}
+
+/// Lets a book go.
+pub fn let_go(_book: Memory) {}
 
 /// Puts a digest.
 pub fn put(book: &mut Memory, digest: &[u8], nonce: [u8; 16]) -> Result<Ticket, Fail> {

@@ -11,8 +11,8 @@ mod ways;
 pub use answers::{is_complete, is_pending, is_unknown};
 pub use books::{Memory, block_of, book_of, bytes_of, disk_of, is_written, key, new_book, uri};
 pub use calls::{
-    Counts, NONCE, SECOND, anchor_in, close, counts_of, disk_under, is_busy, is_gone, is_tip,
-    is_waiting, put, tip, withdraw,
+    Counts, NONCE, SECOND, anchor_in, calls_under, close, counts_of, disk_under, is_busy, is_gone,
+    is_left, is_tip, is_waiting, let_go, put, tip, withdraw,
 };
 pub use values::{
     BLOCK, BLOCK_ROOT, COMMITMENT, COMPLETE, DIGEST, JOURNAL, LATER, LATER_BLOCK, LATER_COMPLETE,

@@ -7,8 +7,8 @@ use crate::values::{
 use ots_calendar::{AnchorError, Ticket, TipError};
 use ots_calendar_runs::{
     BLOCK, BLOCK_ROOT, COMMITMENT, COMPLETE, DIGEST, JOURNAL, Memory, NONCE, SECOND, TIP_ROOT,
-    anchor_in, block_of, close, disk_under, is_complete, is_given, is_pending, is_tip, is_written,
-    leads_to, new_book, put, tip,
+    anchor_in, block_of, close, is_complete, is_given, is_left, is_pending, is_tip, leads_to,
+    let_go, new_book, put, tip,
 };
 use std::alloc::Global;
 use std::process::Abort;
@@ -45,18 +45,24 @@ fn ask_for_one(rt: &impl Abort, alloc: Global, book: &mut Memory) -> Result<(), 
 #[test]
 fn a_block_of_one_transaction_anchors_a_tip(rt: HostRuntime) -> Result<(), Fail> {
     let mut book = new_book(rt.alloc(), &[])?;
-    ask_for_one(&rt, rt.alloc(), &mut book)?;
-    let disk = disk_under(book);
-    assert!(rt; is_written(rt.alloc(), disk.bytes(), JOURNAL)?);
+    let ended = ask_for_one(&rt, rt.alloc(), &mut book);
+    assert!(rt; is_left(rt.alloc(), book, JOURNAL));
+    ended
+}
+
+// The way of the digest leads to the root in the header of the block.
+fn go_the_way(rt: &impl Abort, alloc: Global, book: &mut Memory) -> Result<(), Fail> {
+    let ticket = anchor_one(rt, alloc, book)?;
+    assert!(rt; leads_to(alloc, book, &ticket, BLOCK_ROOT)?);
     Ok(())
 }
 
 #[test]
 fn the_way_of_a_digest_leads_to_the_root_of_the_block(rt: HostRuntime) -> Result<(), Fail> {
     let mut book = new_book(rt.alloc(), &[])?;
-    let ticket = anchor_one(&rt, rt.alloc(), &mut book)?;
-    assert!(rt; leads_to(rt.alloc(), &mut book, &ticket, BLOCK_ROOT)?);
-    Ok(())
+    let ended = go_the_way(&rt, rt.alloc(), &mut book);
+    let_go(book);
+    ended
 }
 
 // A round of three digests and a tip over it; a second round of one digest, and a tip over both. The
@@ -96,7 +102,9 @@ fn anchor_both(rt: &impl Abort, alloc: Global, book: &mut Memory) -> Result<(), 
 #[test]
 fn each_commitment_is_answered_by_its_first_anchor(rt: HostRuntime) -> Result<(), Fail> {
     let mut book = new_book(rt.alloc(), &[])?;
-    anchor_both(&rt, rt.alloc(), &mut book)
+    let ended = anchor_both(&rt, rt.alloc(), &mut book);
+    let_go(book);
+    ended
 }
 
 // The second tip is anchored, and covers the first. Then a commitment is stored once more, whose
@@ -122,7 +130,9 @@ fn anchor_the_later(rt: &impl Abort, alloc: Global, book: &mut Memory) -> Result
 #[test]
 fn a_later_block_anchors_both_rounds(rt: HostRuntime) -> Result<(), Fail> {
     let mut book = new_book(rt.alloc(), &[])?;
-    anchor_the_later(&rt, rt.alloc(), &mut book)
+    let ended = anchor_the_later(&rt, rt.alloc(), &mut book);
+    let_go(book);
+    ended
 }
 
 // The first tip is anchored, and the next begins behind it.
@@ -139,5 +149,7 @@ fn anchor_the_earlier(rt: &impl Abort, alloc: Global, book: &mut Memory) -> Resu
 #[test]
 fn a_tip_begins_behind_what_is_anchored(rt: HostRuntime) -> Result<(), Fail> {
     let mut book = new_book(rt.alloc(), &[])?;
-    anchor_the_earlier(&rt, rt.alloc(), &mut book)
+    let ended = anchor_the_earlier(&rt, rt.alloc(), &mut book);
+    let_go(book);
+    ended
 }

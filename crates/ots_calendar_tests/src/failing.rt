@@ -6,8 +6,8 @@ use ots_block::Block;
 use ots_calendar::{AnchorError, TipError};
 use ots_calendar_runs::{
     BLOCK, COMMITMENT, COMPLETE, Counts, DIGEST, JOURNAL, Memory, NONCE, SECOND, TIP_ROOT,
-    anchor_in, block_of, close, counts_of, disk_under, give, is_complete, is_pending, is_tip,
-    is_unknown, is_written, new_book, put, tip,
+    anchor_in, block_of, close, counts_of, give, is_complete, is_left, is_pending, is_tip,
+    is_unknown, is_written, let_go, new_book, put, tip,
 };
 use ots_journal::AppendError;
 use std::alloc::Global;
@@ -55,7 +55,9 @@ fn fail_close(
     index: u64,
 ) -> Result<(), Fail> {
     let mut book = new_book(alloc, failing)?;
-    close_again(rt, alloc, &mut book, refused, index)
+    let ended = close_again(rt, alloc, &mut book, refused, index);
+    let_go(book);
+    ended
 }
 
 #[test]
@@ -91,7 +93,9 @@ fn tip_again(rt: &impl Abort, alloc: Global, book: &mut Memory) -> Result<(), Fa
 // This call of the disk fails.
 fn fail_tip(rt: &impl Abort, alloc: Global, failing: u64) -> Result<(), Fail> {
     let mut book = new_book(alloc, &[failing])?;
-    tip_again(rt, alloc, &mut book)
+    let ended = tip_again(rt, alloc, &mut book);
+    let_go(book);
+    ended
 }
 
 #[test]
@@ -129,10 +133,9 @@ fn anchor_again(
 fn fail_anchor(rt: &impl Abort, alloc: Global, failing: u64) -> Result<(), Fail> {
     let block = block_of(alloc, BLOCK)?;
     let mut book = new_book(alloc, &[failing])?;
-    anchor_again(rt, alloc, &mut book, &block, failing == 16)?;
-    let disk = disk_under(book);
-    assert!(rt; is_written(alloc, disk.bytes(), JOURNAL)?, "call {failing}");
-    Ok(())
+    let ended = anchor_again(rt, alloc, &mut book, &block, failing == 16);
+    assert!(rt; is_left(alloc, book, JOURNAL), "call {failing}");
+    ended
 }
 
 #[test]

@@ -2,8 +2,8 @@
 use crate::values::FULL;
 use ots_calendar::{BadKey, Key, Ticket};
 use ots_calendar_runs::{
-    Counts, DIGEST, Memory, NONCE, SECOND, TICKET_TREE, close, counts_of, disk_under, give,
-    is_busy, is_given, is_gone, is_waiting, is_written, new_book, put, withdraw,
+    Counts, DIGEST, Memory, NONCE, SECOND, TICKET_TREE, calls_under, close, counts_of, give,
+    is_busy, is_given, is_gone, is_waiting, is_written, let_go, new_book, put, withdraw,
 };
 use std::alloc::Global;
 use std::process::Abort;
@@ -52,10 +52,10 @@ fn close_full(rt: &impl Abort, alloc: Global, book: &mut Memory) -> Result<(), F
 #[test]
 fn one_commitment_settles_a_full_round(rt: HostRuntime) -> Result<(), Fail> {
     let mut book = new_book(rt.alloc(), &[])?;
-    close_full(&rt, rt.alloc(), &mut book)?;
+    let ended = close_full(&rt, rt.alloc(), &mut book);
     // It takes four calls to open the book and four to close the round.
-    assert_eq!(rt; disk_under(book).calls().len(), 8);
-    Ok(())
+    assert_eq!(rt; calls_under(book), 8);
+    ended
 }
 
 // One of two tickets is withdrawn, and the other's round is closed.
@@ -74,7 +74,9 @@ fn withdraw_one(rt: &impl Abort, alloc: Global, book: &mut Memory) -> Result<(),
 #[test]
 fn a_ticket_that_is_withdrawn_leaves_the_other(rt: HostRuntime) -> Result<(), Fail> {
     let mut book = new_book(rt.alloc(), &[])?;
-    withdraw_one(&rt, rt.alloc(), &mut book)
+    let ended = withdraw_one(&rt, rt.alloc(), &mut book);
+    let_go(book);
+    ended
 }
 
 // One of two tickets whose rounds are closed is withdrawn. Their commitments are the same.
@@ -91,7 +93,9 @@ fn withdraw_settled(rt: &impl Abort, alloc: Global, book: &mut Memory) -> Result
 #[test]
 fn a_ticket_whose_round_is_closed_may_be_withdrawn(rt: HostRuntime) -> Result<(), Fail> {
     let mut book = new_book(rt.alloc(), &[])?;
-    withdraw_settled(&rt, rt.alloc(), &mut book)
+    let ended = withdraw_settled(&rt, rt.alloc(), &mut book);
+    let_go(book);
+    ended
 }
 
 #[test]
