@@ -6,7 +6,8 @@ mod refusal;
 mod status;
 
 pub use lines::{
-    put_anchor, put_anchored, put_commit, put_listening, put_migrated, put_served, put_tip, put_tree,
+    put_anchor, put_anchored, put_commit, put_listening, put_migrated, put_served, put_tip,
+    put_tree,
 };
 pub use refusal::put_refusal;
 pub use status::DaemonStatus;
