@@ -1,6 +1,6 @@
 #!/bin/sh
 # Measures a calendar's book on a real file: a round of 16,384 digests and one of 65,536; 250 rounds of 100 digests and
-# 1,000; a tip over one million commitments and over four; and an answer under an anchor of 250,000 commitments and of
+# 1,000; a tip over one million commitments, over four and over ten; and an answer under an anchor of 250,000 commitments and of
 # 1,000,000. Each is run three times. It needs rt, python3 and 1 GB of room in FOLDER (the first word, else a temporary
 # folder). The proved program is built in a folder of its own, outside the repository; it takes what the crates keep in
 # out/, so prove ots_calendar first.
@@ -47,7 +47,7 @@ echo 'all rounds, and by the clock'
 anew rounds 250
 anew rounds 1000
 echo 'the opening, the first tip, the second'
-for count in 1000000 4000000; do
+for count in 1000000 4000000 10000000; do
     python3 "$here/calendar/journal.py" "$work/made" "$count"
     upon tip 0 "$count"
 done
