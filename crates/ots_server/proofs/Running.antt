@@ -132,10 +132,10 @@ module _ (serves : ServingAsked → ℕ → List Entry → Ending → Type 0) (h
       subst (λ (z : Option Command). Ends (Comes (Answers serves happens faulted names told z) (StopsAt (names_read z) old new before after) disk) images printing taken now r) (sym is) h
 
   pub asked_moments : {D : Type 0} (clock : D → ℕ) (images_since : D → ℕ → List ℕ → Type 0) (images : List ℕ → Type 0) (old new : D) (keeps : Type 0)
-      → LeavesOnly clock images_since old new (OpenedOrRan told images (MayAdd happens names p)) ⊎ (MayServe names p × keeps)
-      → LeavesOnly clock images_since old new (OpenedOrRan told images (MayAdd happens names o)) ⊎ (MayServe names o × keeps)
+      → LeavesOnly clock images_since old new (OpenedOrRan told images (MayAdd happens names p)) ⊎ (MayServe names told p × keeps)
+      → LeavesOnly clock images_since old new (OpenedOrRan told images (MayAdd happens names o)) ⊎ (MayServe names told o × keeps)
   asked_moments clock images_since images old new keeps h =
-      subst (λ (z : Option Command). LeavesOnly clock images_since old new (OpenedOrRan told images (MayAdd happens names z)) ⊎ (MayServe names z × keeps)) (sym is) h
+      subst (λ (z : Option Command). LeavesOnly clock images_since old new (OpenedOrRan told images (MayAdd happens names z)) ⊎ (MayServe names told z × keeps)) (sym is) h
 
   pub asked_nonces : (same : Type 0) → same ⊎ MayDraw happens names p → same ⊎ MayDraw happens names o
   asked_nonces same h = subst (λ (z : Option Command). same ⊎ MayDraw happens names z) (sym is) h
@@ -143,8 +143,8 @@ module _ (serves : ServingAsked → ℕ → List Entry → Ending → Type 0) (h
 pub asked_ready : (names : Option Names) (o p : Option Command) → o ≡ p → (same : Type 0) → same ⊎ IsReady names p → same ⊎ IsReady names o
 asked_ready names o p is same h = subst (λ (z : Option Command). same ⊎ IsReady names z) (sym is) h
 
-pub asked_serve : (names : Option Names) (o p : Option Command) → o ≡ p → (same : Type 0) → same ⊎ MayServe names p → same ⊎ MayServe names o
-asked_serve names o p is same h = subst (λ (z : Option Command). same ⊎ MayServe names z) (sym is) h
+pub asked_serve : (names : Option Names) (told : Option (List ℕ)) (o p : Option Command) → o ≡ p → (same : Type 0) → same ⊎ MayServe names told p → same ⊎ MayServe names told o
+asked_serve names told o p is same h = subst (λ (z : Option Command). same ⊎ MayServe names told z) (sym is) h
 
 pub asked_shelf : (o p : Option Command) → o ≡ p → (old new : ShelfTold) (before after : ShelfFaults) (r : DaemonStatus)
     → ReadsShelf (names_read p) old new before after r → ReadsShelf (names_read o) old new before after r

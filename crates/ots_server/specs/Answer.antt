@@ -18,7 +18,7 @@ use Rattle.ots_server_inputs.specs.File.{HasUnder, IsUnder}
 use Rattle.ots_server.specs.Anchor.{AddsAnchor, AnchorAnswers}
 use Rattle.ots_server.specs.Batch.{AddsRound, DrawsFor, Outside, RoundAnswers}
 use Rattle.ots_server.specs.Ending.{Ending, done, refused}
-use Rattle.ots_server.specs.Found.{HasBook, HasGate, HasRecords, RefusesBook, RefusesStore}
+use Rattle.ots_server.specs.Found.{HasBook, HasGate, HasRecords, HasSomeBook, RefusesBook, RefusesStore}
 use Rattle.ots_server.specs.List.{list_text}
 use Rattle.ots_server.specs.Migrate.{AddsFront, MigrateAnswers}
 use Rattle.ots_server.specs.Tip.{AddsTip, TipAnswers}
@@ -166,12 +166,12 @@ IsReady names (Some (anchor asked)) = (block : Contents) × HasUnder names asked
 IsReady names (Some list) = Unit {0}
 IsReady names (Some (migrate old)) = (entries : List Entry) × HasUnder names old (λ bytes. Stands1 bytes entries)
 
--- Connections may be served: that is asked for, and all that the words name is in order.
-abbrev pub MayServe : Option Names → Option Command → Type 0
-MayServe names None = ⊥
-MayServe names (Some (serve asked)) = HasService names asked
-MayServe names (Some (batch asked)) = ⊥
-MayServe names (Some tip) = ⊥
-MayServe names (Some (anchor asked)) = ⊥
-MayServe names (Some list) = ⊥
-MayServe names (Some (migrate old)) = ⊥
+-- Connections may be served: that is asked for, all that the words name is in order, and a book was opened.
+abbrev pub MayServe : Option Names → Option (List ℕ) → Option Command → Type 0
+MayServe names told None = ⊥
+MayServe names told (Some (serve asked)) = HasService names asked × HasSomeBook told
+MayServe names told (Some (batch asked)) = ⊥
+MayServe names told (Some tip) = ⊥
+MayServe names told (Some (anchor asked)) = ⊥
+MayServe names told (Some list) = ⊥
+MayServe names told (Some (migrate old)) = ⊥

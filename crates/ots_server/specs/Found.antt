@@ -55,6 +55,10 @@ pub record HasBook (told : Option (List ℕ)) (entries : List Entry) : Type 0 wh
   pub store : HasRecords told entries
   pub are_true : AreTrue (records_of entries)
 
+-- They are a book's, whatever it holds.
+abbrev pub HasSomeBook : Option (List ℕ) → Type 0
+HasSomeBook told = (entries : List Entry) × HasBook told entries
+
 -- a refusal for what the file is
 abbrev pub IsOfFile : JournalError → Type 0
 IsOfFile why.DiskFault = ⊥

@@ -14,6 +14,7 @@ ghost use Rattle.ots_server.specs.Anchor.{AnchorAnswers};
 ghost use Rattle.ots_server.specs.Answer.{AddsBatch, AddsFound, AddsOld, Answers, DrawsBatch, IsReady, HasService, IsUsage, MayAdd, MayDraw, MayServe, WithBlock, WithBook, WithOld, WithRound, WithService, WithStore};
 ghost use Rattle.ots_server.specs.Batch.{Happens, RoundAnswers};
 ghost use Rattle.ots_server.specs.Files.{ReadsShelf, StopsAt, names_read};
+ghost use Rattle.ots_server.specs.Found.{HasSomeBook};
 ghost use Rattle.ots_server.specs.Ending.{Comes, Completes, Ends, NoFaults, nowhere};
 ghost use Rattle.ots_server.specs.Migrate.{MigrateAnswers};
 ghost use Rattle.ots_server.specs.Moments.{IsOnlyImage, KeepsFound, OpenedOrRan, StandsBehind, StandsWith};
@@ -78,18 +79,18 @@ pub fn run_calendar<
         (D.images result.1.disk) (Rose (K.faults out.old) (K.faults out.new)) (K.taken out.old) (K.taken out.new) result.0 }
     ensures crash { (entries : List Entry) → IsOnlyImage (D.bytes disk) (D.images disk) entries
         → LeavesOnly D.clock D.images_since disk result.1.disk (StandsWith (MayAdd (Happens (C.coming clock) (N.left nonces) (N.left result.1.nonces)) (S.told shelf.old).names (asked words.now) entries) entries)
-        ⊎ MayServe (S.told shelf.old).names (asked words.now) }
+        ⊎ MayServe (S.told shelf.old).names (D.bytes disk) (asked words.now) }
     ensures keeps { (entries : List Entry) → IsOnlyImage (D.bytes disk) (D.images disk) entries → (c : List ℕ) → D.images result.1.disk c → StandsBehind entries c }
-    ensures later { (D.faults disk ≤ D.faults result.1.disk) ⊎ MayServe (S.told shelf.old).names (asked words.now) }
+    ensures later { (D.faults disk ≤ D.faults result.1.disk) ⊎ MayServe (S.told shelf.old).names (D.bytes disk) (asked words.now) }
     ensures shelf { ReadsShelf (names_read (asked words.now)) (S.told shelf.old) (S.told shelf.new) (S.faults shelf.old) (S.faults shelf.new) result.0 }
     ensures complete { NoFaults (S.faults shelf.old) (S.faults shelf.new) (Rose (D.faults disk) (D.faults result.1.disk)) (Rose (K.faults out.old) (K.faults out.new))
         → Completes (Answers (ServeAnswers (λ most. IsDone (A.coming result.1.accepter) most (A.accepted result.1.accepter)) (AllAnswered A.Link.told A.Link.faults (A.returned result.1.accepter))
         (A.faults result.1.accepter ≢ 0) (Rose (K.faults out.old) (K.faults out.new)) (A.accepted result.1.accepter))
         (Happens (C.coming clock) (N.left nonces) (N.left result.1.nonces)) (Rose (N.faults nonces) (N.faults result.1.nonces)) (S.told shelf.old).names (D.bytes disk) (asked words.now)) result.0 }
     ensures untouched { (result.1.disk ≡ disk) ⊎ IsReady (S.told shelf.old).names (asked words.now) }
-    ensures accepter { (result.1.accepter ≡ accepter) ⊎ MayServe (S.told shelf.old).names (asked words.now) }
+    ensures accepter { (result.1.accepter ≡ accepter) ⊎ MayServe (S.told shelf.old).names (D.bytes disk) (asked words.now) }
     ensures nonces { (result.1.nonces ≡ nonces) ⊎ MayDraw (Happens (C.coming clock) (N.left nonces) (N.left result.1.nonces)) (S.told shelf.old).names (asked words.now) }
-    ensures nonce_faults { (N.faults nonces ≤ N.faults result.1.nonces) ⊎ MayServe (S.told shelf.old).names (asked words.now) }
+    ensures nonce_faults { (N.faults nonces ≤ N.faults result.1.nonces) ⊎ MayServe (S.told shelf.old).names (D.bytes disk) (asked words.now) }
     ensures out_faults { K.faults out.old ≤ K.faults out.new }
     ensures same { K.same out.old out.new }
 {
@@ -150,13 +151,13 @@ fn run_command<
         (StopsAt (names_read (Some (read_as command.entry))) (S.told shelf.old).opened (S.told shelf.new).opened (S.faults shelf.old) (S.faults shelf.new)) (Rose (D.faults disk) (D.faults result.1.disk)))
         (D.images result.1.disk) (Rose (K.faults out.old) (K.faults out.new)) (K.taken out.old) (K.taken out.new) result.0 }
     ensures moments { LeavesOnly D.clock D.images_since disk result.1.disk (OpenedOrRan (D.bytes disk) (D.images disk) (MayAdd (Happens (C.coming clock) (N.left nonces) (N.left result.1.nonces)) (S.told shelf.old).names (Some (read_as command.entry))))
-        ⊎ (MayServe (S.told shelf.old).names (Some (read_as command.entry)) × KeepsFound (D.bytes disk) (D.images result.1.disk)) }
+        ⊎ (MayServe (S.told shelf.old).names (D.bytes disk) (Some (read_as command.entry)) × KeepsFound (D.bytes disk) (D.images result.1.disk)) }
     ensures untouched { (result.1.disk ≡ disk) ⊎ IsReady (S.told shelf.old).names (Some (read_as command.entry)) }
-    ensures later { (D.faults disk ≤ D.faults result.1.disk) ⊎ MayServe (S.told shelf.old).names (Some (read_as command.entry)) }
+    ensures later { (D.faults disk ≤ D.faults result.1.disk) ⊎ MayServe (S.told shelf.old).names (D.bytes disk) (Some (read_as command.entry)) }
     ensures shelf { ReadsShelf (names_read (Some (read_as command.entry))) (S.told shelf.old) (S.told shelf.new) (S.faults shelf.old) (S.faults shelf.new) result.0 }
-    ensures accepter { (result.1.accepter ≡ accepter) ⊎ MayServe (S.told shelf.old).names (Some (read_as command.entry)) }
+    ensures accepter { (result.1.accepter ≡ accepter) ⊎ MayServe (S.told shelf.old).names (D.bytes disk) (Some (read_as command.entry)) }
     ensures nonces { (result.1.nonces ≡ nonces) ⊎ MayDraw (Happens (C.coming clock) (N.left nonces) (N.left result.1.nonces)) (S.told shelf.old).names (Some (read_as command.entry)) }
-    ensures nonce_faults { (N.faults nonces ≤ N.faults result.1.nonces) ⊎ MayServe (S.told shelf.old).names (Some (read_as command.entry)) }
+    ensures nonce_faults { (N.faults nonces ≤ N.faults result.1.nonces) ⊎ MayServe (S.told shelf.old).names (D.bytes disk) (Some (read_as command.entry)) }
     ensures sink { SinkStays K.faults K.same out.old out.new }
 {
     match command {
@@ -249,8 +250,9 @@ fn run_serve<
         (A.faults result.1.accepter ≢ 0) (Rose (K.faults out.old) (K.faults out.new)) (A.accepted result.1.accepter) (read_serving asked.entry))))
         (StopsAt (asked.entry.key.now ∷ []) (S.told shelf.old).opened (S.told shelf.new).opened (S.faults shelf.old) (S.faults shelf.new)) (Rose (D.faults disk) (D.faults result.1.disk)))
         (D.images result.1.disk) (Rose (K.faults out.old) (K.faults out.new)) (K.taken out.old) (K.taken out.new) result.0 }
-    ensures moments { LeavesOnly D.clock D.images_since disk result.1.disk (OpenedFrom (D.images disk)) ⊎ (HasService (S.told shelf.old).names (read_serving asked.entry) × KeepsFound (D.bytes disk) (D.images result.1.disk)) }
-    ensures stays { ((result.1.disk ≡ disk) × (result.1.accepter ≡ accepter) × (result.1.nonces ≡ nonces)) ⊎ HasService (S.told shelf.old).names (read_serving asked.entry) }
+    ensures moments { LeavesOnly D.clock D.images_since disk result.1.disk (OpenedFrom (D.images disk)) ⊎ ((HasService (S.told shelf.old).names (read_serving asked.entry) × HasSomeBook (D.bytes disk)) × KeepsFound (D.bytes disk) (D.images result.1.disk)) }
+    ensures untouched { (result.1.disk ≡ disk) ⊎ HasService (S.told shelf.old).names (read_serving asked.entry) }
+    ensures stays { ((result.1.accepter ≡ accepter) × (result.1.nonces ≡ nonces) × (D.faults disk ≤ D.faults result.1.disk)) ⊎ (HasService (S.told shelf.old).names (read_serving asked.entry) × HasSomeBook (D.bytes disk)) }
     ensures shelf { ReadsShelf (asked.entry.key.now ∷ []) (S.told shelf.old) (S.told shelf.new) (S.faults shelf.old) (S.faults shelf.new) result.0 }
     ensures sink { SinkStays K.faults K.same out.old out.new }
 {

@@ -9,6 +9,7 @@ ghost use Rattle.ots_serving.specs.Returned.{AllAnswered, NoneReturned};
 ghost use Rattle.ots_server_words.specs.Words.{read_serving};
 ghost use Rattle.ots_server.specs.Answer.{WithBook};
 ghost use Rattle.ots_server.specs.Ending.{Comes, Ends, nowhere};
+ghost use Rattle.ots_server.specs.Found.{HasSomeBook};
 ghost use Rattle.ots_server.specs.Moments.{KeepsFound, StandsBehind};
 ghost use Rattle.ots_server.specs.Printed.{SinkStays};
 ghost use Rattle.ots_server.specs.Serve.{Listens, ServeAnswers, Tells, serving_status};
@@ -51,7 +52,8 @@ pub fn serve<
     ensures ends { Ends (Comes (WithBook (D.bytes disk) (ServeAnswers (λ most. IsDone (A.coming result.1.accepter) most (A.accepted result.1.accepter)) (AllAnswered A.Link.told A.Link.faults (A.returned result.1.accepter))
         (A.faults result.1.accepter ≢ 0) (Rose (K.faults out.old) (K.faults out.new)) (A.accepted result.1.accepter) (read_serving asked.entry))) nowhere (Rose (D.faults disk) (D.faults result.1.disk)))
         (D.images result.1.disk) (Rose (K.faults out.old) (K.faults out.new)) (K.taken out.old) (K.taken out.new) result.0 }
-    ensures moments { LeavesOnly D.clock D.images_since disk result.1.disk (OpenedFrom (D.images disk)) ⊎ KeepsFound (D.bytes disk) (D.images result.1.disk) }
+    ensures moments { LeavesOnly D.clock D.images_since disk result.1.disk (OpenedFrom (D.images disk)) ⊎ (HasSomeBook (D.bytes disk) × KeepsFound (D.bytes disk) (D.images result.1.disk)) }
+    ensures stays { ((result.1.accepter ≡ accepter) × (result.1.nonces ≡ nonces) × (D.faults disk ≤ D.faults result.1.disk)) ⊎ HasSomeBook (D.bytes disk) }
     ensures sink { SinkStays K.faults K.same out.old out.new }
 {
     match open_book(alloc, disk) {

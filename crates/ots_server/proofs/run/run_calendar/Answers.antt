@@ -23,13 +23,13 @@ pub returns-in-Ok-clause-keeps : goal.returns-in-Ok-clause-keeps
 returns-in-Ok-clause-keeps g c = λ entries one. still_kept g.D.Disk.clock g.D.Disk.images g.D.Disk.images_since (g.met.D.Disk g.world.𝓛 g.world.𝓜 g.world.𝓡 ((λ s x. x), (λ x. x), (λ x. x), λ x. x)).counts_now _ _ _ _ _ entries one (asked_moments (λ asked gate entries e. ⊥) _ (Unit {0}) _ _ _ _ c.in-Ok.ensures g.D.Disk.clock g.D.Disk.images_since _ _ _ _ c.run_command.ensures.moments)
 
 pub returns-in-Ok-clause-later : goal.returns-in-Ok-clause-later
-returns-in-Ok-clause-later g c = asked_serve _ _ _ c.in-Ok.ensures _ c.run_command.ensures.later
+returns-in-Ok-clause-later g c = asked_serve _ _ _ _ c.in-Ok.ensures _ c.run_command.ensures.later
 
 pub returns-in-Ok-clause-accepter : goal.returns-in-Ok-clause-accepter
-returns-in-Ok-clause-accepter g c = asked_serve _ _ _ c.in-Ok.ensures _ c.run_command.ensures.accepter
+returns-in-Ok-clause-accepter g c = asked_serve _ _ _ _ c.in-Ok.ensures _ c.run_command.ensures.accepter
 
 pub returns-in-Ok-clause-nonce_faults : goal.returns-in-Ok-clause-nonce_faults
-returns-in-Ok-clause-nonce_faults g c = asked_serve _ _ _ c.in-Ok.ensures _ c.run_command.ensures.nonce_faults
+returns-in-Ok-clause-nonce_faults g c = asked_serve _ _ _ _ c.in-Ok.ensures _ c.run_command.ensures.nonce_faults
 
 pub returns-in-Ok-clause-nonces : goal.returns-in-Ok-clause-nonces
 returns-in-Ok-clause-nonces g c = asked_nonces (λ asked gate entries e. ⊥) _ (Unit {0}) _ None _ _ c.in-Ok.ensures _ c.run_command.ensures.nonces

@@ -80,16 +80,16 @@ pub returns-in-Serve-clause-moments : goal.returns-in-Serve-clause-moments
 returns-in-Serve-clause-moments g c = asked_moments (λ asked gate entries e. ⊥) _ (Unit {0}) _ _ _ _ (ap (λ (z : Read). Some (read_as z)) c.in-Serve.is) g.D.Disk.clock g.D.Disk.images_since _ _ _ _ (⊎_elim (λ idle. inl (idle_moments g.D.Disk.clock g.D.Disk.images_since _ _ _ _ _ idle)) (λ served. inr served) c.run_serve.ensures.moments)
 
 pub returns-in-Serve-clause-untouched : goal.returns-in-Serve-clause-untouched
-returns-in-Serve-clause-untouched g c = asked_ready _ _ _ (ap (λ (z : Read). Some (read_as z)) c.in-Serve.is) _ (⊎_elim (λ same. inl same.0) (λ may. inr may) c.run_serve.ensures.stays)
+returns-in-Serve-clause-untouched g c = asked_ready _ _ _ (ap (λ (z : Read). Some (read_as z)) c.in-Serve.is) _ c.run_serve.ensures.untouched
 
 pub returns-in-Serve-clause-later : goal.returns-in-Serve-clause-later
-returns-in-Serve-clause-later g c = asked_serve _ _ _ (ap (λ (z : Read). Some (read_as z)) c.in-Serve.is) _ (⊎_elim (λ same. inl (no_fewer g.D.Disk.faults _ _ same.0)) (λ may. inr may) c.run_serve.ensures.stays)
+returns-in-Serve-clause-later g c = asked_serve _ _ _ _ (ap (λ (z : Read). Some (read_as z)) c.in-Serve.is) _ (⊎_elim (λ same. inl same.2) (λ may. inr may) c.run_serve.ensures.stays)
 
 pub returns-in-Serve-clause-accepter : goal.returns-in-Serve-clause-accepter
-returns-in-Serve-clause-accepter g c = asked_serve _ _ _ (ap (λ (z : Read). Some (read_as z)) c.in-Serve.is) _ (⊎_elim (λ same. inl same.1) (λ may. inr may) c.run_serve.ensures.stays)
+returns-in-Serve-clause-accepter g c = asked_serve _ _ _ _ (ap (λ (z : Read). Some (read_as z)) c.in-Serve.is) _ (⊎_elim (λ same. inl same.0) (λ may. inr may) c.run_serve.ensures.stays)
 
 pub returns-in-Serve-clause-nonces : goal.returns-in-Serve-clause-nonces
-returns-in-Serve-clause-nonces g c = asked_nonces (λ asked gate entries e. ⊥) _ (Unit {0}) _ (None) _ _ (ap (λ (z : Read). Some (read_as z)) c.in-Serve.is) _ (⊎_elim (λ same. inl same.2) (λ may. inr may) c.run_serve.ensures.stays)
+returns-in-Serve-clause-nonces g c = asked_nonces (λ asked gate entries e. ⊥) _ (Unit {0}) _ (None) _ _ (ap (λ (z : Read). Some (read_as z)) c.in-Serve.is) _ (⊎_elim (λ same. inl same.1) (λ may. inr may.0) c.run_serve.ensures.stays)
 
 pub returns-in-Serve-clause-nonce_faults : goal.returns-in-Serve-clause-nonce_faults
-returns-in-Serve-clause-nonce_faults g c = asked_serve _ _ _ (ap (λ (z : Read). Some (read_as z)) c.in-Serve.is) _ (⊎_elim (λ same. inl (no_fewer g.N.Nonces.faults _ _ same.2)) (λ may. inr may) c.run_serve.ensures.stays)
+returns-in-Serve-clause-nonce_faults g c = asked_serve _ _ _ _ (ap (λ (z : Read). Some (read_as z)) c.in-Serve.is) _ (⊎_elim (λ same. inl (no_fewer g.N.Nonces.faults _ _ same.1)) (λ may. inr may) c.run_serve.ensures.stays)

@@ -11,10 +11,13 @@ returns-in-Ok-clause-ends g c = given_ends _ _ _ _ _ _ _ _ _
     (λ e h. is_uri c.in-Ok.service.uri c.in-Ok.ensures.answer.0 (is_given c.in-Ok.service.key c.in-Ok.ensures.answer.1 h)) c.serve.ensures.ends
 
 pub returns-in-Ok-clause-moments : goal.returns-in-Ok-clause-moments
-returns-in-Ok-clause-moments g c = ⊎_elim inl (λ keeps. inr (record { uri = c.in-Ok.service.uri; one = c.in-Ok.ensures.answer.0; key = c.in-Ok.service.key; has_key = c.in-Ok.ensures.answer.1 }, keeps)) c.serve.ensures.moments
+returns-in-Ok-clause-moments g c = ⊎_elim inl (λ (book, keeps). inr ((record { uri = c.in-Ok.service.uri; one = c.in-Ok.ensures.answer.0; key = c.in-Ok.service.key; has_key = c.in-Ok.ensures.answer.1 }, book), keeps)) c.serve.ensures.moments
+
+pub returns-in-Ok-clause-untouched : goal.returns-in-Ok-clause-untouched
+returns-in-Ok-clause-untouched g c = inr (record { uri = c.in-Ok.service.uri; one = c.in-Ok.ensures.answer.0; key = c.in-Ok.service.key; has_key = c.in-Ok.ensures.answer.1 })
 
 pub returns-in-Ok-clause-stays : goal.returns-in-Ok-clause-stays
-returns-in-Ok-clause-stays g c = inr (record { uri = c.in-Ok.service.uri; one = c.in-Ok.ensures.answer.0; key = c.in-Ok.service.key; has_key = c.in-Ok.ensures.answer.1 })
+returns-in-Ok-clause-stays g c = ⊎_elim inl (λ book. inr (record { uri = c.in-Ok.service.uri; one = c.in-Ok.ensures.answer.0; key = c.in-Ok.service.key; has_key = c.in-Ok.ensures.answer.1 }, book)) c.serve.ensures.stays
 
 pub returns-in-Ok-clause-shelf : goal.returns-in-Ok-clause-shelf
 returns-in-Ok-clause-shelf g c = c.in-Ok.ensures.shelf _ (λ ran. absurd ran)

@@ -10,7 +10,16 @@ use Rattle.ots_server.proofs.Running.{closed_ends, opened_ends}
 use Rattle.ots_server.proofs.serve.serve.Goals as goal
 
 pub returns-in-Ok-clause-moments : goal.returns-in-Ok-clause-moments
-returns-in-Ok-clause-moments g c = inr (c.in-Ok.book.store.journal.entries, c.in-Ok.ensures.ok.store.has.stand, c.serve_book.ensures.keeps)
+returns-in-Ok-clause-moments g c = inr (
+  (c.in-Ok.book.store.journal.entries, record { store = c.in-Ok.ensures.ok.store.has; are_true = c.in-Ok.ensures.ok.are_true }),
+  (c.in-Ok.book.store.journal.entries, c.in-Ok.ensures.ok.store.has.stand, c.serve_book.ensures.keeps),
+)
+
+pub returns-in-Ok-clause-stays : goal.returns-in-Ok-clause-stays
+returns-in-Ok-clause-stays g c = inr (c.in-Ok.book.store.journal.entries, record { store = c.in-Ok.ensures.ok.store.has; are_true = c.in-Ok.ensures.ok.are_true })
+
+pub returns-in-Err-clause-stays : goal.returns-in-Err-clause-stays
+returns-in-Err-clause-stays g c = inl (refl, refl, c.in-Err.ensures.err.later)
 
 pub returns-in-Err-clause-moments : goal.returns-in-Err-clause-moments
 returns-in-Err-clause-moments g c = inl c.in-Err.ensures.err.moments
