@@ -46,6 +46,33 @@ fn all_links_are_answered_and_then_serving_is_over(rt: HostRuntime) -> Result<()
     Ok(())
 }
 
+// Whether a link with this request gets this reply, on a new journal that stays empty.
+fn gets(
+    rt: &(impl AllocGlobal + Threads + Wait + Sync),
+    request: &[u8],
+    line: &str,
+    word: &str,
+) -> Result<bool, Fail> {
+    let ended = run(rt, &SERVE_ONE, &On::new(&[], request, 1))?;
+    let wanted = reply(rt.alloc(), line, "text/plain", word.as_bytes())?;
+    Ok(ended.reply(0) == wanted.as_slice() && ended.disk.bytes().len() == 9)
+}
+
+#[test]
+fn each_refused_request_has_its_reply(rt: HostRuntime) -> Result<(), Fail> {
+    let none = b"POST /digest HTTP/1.1\r\nContent-Length: 0\r\n\r\n";
+    assert!(rt; gets(&rt, none, "400 Bad Request", "bad request\n")?);
+    let over = b"POST /digest HTTP/1.1\r\nContent-Length: 65\r\n\r\n";
+    assert!(rt; gets(&rt, over, "413 Content Too Large", "too large\n")?);
+    let unstated = b"POST /digest HTTP/1.1\r\n\r\n";
+    assert!(rt; gets(&rt, unstated, "411 Length Required", "length required\n")?);
+    let get = b"GET /digest HTTP/1.1\r\n\r\n";
+    assert!(rt; gets(&rt, get, "405 Method Not Allowed", "method not allowed\n")?);
+    let half = b"GET /timestamp/0 HTTP/1.1\r\n\r\n";
+    assert!(rt; gets(&rt, half, "400 Bad Request", "bad request\n")?);
+    Ok(())
+}
+
 #[test]
 fn a_commitment_is_pending_and_then_complete(rt: HostRuntime) -> Result<(), Fail> {
     let stored = bytes_of(rt.alloc(), STORED)?;
