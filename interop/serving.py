@@ -9,18 +9,25 @@ an operator stops it, and begun anew on its journal. Then `tip` is called, a blo
 whose one transaction holds the tip's root, and `anchor` is called. RemoteCalendar fetches each commitment, and the
 timestamps are verified against the block's header by the library's own verify_against_blockheader.
 
+Then two workers serve while one client connects and sends nothing, and others send half a request and reset the
+connection: 100 digests are stamped meanwhile, and the silent client is cut off once its minute is over and another
+connection has come.
+
 It prints how many digests, commitments and verified timestamps there were, and ends with status 1 at the first
 difference. It needs Debian's python3-opentimestamps and python3-bitcoinlib, and is run by hand.
 """
 
+import atexit
 import hashlib
 import os
 import signal
 import socket
+import struct
 import subprocess
 import sys
 import tempfile
 import threading
+import time
 
 try:
     from bitcoin.core import CBlock, CMutableTransaction, CTxIn, CTxOut, COutPoint
@@ -63,7 +70,8 @@ class Server:
     def __init__(self, otsd, folder, uri, port, workers):
         words = [otsd, 'journal', 'serve', '--key', 'key', '--uri', uri, '--port', str(port), '--workers', str(workers)]
         # The program ends only by a signal: nothing bounds its connections.
-        self.process = subprocess.Popen(words, cwd=folder, stdout=subprocess.PIPE)
+        self.process = subprocess.Popen(words, cwd=folder, stdout=subprocess.PIPE, stderr=subprocess.DEVNULL)
+        atexit.register(self.process.kill)
         if self.process.stdout.readline() != f'listening {port}\n'.encode():
             fail('it does not listen')
 
@@ -147,6 +155,43 @@ def round_of(otsd, folder, threads, base):
     print(f'{threads} threads: {len(digests)} digests, {len(set(commitments))} commitments, {verified} verified')
 
 
+def reset(port):
+    """Sends half a request, and resets the connection."""
+    with socket.create_connection(('127.0.0.1', port)) as one:
+        one.sendall(b'POST /digest HTTP/1.1\r\nContent-Length: 32\r\n\r\nhalf')
+        one.setsockopt(socket.SOL_SOCKET, socket.SO_LINGER, struct.pack('ii', 1, 0))
+
+
+def rude_clients(otsd, folder):
+    """Clients that are silent or break off hold none but their own worker."""
+    port = free_port()
+    uri = f'http://127.0.0.1:{port}'
+    server = Server(otsd, folder, uri, port, 2)
+    with socket.create_connection(('127.0.0.1', port)) as silent:
+        begun = time.monotonic()
+        digests = [hashlib.sha256(f'rude {number}'.encode()).digest() for number in range(100)]
+
+        def submit(digest):
+            reset(port)
+            return RemoteCalendar(uri).submit(digest, timeout=30)
+
+        stamped = in_threads(4, digests, submit)
+        served = time.monotonic() - begun
+        for one in stamped:
+            commitment_of(one, uri)
+        # Its minute is over, and the next connection comes.
+        time.sleep(65)
+        submit(hashlib.sha256(b'later').digest())
+        silent.settimeout(10)
+        try:
+            if silent.recv(1) != b'':
+                fail('a silent client got a byte')
+        except ConnectionResetError:
+            pass
+    server.stop()
+    print(f'{len(stamped)} digests beside rude clients in {served:.1f} seconds; a silent one was cut off')
+
+
 def main():
     """One journal for all."""
     otsd = os.path.abspath(sys.argv[1])
@@ -155,6 +200,7 @@ def main():
             key.write(os.urandom(32))
         for threads in THREADS:
             round_of(otsd, folder, threads, 'digest')
+        rude_clients(otsd, folder)
 
 
 main()
