@@ -1,5 +1,6 @@
 -- Canonical forms and joins, from the tokens that merging writes.
-use Rattle.std.proofs.Common.{◌≡◌, ◌↔◌, ℕ, List, [], ◌∷◌, ◌++◌, length, refl, sym, ap, subst, ◌∙◌}
+use Rattle.std.proofs.Common.{◌≡◌, ◌↔◌, ℕ, zero, suc, List, arith, [], ◌∷◌, ◌++◌, length, refl, sym, ap, subst, ◌∙◌}
+use Rattle.std.specs.Prelude.{All}
 use Rattle.std.proofs.lemmas.List.{append-nil}
 use Rattle.std.proofs.Math.Seq.{drop-append_seam}
 use Rattle.ots_tree.specs.declared.token.Token.{Token}
@@ -7,7 +8,7 @@ use Rattle.ots_tree.specs.Wire.{Node, Path, paths, pre, IsPre}
 use Rattle.ots_canon.specs.Order.{Has}
 use Rattle.ots_canon.specs.Canonical.{IsCanonTree, IsCanonOf}
 use Rattle.ots_canon.specs.Join.{IsJoinOf}
-use Rattle.ots_canon.specs.Places.{IsNodeAt, AreNodes, HasAt, HasAmong, IsFormOf}
+use Rattle.ots_canon.specs.Places.{IsNodeAt, HasNode, AreNodes, HasAt, HasAmong, IsFormOf}
 use Rattle.ots_canon.proofs.OneTree.{paths_rise}
 use Rattle.ots_canon.proofs.Nodes.{nodes_of, nodes_of_both, has_here}
 use Rattle.ots_canon.proofs.Among.{back, onward, both, union, at_one, has_append}
@@ -47,6 +48,17 @@ canon_of ts us vs form e p f same = record {
 }
 
 -- ---- of two
+
+both_places : {ts : List Token} (m n : ℕ) → HasNode ts m → HasNode ts n → All (HasNode ts) (m ∷ n ∷ [])
+both_places m n a b zero d l = a
+both_places m n a b (suc zero) d l = b
+both_places m n a b (suc (suc k)) d l = absurd (omega arith)
+
+pub two_roots : (ts us vs : List Token) (n : ℕ) → vs ≡ ts ++ us → IsPre ts → IsPre us → n ≡ length ts → All (HasNode vs) (0 ∷ n ∷ [])
+two_roots ts us vs n e p q len =
+    subst (λ (z : List Token). All (HasNode z) (0 ∷ n ∷ [])) ((λ i. p.1 i ++ q.1 i) ∙ sym e)
+    (both_places 0 n (record { node = p.0; is_at = here p.0 (pre q.0) })
+    (subst (HasNode (pre p.0 ++ pre q.0)) (ap length p.1 ∙ sym len) (record { node = q.0; is_at = behind p.0 q.0 })))
 
 pub two_nodes : (ts us vs : List Token) → vs ≡ ts ++ us → IsPre ts → IsPre us → AreNodes vs
 two_nodes ts us vs e p q = subst AreNodes ((λ i. p.1 i ++ q.1 i) ∙ sym e) (nodes_of_both p.0 q.0)

@@ -1,15 +1,15 @@
 -- Gathering the items of nodes.
 use Rattle.std.proofs.Common.{◌≡◌, ◌↔◌, ◌⊎◌, ℕ, ◌+◌, ◌-◌, ◌<◌, ◌≤◌, List, [], ◌∷◌, ◌++◌, length, get_or, take, drop, sym, ap, subst, ◌∙◌, inl, inr, arith, append_assoc, length-append}
-use Rattle.std.specs.Prelude.{All}
+use Rattle.std.specs.Prelude.{All, slice_get, true, false}
 use Rattle.std.proofs.lemmas.List.{append-nil, take_more, take_all, length-drop, get_or-drop}
 use Rattle.std.proofs.lemmas.List.Elements.{All-nil, All-push, All-append, Contains-get_or}
 use Rattle.std.proofs.lemmas.List.Sums.{sum_by-append, sum_by_push}
 use Rattle.ots_ops.specs.declared.op.Op.{Op}
 use Rattle.ots_tree.specs.declared.token.Token.{Token}
-use Rattle.ots_tree.specs.declared.token.Token.TheVariants as token
 use Rattle.ots_tree.specs.Wire.{last, more, step, Path, paths, paths_of_item, pre_item}
+use Rattle.ots_canon.specs.Tags.{is_fork, is_op}
 use Rattle.ots_canon.specs.Places.{IsNodeAt, HasNode, IsItem, AreEnds, HasAt, HasAmong, HasBehind, Covers, size, total, Gathers, GathersBehind, AreBehind, IsFormOf}
-use Rattle.ots_canon.proofs.Nodes.{node_in, behind_op, behind_fork, behind_item, some_token, length_op, length_more, token_is, item_node, size_is, has_here}
+use Rattle.ots_canon.proofs.Nodes.{item_has, node_in, behind_op, behind_fork, behind_item, some_token, length_op, length_more, token_is, item_node, size_is, has_here}
 use Rattle.ots_canon.proofs.Ends.{AtFork, AtOp, at_fork, at_op, weaker}
 use Rattle.ots_canon.proofs.Among.{contains_some, alike, back, onward, both, regrouped, among_none, union, pushed, has_append, some_has}
 
@@ -63,23 +63,21 @@ gathering_more {ts} {es} {node} {at} {before} {now} after ends f e g =
       few = omega arith;
     }
 
-pub gathering_fork : {ts : List Token} {es : List ℕ} {node at : ℕ} {before now : List ℕ} {x : Token} → AreEnds ts es → x ≡ get_or ts at x → x ≡ token.Fork
-    → Gathering ts es node at before now → AtFork ts es at
-gathering_fork {ts} {es} {at = at} {x = x} ends is f g = at_fork ts es at x (weaker ts es (at + 1) ends) g.here is f
+pub gathering_fork : {ts : List Token} {es : List ℕ} {node at : ℕ} {before now : List ℕ} → AreEnds ts es → is_fork (slice_get ts at) ≡ true → Gathering ts es node at before now → AtFork ts es at
+gathering_fork {ts} {es} {at = at} ends f g = at_fork (weaker ts es (at + 1) ends) g.here f
 
 pub gathering_within : {ts : List Token} {es : List ℕ} {node at : ℕ} {before now : List ℕ} → Gathering ts es node at before now → at < length ts
 gathering_within {ts} {at = at} g = node_in g.here
 
-pub gathered : {ts : List Token} {es : List ℕ} {node at : ℕ} {before now : List ℕ} (after : List ℕ) {x : Token} → x ≡ get_or ts at x → (x ≡ token.Fork → ⊥)
+pub gathered : {ts : List Token} {es : List ℕ} {node at : ℕ} {before now : List ℕ} (after : List ℕ) → is_fork (slice_get ts at) ≡ false
     → after ≡ now ++ at ∷ [] → Gathering ts es node at before now → Gathers ts es node before after
-gathered {ts} {es} {node} {at} {before} {now} after {x} is not_fork e g =
-    let split = item_node g.here.node x (is ∙ token_is ts at g.here.node x g.here.is_at) not_fork in
+gathered {ts} {es} {node} {at} {before} {now} after no_fork e g =
     let added = sum_by_push (size es) g.more at in
     let few = g.few in
     record {
       more = g.more ++ at ∷ [];
       are = e ∙ ap (λ (z : List ℕ). z ++ at ∷ []) g.are ∙ append_assoc before g.more (at ∷ []);
-      items = All-push (IsItem ts) g.more at g.items (record { item = split.0; is_at = subst (IsNodeAt ts at) split.1 g.here.is_at });
+      items = All-push (IsItem ts) g.more at g.items (item_node g.here no_fork);
       same = λ p. onward (pushed (HasAt ts) g.more at p) (g.same p);
       few = omega arith;
     }
@@ -130,29 +128,28 @@ behind_more {ts} {es} {ks} {before} k ls items same l b =
     let few = b.few in
     record { covers = covers_more k ls items same b.covers; few = omega arith }
 
-behind_at : {ts : List Token} {es : List ℕ} {k : ℕ} {o : Op} → AtOp ts es k o → (p : Path) → HasBehind ts k p ↔ HasAt ts (k + 1) p
-behind_at {ts} {es} {k} {o} f p = (
+behind_at : {ts : List Token} {es : List ℕ} {k : ℕ} → AtOp ts es k → (p : Path) → HasBehind ts k p ↔ HasAt ts (k + 1) p
+behind_at {ts} {es} {k} f p = (
   (λ h. record { node = h.node; is_at = behind_op ts k h.op h.node h.is_at; has = h.has }),
-  (λ h. record { op = o; node = f.node; is_at = f.is_at; has = (has_here ts (k + 1) f.node f.behind p).0 h }),
+  (λ h. record { op = f.op; node = f.node; is_at = f.is_at; has = (has_here ts (k + 1) f.node f.behind p).0 h }),
 )
 
 -- an operation
-pub gathered_op : {ts : List Token} {es : List ℕ} {k : ℕ} {o : Op} {before after : List ℕ} → AreEnds ts es → AtOp ts es k o
+pub gathered_op : {ts : List Token} {es : List ℕ} {k : ℕ} {before after : List ℕ} → AreEnds ts es → AtOp ts es k
     → Gathers ts es (k + 1) before after → GathersBehind ts es k before after
-gathered_op {ts} {es} {k} {o} ends at g =
+gathered_op {ts} {es} {k} ends at g =
     let size_one = size_is ts es (k + 1) at.node ends at.behind in
-    let size_all = size_is ts es k (last (step o at.node)) ends at.is_at in
-    let all = length_op o at.node in
+    let size_all = size_is ts es k (last (step at.op at.node)) ends at.is_at in
+    let all = length_op at.op at.node in
     let few = g.few in
     record { more = g.more; are = g.are; items = g.items; same = λ p. onward (g.same p) (back (behind_at at p)); few = omega arith }
 
 -- nothing stands behind an attestation
-pub gathered_none : {ts : List Token} {es : List ℕ} {k : ℕ} {y : Token} (before : List ℕ) → AreEnds ts es → IsItem ts k
-    → y ≡ get_or ts k y → ((o : Op) → y ≡ token.Op o → ⊥) → GathersBehind ts es k before before
-gathered_none {ts} {es} {k} {y} before ends i is not_op =
+pub gathered_none : {ts : List Token} {es : List ℕ} {k : ℕ} (before : List ℕ) → AreEnds ts es → IsItem ts k → is_op (slice_get ts k) ≡ false → GathersBehind ts es k before before
+gathered_none {ts} {es} {k} before ends i no_op =
     let size_all = size_is ts es k (last i.item) ends i.is_at in
     let some = some_token (last i.item) in
-    let none : (p : Path) → HasBehind ts k p → ⊥ = λ p a. not_op a.op (is ∙ token_is ts k (last (step a.op a.node)) y a.is_at) in
+    let none : (p : Path) → HasBehind ts k p → ⊥ = λ p a. (let g = ap is_op (token_is ts k (last (step a.op a.node)) a.is_at) in absurd cc) in
     record {
       more = [];
       are = sym (append-nil before);
@@ -162,8 +159,8 @@ gathered_none {ts} {es} {k} {y} before ends i is not_op =
     }
 
 -- the operation of an item
-pub op_here : {ts : List Token} {es : List ℕ} {k : ℕ} {y : Token} {o : Op} → IsItem ts k → AreEnds ts es → y ≡ get_or ts k y → y ≡ token.Op o → AtOp ts es k o
-op_here {ts} {es} {k} {y} {o} i ends is f = at_op ts es k y o (weaker ts es (k + 1) ends) (record { node = last i.item; is_at = i.is_at }) is f
+pub op_here : {ts : List Token} {es : List ℕ} {k : ℕ} → IsItem ts k → AreEnds ts es → is_op (slice_get ts k) ≡ true → AtOp ts es k
+op_here {ts} {es} {k} i ends f = at_op (weaker ts es (k + 1) ends) (item_has i) f
 
 pub behind_next : {ts : List Token} {es : List ℕ} (run : List ℕ) (n : ℕ) {before after : List ℕ} → n < length run
     → GathersBehind ts es (get_or run n 0) before after → AreBehind ts es (take n run) before → AreBehind ts es (take (n + 1) run) after
@@ -172,33 +169,5 @@ behind_next {ts} {es} run n {before} l g b =
     (subst (λ (z : List ℕ). AreBehind ts es z (before ++ g.more)) (sym (take_more run n 0 l))
     (behind_more (get_or run n 0) g.more g.items g.same g.few b))
 
--- the same from a place of the list on
-pub behind_further : {ts : List Token} {es : List ℕ} (ks : List ℕ) (from end : ℕ) {before after : List ℕ} → from ≤ end → end < length ks
-    → GathersBehind ts es (get_or ks end 0) before after → AreBehind ts es (take (end - from) (drop from ks)) before → AreBehind ts es (take (end + 1 - from) (drop from ks)) after
-behind_further {ts} {es} ks from end {before} {after} some l g b =
-    let len = length-drop from ks in
-    let next : end - from + 1 ≡ end + 1 - from = omega arith in
-    let at : from + (end - from) ≡ end = omega arith in
-    subst (λ (z : ℕ). AreBehind ts es (take z (drop from ks)) after) next
-    (behind_next (drop from ks) (end - from) (omega arith)
-    (subst (λ (z : ℕ). GathersBehind ts es z before after) (sym (get_or-drop from ks (end - from) 0 ∙ ap (λ (z : ℕ). get_or ks z 0) at)) g) b)
-
--- at first
-pub behind_first : {ts : List Token} {es : List ℕ} (ks : List ℕ) (from : ℕ) {before after : List ℕ} → from < length ks → before ≡ []
-    → GathersBehind ts es (get_or ks from 0) before after → AreBehind ts es (take (from + 1 - from) (drop from ks)) after
-behind_first {ts} {es} ks from {before} {after} l e g =
-    behind_further ks from from {before = before} (omega arith) l g
-    (let zero : from - from ≡ 0 = omega arith in
-    subst (λ (z : ℕ). AreBehind ts es (take z (drop from ks)) before) (sym zero) (subst (AreBehind ts es []) (sym e) (behind_none ts es)))
-
-pub item_in : {ts : List Token} {k : ℕ} → IsItem ts k → k < length ts
-item_in i = node_in (record { node = last i.item; is_at = i.is_at })
-
-pub item_from : {ts : List Token} (ks : List ℕ) (from end : ℕ) → from ≤ end → end < length ks → All (IsItem ts) (drop from ks) → IsItem ts (get_or ks end 0)
-item_from {ts} ks from end some l h =
-    let len = length-drop from ks in
-    let at : from + (end - from) ≡ end = omega arith in
-    subst (IsItem ts) (get_or-drop from ks (end - from) 0 ∙ ap (λ (z : ℕ). get_or ks z 0) at) (h (end - from) 0 (omega arith))
-
-pub behind_node : {ts : List Token} {es : List ℕ} {k : ℕ} {o : Op} → AtOp ts es k o → HasNode ts (k + 1)
+pub behind_node : {ts : List Token} {es : List ℕ} {k : ℕ} → AtOp ts es k → HasNode ts (k + 1)
 behind_node h = record { node = h.node; is_at = h.behind }

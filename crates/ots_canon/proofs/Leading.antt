@@ -1,8 +1,9 @@
 -- Which nodes lead to a Bitcoin height.
 use Rattle.std.proofs.Common.{◌≡◌, ◌↔◌, ◌⊎◌, ℕ, ◌+◌, ◌<◌, ◌≤◌, List, [], ◌∷◌, ◌++◌, length, get_or, set, take, Bool, true, false, Option, Some, None, refl, sym, ap, subst, ◌∙◌, inl, inr, arith, get_or-set_other, get_or-set_same, length-set}
-use Rattle.std.specs.Prelude.{Contains, if◌then◌else◌, nat_lt, All}
+use Rattle.std.specs.Prelude.{Contains, if◌then◌else◌, nat_lt, slice_get, All}
 use Rattle.std.proofs.lemmas.Bool.{cases_order, ltb-true, ltb-false}
 use Rattle.std.proofs.lemmas.List.{take_more}
+use Rattle.std.proofs.lemmas.Option.{slice_get-get_or}
 use Rattle.std.proofs.lemmas.List.Elements.{Contains-append_left, Contains-append_right, Contains-append_cases, Contains-push, Contains-push_cases}
 use Rattle.ots_ops.specs.declared.op.Op.{Op}
 use Rattle.ots_attest.specs.declared.attestation.Attestation.{Attestation}
@@ -11,11 +12,12 @@ use Rattle.ots_tree.specs.declared.token.Token.{Token}
 use Rattle.ots_tree.specs.declared.token.Token.TheVariants as token
 use Rattle.ots_tree.specs.Wire.{Node, Item, last, more, attested, step, Path, below, paths, paths_of_item, pre, pre_item}
 use Rattle.ots_canon.specs.Order.{Has}
+use Rattle.ots_canon.specs.Tags.{is_fork, is_op}
 use Rattle.ots_canon.specs.Places.{IsNodeAt, HasNode, IsItem}
 use Rattle.ots_canon.specs.Leading.{token_height, height_of, bitcoin, lower, IsLeastHeight, Leads, is_marked, AreLeads, AreLeadsFrom}
 use Rattle.ots_canon.proofs.Rising.{has_left, has_right, has_either}
 use Rattle.ots_canon.proofs.Growing.{path_of}
-use Rattle.ots_canon.proofs.Nodes.{has_here, node_in, token_is, end_node}
+use Rattle.ots_canon.proofs.Nodes.{item_has, node_in, has_here, token_is, item_node, end_item}
 use Rattle.ots_canon.proofs.Ends.{AtFork, AtOp}
 use Rattle.ots_canon.proofs.Among.{contains_one, has_below, is_below}
 use Rattle.ots_canon.proofs.Gathering.{fork_paths}
@@ -126,11 +128,12 @@ least_push ts x None None e f = least_skip ts x None e f
 least_push ts x (Some low) None e f = least_skip ts x (Some low) e f
 least_push ts x found (Some g) e f = subst (λ (z : Token). IsLeastHeight (ts ++ z ∷ []) (lower found (Some g))) (sym (token_of x g e)) (least_one ts g found f)
 
-pub least_more : (ts : List Token) (n : ℕ) (x : Token) (found : Option ℕ) → n < length ts → x ≡ get_or ts n x → IsLeastHeight (take n ts) found
-    → IsLeastHeight (take (n + 1) ts) (lower found (token_height x))
-least_more ts n x found l is f =
-    subst (λ (z : List Token). IsLeastHeight z (lower found (token_height x))) (ap (λ (z : Token). take n ts ++ z ∷ []) is ∙ sym (take_more ts n x l))
-    (least_push (take n ts) x found (token_height x) refl f)
+pub least_more : (ts : List Token) (n : ℕ) (found height : Option ℕ) → n < length ts → ((x : Token) → slice_get ts n ≡ Some x → height ≡ token_height x) → IsLeastHeight (take n ts) found
+    → IsLeastHeight (take (n + 1) ts) (lower found height)
+least_more ts n found height l is f =
+    let x = get_or ts n token.Fork in
+    subst (λ (z : List Token). IsLeastHeight z (lower found height)) (sym (take_more ts n token.Fork l))
+    (least_push (take n ts) x found height (sym (is x (slice_get-get_or ts n token.Fork l))) f)
 
 -- ---- the nodes that lead to it
 
@@ -146,14 +149,14 @@ leads_fork {ts} {es} {k} {height} f = (
   ]),
 )
 
-pub leads_op : {ts : List Token} {es : List ℕ} {k height : ℕ} {o : Op} → AtOp ts es k o → Leads ts height k ↔ Leads ts height (k + 1)
-leads_op {ts} {es} {k} {height} {o} f = (
+pub leads_op : {ts : List Token} {es : List ℕ} {k height : ℕ} → AtOp ts es k → Leads ts height k ↔ Leads ts height (k + 1)
+leads_op {ts} {es} {k} {height} f = (
   (λ h.
-      let b = is_below o (paths f.node) h.path ((has_here ts k (last (step o f.node)) f.is_at h.path).0 h.has) in
+      let b = is_below f.op (paths f.node) h.path ((has_here ts k (last (step f.op f.node)) f.is_at h.path).0 h.has) in
       record { path = b.inner; has = (has_here ts (k + 1) f.node f.behind b.inner).1 b.has; ends = ap (λ (z : Path). z.end) b.is ∙ h.ends }),
   (λ h. record {
-    path = below o h.path;
-    has = (has_here ts k (last (step o f.node)) f.is_at (below o h.path)).1 (has_below o (paths f.node) h.path ((has_here ts (k + 1) f.node f.behind h.path).0 h.has));
+    path = below f.op h.path;
+    has = (has_here ts k (last (step f.op f.node)) f.is_at (below f.op h.path)).1 (has_below f.op (paths f.node) h.path ((has_here ts (k + 1) f.node f.behind h.path).0 h.has));
     ends = h.ends;
   }),
 )
@@ -185,20 +188,17 @@ leads_earlier {ts} {height} {n} {ls} {v} l h is = record {
     here : (get_or (set ls n v) n false ≡ true) ↔ Leads ts height n
     here = subst (λ (z : Bool). (z ≡ true) ↔ Leads ts height n) (sym (get_or-set_same ls n v false (let s = h.length_is in omega arith))) is
 
-pub item_in : {ts : List Token} {k : ℕ} → IsItem ts k → k < length ts
-item_in i = node_in (record { node = last i.item; is_at = i.is_at })
-
 pub marked : {ts : List Token} {height k : ℕ} {ls : List Bool} → AreLeads ts height ls → IsItem ts k → (is_marked ls k ≡ true) ↔ Leads ts height k
-marked {ts} {height} {k} {ls} h i = h.leads k (omega arith) (item_in i)
+marked {ts} {height} {k} {ls} h i = h.leads k (omega arith) (node_in (item_has i))
 
 -- at an attestation
-pub end_here : {ts : List Token} {k : ℕ} {x : Token} {a : Attestation} → HasNode ts k → x ≡ get_or ts k x → x ≡ token.Attestation a → IsNodeAt ts k (last (attested a))
-end_here {ts} {k} {x} {a} h is e = subst (IsNodeAt ts k) (end_node h.node x a (is ∙ token_is ts k h.node x h.is_at) e) h.is_at
-
-pub leads_here : {ts : List Token} {k : ℕ} {x : Token} {a : Attestation} (height : ℕ) → HasNode ts k → x ≡ get_or ts k x → x ≡ token.Attestation a → (token_height x ≡ Some height) ↔ Leads ts height k
-leads_here {x = x} height h is e =
-    let at = end_here h is e in
-    ((λ f. (leads_end at).1 (same_attestation (sym e ∙ token_of x height f))), (λ l. ap token_height e ∙ ap height_of ((leads_end at).0 l)))
+pub leads_here : {ts : List Token} {k height : ℕ} {A : Type 0} → HasNode ts k → is_fork (slice_get ts k) ≡ false → is_op (slice_get ts k) ≡ false
+    → ((x : Token) → slice_get ts k ≡ Some x → A ↔ (token_height x ≡ Some height)) → A ↔ Leads ts height k
+leads_here {ts} {k} {height} h no_fork no_op is =
+    let at = end_item (item_node h no_fork) no_op in
+    let tells = is (token.Attestation at.0) (token_is ts k (last (attested at.0)) at.1) in
+    let here = leads_end at.1 in
+    ((λ a. here.1 (bitcoin_of at.0 height (tells.0 a))), (λ l. tells.1 (ap height_of (here.0 l))))
 
 pub within_marks : {ts : List Token} {height : ℕ} {ls : List Bool} (ks : List ℕ) → All (IsItem ts) ks → AreLeads ts height ls → All (λ (k : ℕ). k < length ls) ks
-within_marks {ts} {height} {ls} ks items marks = λ k d l. let i = item_in (items k d l) in let e = marks.length_is in omega arith
+within_marks {ts} {height} {ls} ks items marks = λ k d l. let i = node_in (item_has (items k d l)) in let e = marks.length_is in omega arith

@@ -1,5 +1,6 @@
 -- Nodes among the tokens of trees.
 use Rattle.std.proofs.Common.{◌≡◌, ◌↔◌, ℕ, zero, suc, ◌+◌, ◌-◌, ◌<◌, ◌≤◌, List, [], ◌∷◌, ◌++◌, length, get_or, drop, refl, sym, ap, subst, ◌∙◌, inl, inr, arith, append_assoc, length-append, length-drop}
+use Rattle.std.specs.Prelude.{slice_get, Some, true, false}
 use Rattle.std.proofs.lemmas.Bool.{cases_lt}
 use Rattle.std.proofs.lemmas.List.{append-nil, drop-drop, get_or-drop}
 use Rattle.std.proofs.lemmas.Option.{slice_get-get_or}
@@ -12,8 +13,9 @@ use Rattle.ots_tree.specs.Wire.{Node, Item, last, more, attested, step, Path, pa
 use Rattle.ots_tree.proofs.Determined.{pre-apart}
 use Rattle.ots_canon.specs.Order.{Has}
 use Rattle.ots_canon.specs.Steps.{step_at, step_of, token_step}
+use Rattle.ots_canon.specs.Tags.{is_fork, is_op}
 use Rattle.ots_canon.specs.Canonical.{place}
-use Rattle.ots_canon.specs.Places.{IsNodeAt, HasNode, AreNodes, AreEnds, HasAt, size}
+use Rattle.ots_canon.specs.Places.{IsNodeAt, HasNode, IsItem, AreNodes, AreEnds, HasAt, size}
 
 pub one_node : (ts : List Token) (k : ℕ) (t u : Node) → IsNodeAt ts k t → IsNodeAt ts k u → t ≡ u
 one_node ts k t u h g = (pre-apart t u h.rest g.rest (sym h.are ∙ g.are)).0
@@ -69,42 +71,66 @@ head_first (last (attested a)) xs d = refl
 head_first (last (step o t)) xs d = refl
 head_first (more i t) xs d = refl
 
-pub token_is : (ts : List Token) (k : ℕ) (t : Node) (d : Token) → IsNodeAt ts k t → get_or ts k d ≡ head_token t
-token_is ts k t d h =
+pub read_is : (ts : List Token) (k : ℕ) (t : Node) (d : Token) → IsNodeAt ts k t → get_or ts k d ≡ head_token t
+read_is ts k t d h =
     let e : k ≡ k + 0 = omega arith in
     ap (λ (z : ℕ). get_or ts z d) e ∙ sym (get_or-drop k ts 0 d) ∙ ap (λ (z : List Token). get_or z 0 d) h.are ∙ head_first t h.rest d
+
+pub token_is : (ts : List Token) (k : ℕ) (t : Node) → IsNodeAt ts k t → slice_get ts k ≡ Some (head_token t)
+token_is ts k t h =
+    let w = node_within ts k t h in
+    let some = some_token t in
+    slice_get-get_or ts k token.Fork (omega arith) ∙ ap (λ (z : Token). Some z) (read_is ts k t token.Fork h)
+
+-- that token
+pub this_token : {ts : List Token} {k : ℕ} {t : Node} {x : Token} → IsNodeAt ts k t → slice_get ts k ≡ Some x → x ≡ head_token t
+this_token {ts} {k} {t} h e = let f = sym e ∙ token_is ts k t h in cc
 
 pub head_item : (i : Item) → token_step (head_token (last i)) ≡ place i
 head_item (attested a) = refl
 head_item (step o t) = refl
 
 pub step_is : (ts : List Token) (k : ℕ) (i : Item) → IsNodeAt ts k (last i) → step_at ts k ≡ place i
-step_is ts k i h =
-    let w = node_within ts k (last i) h in
-    let some = some_token (last i) in
-    let in_range : k < length ts = omega arith in
-    ap step_of (slice_get-get_or ts k token.Fork in_range) ∙ ap token_step (token_is ts k (last i) token.Fork h) ∙ head_item i
+step_is ts k i h = ap step_of (token_is ts k (last i) h) ∙ head_item i
 
 -- a node, by its first token
-pub fork_node : (t : Node) (x : Token) → x ≡ head_token t → x ≡ token.Fork → (i : Item) × (u : Node) × (t ≡ more i u)
-fork_node (last (attested a)) x e f = absurd (let g = sym e ∙ f in cc)
-fork_node (last (step o t)) x e f = absurd (let g = sym e ∙ f in cc)
-fork_node (more i t) x e f = (i, t, refl)
+pub fork_node : {ts : List Token} {k : ℕ} → HasNode ts k → is_fork (slice_get ts k) ≡ true → (i : Item) × (u : Node) × IsNodeAt ts k (more i u)
+fork_node {ts} {k} h e = by h.node h.is_at
+  where
+    by : (t : Node) → IsNodeAt ts k t → (i : Item) × (u : Node) × IsNodeAt ts k (more i u)
+    by (last (attested a)) at = absurd (let g = ap is_fork (token_is ts k (last (attested a)) at) in cc)
+    by (last (step o t)) at = absurd (let g = ap is_fork (token_is ts k (last (step o t)) at) in cc)
+    by (more i t) at = (i, t, at)
 
-pub op_node : (t : Node) (x : Token) (o : Op) → x ≡ head_token t → x ≡ token.Op o → (u : Node) × (t ≡ last (step o u))
-op_node (last (attested a)) x o e f = absurd (let g = sym e ∙ f in cc)
-op_node (last (step p t)) x o e f = (t, (let g = sym e ∙ f in cc))
-op_node (more i t) x o e f = absurd (let g = sym e ∙ f in cc)
+pub item_node : {ts : List Token} {k : ℕ} → HasNode ts k → is_fork (slice_get ts k) ≡ false → IsItem ts k
+item_node {ts} {k} h e = by h.node h.is_at
+  where
+    by : (t : Node) → IsNodeAt ts k t → IsItem ts k
+    by (last i) at = record { item = i; is_at = at }
+    by (more i t) at = absurd (let g = ap is_fork (token_is ts k (more i t) at) in cc)
 
-pub end_node : (t : Node) (x : Token) (a : Attestation) → x ≡ head_token t → x ≡ token.Attestation a → t ≡ last (attested a)
-end_node (last (attested b)) x a e f = let g = sym e ∙ f in cc
-end_node (last (step p t)) x a e f = absurd (let g = sym e ∙ f in cc)
-end_node (more i t) x a e f = absurd (let g = sym e ∙ f in cc)
+pub op_item : {ts : List Token} {k : ℕ} → HasNode ts k → is_op (slice_get ts k) ≡ true → (o : Op) × (t : Node) × IsNodeAt ts k (last (step o t))
+op_item {ts} {k} h e = by h.node h.is_at
+  where
+    by : (t : Node) → IsNodeAt ts k t → (o : Op) × (t : Node) × IsNodeAt ts k (last (step o t))
+    by (last (attested a)) at = absurd (let g = ap is_op (token_is ts k (last (attested a)) at) in cc)
+    by (last (step o t)) at = (o, t, at)
+    by (more i t) at = absurd (let g = ap is_op (token_is ts k (more i t) at) in cc)
 
--- a node whose first token is no fork
-pub item_node : (t : Node) (x : Token) → x ≡ head_token t → (x ≡ token.Fork → ⊥) → (i : Item) × (t ≡ last i)
-item_node (last i) x e f = (i, refl)
-item_node (more i t) x e f = absurd (f e)
+pub end_item : {ts : List Token} {k : ℕ} → IsItem ts k → is_op (slice_get ts k) ≡ false → (a : Attestation) × IsNodeAt ts k (last (attested a))
+end_item {ts} {k} h e = by h.item h.is_at
+  where
+    by : (i : Item) → IsNodeAt ts k (last i) → (a : Attestation) × IsNodeAt ts k (last (attested a))
+    by (attested a) at = (a, at)
+    by (step o t) at = absurd (let g = ap is_op (token_is ts k (last (step o t)) at) in cc)
+
+pub end_node : (t : Node) (a : Attestation) → token.Attestation a ≡ head_token t → t ≡ last (attested a)
+end_node (last (attested b)) a e = cc
+end_node (last (step p t)) a e = absurd cc
+end_node (more i t) a e = absurd cc
+
+pub item_has : {ts : List Token} {k : ℕ} → IsItem ts k → HasNode ts k
+item_has i = record { node = last i.item; is_at = i.is_at }
 
 -- ---- a node begins at each place
 

@@ -1,6 +1,6 @@
 -- The path that pruning keeps.
 use Rattle.std.proofs.Common.{◌≡◌, ◌↔◌, ◌⊎◌, ℕ, ◌+◌, ◌<◌, List, [], ◌∷◌, ◌++◌, length, get_or, take, Bool, true, false, not, Option, Some, None, refl, sym, ap, subst, ◌∙◌, inl, inr, arith, append_assoc}
-use Rattle.std.specs.Prelude.{Contains, All, cond, ◌&&◌, if◌then◌else◌}
+use Rattle.std.specs.Prelude.{Contains, All, slice_get, cond, ◌&&◌, if◌then◌else◌}
 use Rattle.std.specs.List.{filter}
 use Rattle.std.specs.Ordering.{is_lt, is_eq, ordering_then, ordering_reverse}
 use Rattle.std.specs.declared.cmp.Ordering.{Ordering}
@@ -24,10 +24,10 @@ use Rattle.ots_canon.specs.Places.{IsNodeAt, IsItem, HasAt, HasAmong, Covers, Ar
 use Rattle.ots_canon.specs.Leading.{IsLeastHeight, is_marked, AreLeads, first_of, IsFirst, IsFirstMarked, is_of_run, line, IsFirstPath, IsLineOfFirst}
 use Rattle.ots_canon.proofs.Orders.{equal_of, step_total, same_step, same_op}
 use Rattle.ots_canon.proofs.Growing.{single, single-paths, single-canonical, path_of}
-use Rattle.ots_canon.proofs.Nodes.{step_is, token_is, has_here}
+use Rattle.ots_canon.proofs.Nodes.{step_is, this_token, end_node, has_here}
 use Rattle.ots_canon.proofs.Among.{contains_none, contains_one, contains_some, onward, at_one, has_below, is_below}
 use Rattle.ots_canon.proofs.Gathering.{covers_none, items_more}
-use Rattle.ots_canon.proofs.Leading.{path_token, token_path, leads_end, end_here, marked}
+use Rattle.ots_canon.proofs.Leading.{path_token, token_path, leads_end, marked}
 
 -- ---- the first of the marked places
 
@@ -243,15 +243,15 @@ goes_on {ts} {es} {ls} {height} {ks} {first} {behind} us o v t at (inr n) =
     absurd (n.0 b.inner (behind_run t t.is_first.listed at (step_is ts first (step o v) at) b.has e) e)
 
 turned : {ts : List Token} {es : List ℕ} {ls : List Bool} {height : ℕ} {ks : List ℕ} {first : ℕ} {behind : List ℕ} (us : List Token) (x : Token)
-    → x ≡ get_or ts first x → ((a : Attestation) → x ≡ token.Attestation a → ⊥) → Turn ts es ls height ks first behind → IsLineOfFirst ts height behind us → IsLineOfFirst ts height ks (x ∷ us)
+    → slice_get ts first ≡ Some x → ((a : Attestation) → x ≡ token.Attestation a → ⊥) → Turn ts es ls height ks first behind → IsLineOfFirst ts height behind us → IsLineOfFirst ts height ks (x ∷ us)
 turned {ts} {es} {ls} {height} {ks} {first} {behind} us x is not_end t given = by i.item i.is_at
   where
     i : IsItem ts first
     i = All-contains (IsItem ts) ks first t.items t.is_first.listed
 
     by : (i : Item) → IsNodeAt ts first (last i) → IsLineOfFirst ts height ks (x ∷ us)
-    by (attested a) at = absurd (not_end a (is ∙ token_is ts first (last (attested a)) x at))
-    by (step o v) at = subst (λ (z : Token). IsLineOfFirst ts height ks (z ∷ us)) (sym (is ∙ token_is ts first (last (step o v)) x at)) (goes_on us o v t at given)
+    by (attested a) at = absurd (not_end a (this_token at is))
+    by (step o v) at = subst (λ (z : Token). IsLineOfFirst ts height ks (z ∷ us)) (sym (this_token at is)) (goes_on us o v t at given)
 
 -- ---- the walk
 
@@ -270,7 +270,7 @@ walk_begin {ts} {es} {before} {now} {written} height e f g =
     record { items = all.items; owes = λ us given. subst (λ (z : List Token). IsLineOfFirst ts height (0 ∷ []) (z ++ us)) (sym f) (line_same ts height now (0 ∷ []) us all.same given) }
 
 pub walk_next : {ts : List Token} {es : List ℕ} {ls : List Bool} {height : ℕ} {ks : List ℕ} {first : ℕ} {behind : List ℕ} {x : Token} {written now : List Token}
-    → x ≡ get_or ts first x → ((a : Attestation) → x ≡ token.Attestation a → ⊥) → now ≡ written ++ x ∷ [] → Turn ts es ls height ks first behind → IsWalking ts height ks written
+    → slice_get ts first ≡ Some x → ((a : Attestation) → x ≡ token.Attestation a → ⊥) → now ≡ written ++ x ∷ [] → Turn ts es ls height ks first behind → IsWalking ts height ks written
     → IsWalking ts height behind now
 walk_next {ts} {height = height} {x = x} {written = written} is not_end e t h = record {
   items = t.are_behind.covers.items;
@@ -279,11 +279,11 @@ walk_next {ts} {height = height} {x = x} {written = written} is not_end e t h = 
 
 -- at an attestation the walk is done
 pub walk_done : {ts : List Token} {ls : List Bool} {height : ℕ} {ks : List ℕ} {first : ℕ} {x : Token} {a : Attestation} {written : List Token} (now : List Token)
-    → x ≡ get_or ts first x → x ≡ token.Attestation a → now ≡ written ++ x ∷ [] → AreLeads ts height ls → IsFirst ts ls ks first → IsWalking ts height ks written
+    → slice_get ts first ≡ Some x → x ≡ token.Attestation a → now ≡ written ++ x ∷ [] → AreLeads ts height ls → IsFirst ts ls ks first → IsWalking ts height ks written
     → IsLineOfFirst ts height (0 ∷ []) now
 walk_done {ts} {ls} {height} {ks} {first} {x} {a} {written} now is e pushed marks f h =
     let i = All-contains (IsItem ts) ks first h.items f.listed in
-    let at = end_here (record { node = last i.item; is_at = i.is_at }) is e in
+    let at = subst (IsNodeAt ts first) (end_node (last i.item) a (sym e ∙ this_token i.is_at is)) i.is_at in
     subst (IsLineOfFirst ts height (0 ∷ [])) (ap (λ (z : Token). written ++ z ∷ []) (sym e) ∙ sym pushed)
     (h.owes (token.Attestation a ∷ []) (inl (path_of [] a, ends_there a h.items marks f at, refl)))
 

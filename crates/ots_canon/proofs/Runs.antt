@@ -1,7 +1,7 @@
 -- Items in order, and runs of them that begin alike.
 use Rattle.std.proofs.Common.{◌≡◌, ℕ, ◌+◌, ◌-◌, ◌<◌, ◌≤◌, List, [], ◌∷◌, ◌++◌, map, take, length, get_or, Bool, true, false, refl, sym, ap, subst, ◌∙◌, inl, inr, arith}
 use Rattle.std.specs.List.{AllWithin}
-use Rattle.std.specs.Prelude.{All}
+use Rattle.std.specs.Prelude.{All, slice_get, Some}
 use Rattle.std.specs.List.Sorted.{IsSortedBy, IsSortedWithin, IsPermutation}
 use Rattle.std.proofs.lemmas.Bool.Decides.{eqb_tells}
 use Rattle.std.proofs.lemmas.Grind.{get_or_default_zero}
@@ -12,7 +12,6 @@ use Rattle.std.specs.declared.cmp.Ordering.{Ordering}
 use Rattle.std.specs.declared.cmp.Ordering.TheVariants.{Less, Equal, Greater}
 use Rattle.std.proofs.lemmas.Fn.{always_returns_same}
 use Rattle.std.proofs.lemmas.List.{get_or_default, get_or-map, length-map, map-append, take_more}
-use Rattle.std.proofs.lemmas.Option.{slice_get-get_or}
 use Rattle.std.proofs.lemmas.List.Sorted.{All-permutation, IsPermutation-map}
 use Rattle.std.proofs.lemmas.List.Elements.{AllWithin-more, All-push}
 use Rattle.std.proofs.lemmas.List.MinMax.{ranks_by}
@@ -31,14 +30,14 @@ use Rattle.ots_canon.proofs.Orders.{equal_of, step_total, same_step}
 -- ---- the sort
 
 -- one more item
-pub heads_more : (ts : List Token) (ks : List ℕ) (n : ℕ) (h : Head) {x : Token} {items now : List Item} → n < length ks → All (λ k. k < length ts) ks → x ≡ get_or ts (get_or ks n 0) x
+pub heads_more : (ts : List Token) (ks : List ℕ) (n : ℕ) (h : Head) {x : Token} {items now : List Item} → n < length ks → slice_get ts (get_or ks n 0) ≡ Some x
     → head_step h ≡ token_step x → now ≡ items ++ (record { head = h; place = get_or ks n 0 }) ∷ [] → AreHeads ts (take n ks) items → AreHeads ts (take (n + 1) ks) now
-heads_more ts ks n h {x} {items} {now} l within is e are a =
+heads_more ts ks n h {x} {items} {now} l is e are a =
     let i : Item = record { head = h; place = get_or ks n 0 } in
     record {
       places = ap (map place_of) are ∙ map-append place_of items (i ∷ []) ∙ ap (λ (z : List ℕ). z ++ get_or ks n 0 ∷ []) a.places ∙ sym (take_more ks n 0 l);
       heads = subst (All (IsHead ts)) (sym are)
-          (All-push (IsHead ts) items i a.heads (e ∙ ap token_step is ∙ sym (ap step_of (slice_get-get_or ts (get_or ks n 0) x (within n 0 l)))));
+          (All-push (IsHead ts) items i a.heads (e ∙ sym (ap step_of is)));
     }
 
 -- from the clause of a sort whose closure compares heads

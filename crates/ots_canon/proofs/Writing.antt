@@ -1,6 +1,6 @@
 -- Writing a node item by item.
 use Rattle.std.proofs.Common.{◌≡◌, ◌↔◌, ◌⊎◌, ℕ, ◌+◌, ◌-◌, ◌<◌, ◌≤◌, List, [], ◌∷◌, ◌++◌, map, reverse, length, get_or, take, drop, refl, sym, ap, subst, ◌∙◌, inl, inr, arith, append_assoc}
-use Rattle.std.specs.Prelude.{Contains, All}
+use Rattle.std.specs.Prelude.{Contains, All, slice_get, Some}
 use Rattle.std.specs.List.{AllByRecursion}
 use Rattle.std.specs.List.Sorted.{IsPermutation, IsSortedBy}
 use Rattle.std.specs.declared.cmp.Ordering.TheVariants.{Less}
@@ -22,7 +22,7 @@ use Rattle.ots_canon.specs.Places.{IsNodeAt, IsItem, HasAt, Among, HasAmong, Has
 use Rattle.ots_canon.specs.Frames.{comes_before, left, IsFrame, owed, ComesTo, Owes, IsRunEnd, LeavesMore, LeavesNone, Leaves, Opens, OpensSome, OwesAfter, Writes}
 use Rattle.ots_canon.proofs.Orders.{same_op, same_end, op_step-apart}
 use Rattle.ots_canon.proofs.Joins.{token_limits}
-use Rattle.ots_canon.proofs.Nodes.{node_in, head_token, one_node, some_token, node_within, token_is, step_is, has_here}
+use Rattle.ots_canon.proofs.Nodes.{node_in, head_token, one_node, some_token, node_within, read_is, this_token, step_is, has_here}
 use Rattle.ots_canon.proofs.Among.{onward, both, among_none, union, permuted, has_append, has_below, is_below, some_has}
 use Rattle.ots_canon.proofs.Runs.{next_later}
 
@@ -45,7 +45,7 @@ end_at : (ts : List Token) (k : ℕ) (a : Attestation) → AllByRecursion IsToke
 end_at ts k a limits h =
     let w = node_within ts k (last (attested a)) h in
     let some = some_token (last (attested a)) in
-    subst IsToken (token_is ts k (last (attested a)) token.Fork h) (token_limits ts k token.Fork (omega arith) limits)
+    subst IsToken (read_is ts k (last (attested a)) token.Fork h) (token_limits ts k token.Fork (omega arith) limits)
 
 -- each is that attestation
 all_ends : (ts : List Token) (a : Attestation) (k : ℕ) (i : Item) → AllByRecursion IsToken ts → IsAttestation a → IsNodeAt ts k (last i) → place i ≡ end_step a → IsNodeAt ts k (last (attested a))
@@ -249,10 +249,10 @@ run_facts ts ks from end r items =
       first_is = sym same;
     }
 
-token_first : (ts : List Token) (ks : List ℕ) (from end : ℕ) (x : Token) (i : Item) → from < end → x ≡ get_or ts (get_or ks from 0) x
+token_first : (ts : List Token) (ks : List ℕ) (from end : ℕ) (x : Token) (i : Item) → from < end → slice_get ts (get_or ks from 0) ≡ Some x
     → IsNodeAt ts (get_or (take (end - from) (drop from ks)) 0 0) (last i) → x ≡ head_token (last i)
 token_first ts ks from end x i l e h =
-    e ∙ ap (λ (z : ℕ). get_or ts z x) (sym (run_first ks from end l)) ∙ token_is ts (get_or (take (end - from) (drop from ks)) 0 0) (last i) x h
+    this_token h (ap (slice_get ts) (run_first ks from end l) ∙ e)
 
 -- ---- what is left of the frame
 
@@ -363,7 +363,7 @@ owed_opened es (inr n) = let same = ap (owed es) n.1 in omega arith
 
 pub writes : {ts : List Token} {es : List ℕ} {f : Frame} {end : ℕ} {behind : List ℕ} {before mid after : List Frame} {out now later : List Token} {x : Token}
     → AllByRecursion IsToken ts → IsFrame ts f → IsRunEnd ts f.places.items f.next end → AreBehind ts es (take (end - f.next) (drop f.next f.places.items)) behind
-    → Leaves f.places.items end before mid out now → x ≡ get_or ts (get_or f.places.items f.next 0) x → later ≡ now ++ x ∷ [] → OpensSome ts behind mid after
+    → Leaves f.places.items end before mid out now → slice_get ts (get_or f.places.items f.next 0) ≡ Some x → later ≡ now ++ x ∷ [] → OpensSome ts behind mid after
     → Writes ts es f before after out later
 writes {ts} {es} {f} {end} {behind} {before} {mid} {after} {out} {now} {later} {x} limits frame r b l is e o = record {
   frames = λ all. frames_opened o b.covers.items (frames_left frame r l all);
@@ -452,9 +452,6 @@ frame_within {ts} {f} h =
     let i = h.items 0 0 l in
     let e0 : f.next + 0 ≡ f.next = omega arith in
     subst (λ (z : ℕ). z < length ts) (get_or-drop f.next f.places.items 0 0 ∙ ap (λ (z : ℕ). get_or f.places.items z 0) e0) (node_in (record { node = last i.item; is_at = i.is_at }))
-
-pub copied_token : (ts : List Token) (ks : List ℕ) (next k : ℕ) (x y : Token) → x ≡ y → y ≡ get_or ts k y → k ≡ get_or ks next 0 → x ≡ get_or ts (get_or ks next 0) x
-copied_token ts ks next k x y e f g = e ∙ f ∙ ap (λ (z : Token). get_or ts k z) (sym e) ∙ ap (λ (z : ℕ). get_or ts z x) g
 
 pub none_left : (frames : List Frame) → length frames ≡ 0 → frames ≡ []
 none_left [] e = refl

@@ -9,10 +9,9 @@ use Rattle.ots_attest.specs.declared.attestation.Attestation.TheVariants.{Pendin
 use Rattle.ots_tree.specs.declared.token.Token.{Token}
 use Rattle.ots_tree.specs.declared.token.Token.TheVariants as token
 use Rattle.ots_tree.specs.Wire.{Path}
-use Rattle.ots_canon.specs.declared.pruning.Marks.{Marks}
 use Rattle.ots_canon.specs.Order.{path_cmp, step_cmp}
 use Rattle.ots_canon.specs.Steps.{step_at}
-use Rattle.ots_canon.specs.Places.{AreEnds, HasAt, HasAmong}
+use Rattle.ots_canon.specs.Places.{HasAt, HasAmong}
 
 -- the Bitcoin height of a token, which one of Litecoin does not have
 abbrev pub height_of : Attestation → Option ℕ
@@ -57,11 +56,6 @@ pub record AreLeadsFrom (ts : List Token) (height n : ℕ) (ls : List Bool) : Ty
 
 abbrev pub AreLeads : List Token → ℕ → List Bool → Type 0
 AreLeads ts height ls = AreLeadsFrom ts height 0 ls
-
--- where the nodes end, and which do
-pub record AreMarks (ts : List Token) (height : ℕ) (m : Marks) : Type 0 where
-  pub ends : AreEnds ts m.ends.items
-  pub leads : AreLeads ts height m.leads.items
 
 -- the one of two places that comes first, where there are two
 abbrev pub first_of : List Token → Option ℕ → ℕ → ℕ

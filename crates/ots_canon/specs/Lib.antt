@@ -3,6 +3,7 @@ pub mod Canonical
 pub mod Join
 pub mod Prune
 pub mod Steps
+pub mod Tags
 pub mod Rises
 pub mod Places
 pub mod Frames

@@ -3,6 +3,7 @@ ghost use Rattle.std.specs.Prelude.{IfOk};
 ghost use Rattle.ots_canon.specs.Canonical.{IsCanonOf};
 
 use crate::merging::merged_tokens;
+use crate::tokens::Tokens;
 use ots_base::OutOfMemory;
 use ots_tree::{Tree, from_tokens};
 use std::alloc::Global;
@@ -14,6 +15,7 @@ use std::alloc::Global;
 pub fn canon(alloc: Global, tree: &Tree) -> Result<Tree, OutOfMemory>
     ensures { IfOk result (λ form. IsCanonOf tree.now form) }
 {
-    let tokens = merged_tokens(alloc, tree.tokens(), &[0])?;
-    from_tokens(alloc, tokens)
+    let tokens = Tokens::new(alloc, tree.tokens(), &[])?;
+    let form = merged_tokens(alloc, &tokens, &[0])?;
+    from_tokens(alloc, form)
 }

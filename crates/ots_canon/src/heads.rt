@@ -4,7 +4,7 @@ ghost use Rattle.ots_canon.specs.Order.{step_cmp};
 ghost use Rattle.ots_canon.specs.Steps.{token_step};
 ghost use Rattle.ots_canon.specs.Heads.{head_step, place_of, AreHeads};
 
-use crate::tokens::compare_steps;
+use crate::tokens::{Tokens, compare_steps};
 use ots_attest::Attestation;
 use ots_base::OutOfMemory;
 use ots_ops::Op;
@@ -73,7 +73,7 @@ fn compare_to(head: &Head<'_>, token: &Token) -> Ordering
 /// The items at these places.
 pub(crate) fn items_at<'a>(
     alloc: Global,
-    tokens: &'a [Token],
+    tokens: &Tokens<'a>,
     places: &[usize],
 ) -> Result<Vec<Item<'a>>, OutOfMemory>
     requires { All (λ k. k < length tokens.now) places.now }
@@ -82,7 +82,7 @@ pub(crate) fn items_at<'a>(
     let mut items = Vec::with_capacity(alloc, places.len())?;
     for place in places {
         items.push(Item {
-            head: head_of(&tokens[*place]),
+            head: head_of(tokens.at(*place)),
             place: *place,
         })?;
     }

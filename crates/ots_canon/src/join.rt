@@ -1,12 +1,12 @@
 //! Joining proofs, and comparing trees by their paths.
-ghost use Rattle.std.specs.Prelude.{◌≡◌, ◌≢◌, ◌↔◌, ◌++◌, IfOk, IfErr, OnOk, IsErrAnd, IsTrue};
+ghost use Rattle.std.specs.Prelude.{◌≡◌, ◌≢◌, ◌↔◌, IfOk, IfErr, IsErrAnd, IsTrue};
 ghost use Rattle.std.specs.List.{AllByRecursion};
 ghost use Rattle.ots_tree.specs.Wire.{IsToken};
 ghost use Rattle.ots_canon.specs.Join.{HaveSamePaths, IsMergeOf, IsMergeError, IsJoinOf, HaveOnePair};
 
 use crate::form::canon;
 use crate::merging::merged_tokens;
-use crate::tokens::compare_steps;
+use crate::tokens::{Tokens, compare_steps};
 use ots_base::OutOfMemory;
 use ots_ops::{Digest, HashOp};
 use ots_tree::{Detached, Token, Tree, from_tokens, limits_of_detached};
@@ -72,29 +72,9 @@ pub fn merge(alloc: Global, first: &Detached, second: &Detached) -> Result<Detac
 fn joined(alloc: Global, first: &Tree, second: &Tree) -> Result<Tree, OutOfMemory>
     ensures { IfOk result (λ tree. IsJoinOf first.now second.now tree) }
 {
-    let both = both(alloc, first.tokens(), second.tokens())?;
+    let both = Tokens::new(alloc, first.tokens(), second.tokens())?;
     let tokens = merged_tokens(alloc, &both, &[0, first.tokens().len()])?;
     from_tokens(alloc, tokens)
-}
-
-/// Copies of these tokens, and behind them of those.
-fn both(alloc: Global, first: &[Token], second: &[Token]) -> Result<Vec<Token>, OutOfMemory>
-    ensures { IfOk result (λ tokens. tokens.items ≡ first.now ++ second.now) }
-{
-    let mut tokens = Vec::with_capacity(alloc, first.len().saturating_add(second.len()))?;
-    copy_to(first, &mut tokens)?;
-    copy_to(second, &mut tokens)?;
-    Ok(tokens)
-}
-
-/// Adds copies of these tokens at the end.
-fn copy_to(tokens: &[Token], copied: &mut Vec<Token>) -> Result<(), OutOfMemory>
-    ensures { OnOk result (copied.new.items ≡ copied.old.items ++ tokens.now) }
-{
-    for token in tokens {
-        copied.push(token.copy()?)?;
-    }
-    Ok(())
 }
 
 /// Whether two trees have the same set of paths.

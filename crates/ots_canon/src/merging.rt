@@ -4,10 +4,10 @@ ghost use Rattle.std.specs.List.{AllByRecursion};
 ghost use Rattle.std.specs.List.Sorted.{IsSortedBy};
 ghost use Rattle.ots_tree.specs.Wire.{IsToken};
 ghost use Rattle.ots_canon.specs.Places.{HasNode, AreNodes, IsItem, AreEnds, Gathers, GathersBehind, AreBehind, IsFormOf};
-ghost use Rattle.ots_canon.specs.Frames.{IsFrame, IsRun, comes_before, Leaves, IsSort, Opens, OpensSome, Writes};
+ghost use Rattle.ots_canon.specs.Frames.{IsFrame, IsRunEnd, comes_before, Leaves, IsSort, Opens, OpensSome, Writes};
 
 use crate::heads::{compare_heads, items_at, places_of};
-use crate::tokens::{compare_at, ends_of};
+use crate::tokens::{Tokens, ends_of};
 use ots_base::OutOfMemory;
 use ots_tree::Token;
 use std::alloc::Global;
@@ -20,19 +20,10 @@ struct Frame {
     next: usize,
 }
 
-/// The items of a node that begin alike.
-#[derive(Drop)]
-struct Run {
-    /// Where they end among the places of the node.
-    end: usize,
-    /// The places of the items of all nodes behind them.
-    behind: Vec<usize>,
-}
-
 /// The tokens of the canonical tree with the paths of the nodes that begin at these places.
 pub(crate) fn merged_tokens(
     alloc: Global,
-    tokens: &[Token],
+    tokens: &Tokens<'_>,
     roots: &[usize],
 ) -> Result<Vec<Token>, OutOfMemory>
     requires limits { AllByRecursion IsToken tokens.now }
@@ -52,7 +43,7 @@ pub(crate) fn merged_tokens(
 /// The tokens of the canonical node with the paths of these items.
 fn write_node(
     alloc: Global,
-    tokens: &[Token],
+    tokens: &Tokens<'_>,
     ends: &[usize],
     places: Vec<usize>,
 ) -> Result<Vec<Token>, OutOfMemory>
@@ -75,7 +66,7 @@ fn write_node(
 /// left of the frame, and on it the node behind the item.
 fn write_item(
     alloc: Global,
-    tokens: &[Token],
+    tokens: &Tokens<'_>,
     ends: &[usize],
     frame: Frame,
     frames: &mut Vec<Frame>,
@@ -87,10 +78,11 @@ fn write_item(
     ensures { OnOk result (Writes tokens.now ends.now frame frames.old.items frames.new.items written.old.items written.new.items) }
 {
     let Frame { places, next } = frame;
-    let first = places[next];
-    let Run { end, behind } = run_at(alloc, tokens, ends, &places, next)?;
+    let end = run_end(tokens, &places, next);
+    let behind = items_behind(alloc, tokens, ends, &places[next..end])?;
+    let token = tokens.at(places[next]).copy()?;
     leave(places, end, frames, written)?;
-    written.push(tokens[first].copy()?)?;
+    written.push(token)?;
     open_some(alloc, tokens, behind, frames)
 }
 
@@ -113,7 +105,7 @@ fn leave(
 /// Puts the node with these items on the stack, if it has any.
 fn open_some(
     alloc: Global,
-    tokens: &[Token],
+    tokens: &Tokens<'_>,
     places: Vec<usize>,
     frames: &mut Vec<Frame>,
 ) -> Result<(), OutOfMemory>
@@ -129,7 +121,7 @@ fn open_some(
 /// Puts the node with these items on the stack.
 fn open(
     alloc: Global,
-    tokens: &[Token],
+    tokens: &Tokens<'_>,
     places: Vec<usize>,
     frames: &mut Vec<Frame>,
 ) -> Result<(), OutOfMemory>
@@ -142,7 +134,7 @@ fn open(
 }
 
 /// The places of these items in their order.
-fn sorted(alloc: Global, tokens: &[Token], places: Vec<usize>) -> Result<Vec<usize>, OutOfMemory>
+fn sorted(alloc: Global, tokens: &Tokens<'_>, places: Vec<usize>) -> Result<Vec<usize>, OutOfMemory>
     requires { All (IsItem tokens.now) places.items }
     ensures { IfOk result (λ sorted. IsSort tokens.now places.items sorted.items) }
 {
@@ -155,12 +147,12 @@ fn sorted(alloc: Global, tokens: &[Token], places: Vec<usize>) -> Result<Vec<usi
 }
 
 /// Whether the items at these places stand in their order already.
-fn are_in_order(tokens: &[Token], places: &[usize]) -> bool
+fn are_in_order(tokens: &Tokens<'_>, places: &[usize]) -> bool
     ensures { result ≡ true → IsSortedBy (comes_before tokens.now) places.now }
 {
     let mut at = 1;
     while at < places.len() {
-        if compare_at(tokens, places[at], places[at - 1]).is_lt() {
+        if tokens.compare(places[at], places[at - 1]).is_lt() {
             return false;
         }
         at += 1;
@@ -168,33 +160,22 @@ fn are_in_order(tokens: &[Token], places: &[usize]) -> bool
     true
 }
 
-/// The items that begin as the one at `from` does, and those behind them.
-fn run_at(
-    alloc: Global,
-    tokens: &[Token],
-    ends: &[usize],
-    places: &[usize],
-    from: usize,
-) -> Result<Run, OutOfMemory>
-    requires ends { AreEnds tokens.now ends.now }
-    requires some { from < length places.now }
-    requires items { All (IsItem tokens.now) (drop from places.now) }
-    ensures { IfOk result (IsRun tokens.now ends.now places.now from) }
+/// Where the items end that begin as the one at `from` does.
+fn run_end(tokens: &Tokens<'_>, places: &[usize], from: usize) -> usize
+    requires { from < length places.now }
+    ensures { IsRunEnd tokens.now places.now from result }
 {
-    let mut behind = Vec::new(alloc);
-    gather_behind(tokens, ends, places[from], &mut behind)?;
     let mut end = from + 1;
-    while end < places.len() && compare_at(tokens, places[from], places[end]).is_eq() {
-        gather_behind(tokens, ends, places[end], &mut behind)?;
+    while end < places.len() && tokens.compare(places[from], places[end]).is_eq() {
         end += 1;
     }
-    Ok(Run { end, behind })
+    end
 }
 
 /// The places of the items of all nodes that stand behind the operations at these places.
 pub(crate) fn items_behind(
     alloc: Global,
-    tokens: &[Token],
+    tokens: &Tokens<'_>,
     ends: &[usize],
     run: &[usize],
 ) -> Result<Vec<usize>, OutOfMemory>
@@ -202,7 +183,7 @@ pub(crate) fn items_behind(
     requires items { All (IsItem tokens.now) run.now }
     ensures { IfOk result (λ behind. AreBehind tokens.now ends.now run.now behind.items) }
 {
-    let mut behind = Vec::new(alloc);
+    let mut behind = Vec::with_capacity(alloc, run.len())?;
     for place in run {
         gather_behind(tokens, ends, *place, &mut behind)?;
     }
@@ -212,7 +193,7 @@ pub(crate) fn items_behind(
 /// Adds the places of the items behind the one at a place: those of the node behind an operation, none
 /// behind an attestation.
 fn gather_behind(
-    tokens: &[Token],
+    tokens: &Tokens<'_>,
     ends: &[usize],
     place: usize,
     behind: &mut Vec<usize>,
@@ -221,7 +202,7 @@ fn gather_behind(
     requires item { IsItem tokens.now place }
     ensures { OnOk result (GathersBehind tokens.now ends.now place behind.old.items behind.new.items) }
 {
-    if let Token::Op(_) = &tokens[place] {
+    if tokens.is_op(place) {
         gather_items(tokens, ends, place + 1, behind)?;
     }
     Ok(())
@@ -229,7 +210,7 @@ fn gather_behind(
 
 /// Adds the places of the items of the node that begins at a place.
 pub(crate) fn gather_items(
-    tokens: &[Token],
+    tokens: &Tokens<'_>,
     ends: &[usize],
     node: usize,
     places: &mut Vec<usize>,
@@ -239,7 +220,7 @@ pub(crate) fn gather_items(
     ensures { OnOk result (Gathers tokens.now ends.now node places.old.items places.new.items) }
 {
     let mut at = node;
-    while let Token::Fork = &tokens[at] {
+    while tokens.is_fork(at) {
         places.push(at + 1)?;
         at = ends[at + 1];
     }

@@ -1,26 +1,18 @@
 //! Keeping the one path that says most.
-ghost use Rattle.std.specs.Prelude.{◌≡◌, ◌+◌, ◌<◌, ◌↔◌, ◌∷◌, [], IfOk, Some, true, length, All};
+ghost use Rattle.std.specs.Prelude.{◌≡◌, ◌+◌, ◌<◌, ◌↔◌, ◌∷◌, [], IfOk, Some, true, length, All, slice_get};
+ghost use Rattle.ots_tree.specs.declared.token.Token.{Token};
 ghost use Rattle.std.specs.List.{filter};
-ghost use Rattle.ots_canon.specs.Leading.{token_height, lower, IsLeastHeight, Leads, AreLeadsFrom, AreMarks, IsFirstMarked, first_of, is_of_run, IsLineOfFirst};
-ghost use Rattle.ots_canon.specs.Places.{HasNode, AreNodes, AreEndsFrom};
+ghost use Rattle.ots_canon.specs.Leading.{token_height, lower, IsLeastHeight, Leads, AreLeadsFrom, AreLeads, IsFirstMarked, first_of, is_of_run, IsLineOfFirst};
+ghost use Rattle.ots_canon.specs.Places.{HasNode, AreNodes, AreEnds};
 ghost use Rattle.ots_canon.specs.Prune.{IsPruneOf};
 
 use crate::form::canon;
 use crate::merging::{gather_items, items_behind};
-use crate::tokens::{compare_at, end_at};
+use crate::tokens::{Tokens, ends_of};
 use ots_attest::Attestation;
 use ots_base::OutOfMemory;
 use ots_tree::{Token, Tree, from_tokens};
 use std::alloc::Global;
-
-/// What is known of the node that begins at each token.
-#[derive(Drop)]
-struct Marks {
-    /// The place behind it.
-    ends: Vec<usize>,
-    /// Whether it has a path that ends in the height.
-    leads: Vec<bool>,
-}
 
 /// The tree of one path: of those that end in the least Bitcoin height the first in the order of
 /// paths. Where no path ends in a Bitcoin attestation, it is the canonical form of the tree. Heights
@@ -28,10 +20,10 @@ struct Marks {
 pub fn prune(alloc: Global, tree: &Tree) -> Result<Tree, OutOfMemory>
     ensures { IfOk result (λ pruned. IsPruneOf tree.now pruned) }
 {
-    let tokens = tree.tokens();
-    match least_height(tokens) {
+    let tokens = Tokens::new(alloc, tree.tokens(), &[])?;
+    match least_height(&tokens) {
         Some(height) => {
-            let kept = first_path(alloc, tokens, height)?;
+            let kept = first_path(alloc, &tokens, height)?;
             from_tokens(alloc, kept)
         }
         None => canon(alloc, tree),
@@ -39,12 +31,12 @@ pub fn prune(alloc: Global, tree: &Tree) -> Result<Tree, OutOfMemory>
 }
 
 /// The least height of the Bitcoin attestations among these tokens.
-fn least_height(tokens: &[Token]) -> Option<u64>
+fn least_height(tokens: &Tokens<'_>) -> Option<u64>
     ensures { IsLeastHeight tokens.now result }
 {
     let mut least = None;
-    for token in tokens {
-        least = lower(least, bitcoin_height(token));
+    for at in 0..tokens.len() {
+        least = lower(least, height_at(tokens, at));
     }
     least
 }
@@ -60,11 +52,15 @@ fn lower(one: Option<u64>, other: Option<u64>) -> Option<u64>
     }
 }
 
-/// The height of a Bitcoin attestation.
-fn bitcoin_height(token: &Token) -> Option<u64>
-    ensures { result ≡ token_height token.now }
+/// The height of the Bitcoin attestation at a place, if one stands there.
+fn height_at(tokens: &Tokens<'_>, at: usize) -> Option<u64>
+    requires { at < length tokens.now }
+    ensures { (x : Token) → slice_get tokens.now at ≡ Some x → result ≡ token_height x }
 {
-    match token {
+    if tokens.is_fork(at) || tokens.is_op(at) {
+        return None;
+    }
+    match tokens.at(at) {
         Token::Attestation(Attestation::Bitcoin(height)) => Some(*height),
         _ => None,
     }
@@ -74,17 +70,18 @@ fn bitcoin_height(token: &Token) -> Option<u64>
 /// attestation. Nothing where no path does.
 ///
 /// Only nodes that lead there are entered. Those at which paths begin alike are one group.
-fn first_path(alloc: Global, tokens: &[Token], height: u64) -> Result<Vec<Token>, OutOfMemory>
+fn first_path(alloc: Global, tokens: &Tokens<'_>, height: u64) -> Result<Vec<Token>, OutOfMemory>
     requires nodes { AreNodes tokens.now }
     requires root { HasNode tokens.now 0 }
     ensures { IfOk result (λ path. IsLineOfFirst tokens.now height (0 ∷ []) path.items) }
 {
-    let Marks { ends, leads } = marks_of(alloc, tokens, height)?;
+    let ends = ends_of(alloc, tokens)?;
+    let leads = leads_of(alloc, tokens, &ends, height)?;
     let mut path = Vec::new(alloc);
     let mut items = Vec::new(alloc);
     gather_items(tokens, &ends, 0, &mut items)?;
     while let Some(first) = first_leading(tokens, &leads, &items) {
-        let token = &tokens[first];
+        let token = tokens.at(first);
         path.push(token.copy()?)?;
         if let Token::Attestation(_) = token {
             return Ok(path);
@@ -95,53 +92,57 @@ fn first_path(alloc: Global, tokens: &[Token], height: u64) -> Result<Vec<Token>
     Ok(path)
 }
 
-/// For each token where the node ends that begins there, and whether it has a path that ends in this
-/// Bitcoin height.
-fn marks_of(alloc: Global, tokens: &[Token], height: u64) -> Result<Marks, OutOfMemory>
-    requires { AreNodes tokens.now }
-    ensures { IfOk result (AreMarks tokens.now height) }
+/// For each token whether the node that begins there has a path that ends in this Bitcoin height.
+fn leads_of(
+    alloc: Global,
+    tokens: &Tokens<'_>,
+    ends: &[usize],
+    height: u64,
+) -> Result<Vec<bool>, OutOfMemory>
+    requires nodes { AreNodes tokens.now }
+    requires ends { AreEnds tokens.now ends.now }
+    ensures { IfOk result (λ leads. AreLeads tokens.now height leads.items) }
 {
-    let mut ends = Vec::new(alloc);
-    ends.resize(tokens.len(), 0)?;
     let mut leads = Vec::new(alloc);
     leads.resize(tokens.len(), false)?;
     let mut at = tokens.len();
     while at > 0 {
         at -= 1;
-        ends[at] = end_at(tokens, at, &ends);
-        leads[at] = leads_at(tokens, &ends, height, at, &leads);
+        leads[at] = leads_at(tokens, ends, height, at, &leads);
     }
-    Ok(Marks { ends, leads })
+    Ok(leads)
 }
 
 /// Whether the node that begins here has such a path, where that is known of those behind.
-fn leads_at(tokens: &[Token], ends: &[usize], height: u64, at: usize, leads: &[bool]) -> bool
+fn leads_at(tokens: &Tokens<'_>, ends: &[usize], height: u64, at: usize, leads: &[bool]) -> bool
     requires nodes { AreNodes tokens.now }
-    requires ends { AreEndsFrom tokens.now (at + 1) ends.now }
+    requires ends { AreEnds tokens.now ends.now }
     requires in_range { at < length tokens.now }
     requires leads { AreLeadsFrom tokens.now height (at + 1) leads.now }
     ensures { (result ≡ true) ↔ Leads tokens.now height at }
 {
-    let token = &tokens[at];
-    match token {
-        Token::Fork => leads[at + 1] || leads[ends[at + 1]],
-        Token::Op(_) => leads[at + 1],
-        Token::Attestation(_) => is_bitcoin(token, height),
+    if tokens.is_fork(at) {
+        leads[at + 1] || leads[ends[at + 1]]
+    } else if tokens.is_op(at) {
+        leads[at + 1]
+    } else {
+        is_bitcoin(tokens, at, height)
     }
 }
 
-/// Whether it is the Bitcoin attestation of this height.
-fn is_bitcoin(token: &Token, height: u64) -> bool
-    ensures { (result ≡ true) ↔ (token_height token.now ≡ Some height) }
+/// Whether the Bitcoin attestation of this height stands at a place.
+fn is_bitcoin(tokens: &Tokens<'_>, at: usize, height: u64) -> bool
+    requires { at < length tokens.now }
+    ensures { (x : Token) → slice_get tokens.now at ≡ Some x → (result ≡ true) ↔ (token_height x ≡ Some height) }
 {
-    match bitcoin_height(token) {
+    match height_at(tokens, at) {
         Some(other) => other == height,
         None => false,
     }
 }
 
 /// Of the items at these places that lead to the height the first in their order.
-fn first_leading(tokens: &[Token], leads: &[bool], items: &[usize]) -> Option<usize>
+fn first_leading(tokens: &Tokens<'_>, leads: &[bool], items: &[usize]) -> Option<usize>
     requires { All (λ k. k < length leads.now) items.now }
     ensures { IsFirstMarked tokens.now leads.now items.now result }
 {
@@ -155,11 +156,11 @@ fn first_leading(tokens: &[Token], leads: &[bool], items: &[usize]) -> Option<us
 }
 
 /// The one of two places that comes first, where there are two.
-fn first_of(tokens: &[Token], found: Option<usize>, place: usize) -> usize
+fn first_of(tokens: &Tokens<'_>, found: Option<usize>, place: usize) -> usize
     ensures { result ≡ first_of tokens.now found place }
 {
     match found {
-        Some(first) if !compare_at(tokens, place, first).is_lt() => first,
+        Some(first) if !tokens.compare(place, first).is_lt() => first,
         _ => place,
     }
 }
@@ -167,7 +168,7 @@ fn first_of(tokens: &[Token], found: Option<usize>, place: usize) -> usize
 /// Of the places of items that lead to the height those that begin as the one at `first` does.
 fn run_of(
     alloc: Global,
-    tokens: &[Token],
+    tokens: &Tokens<'_>,
     leads: &[bool],
     items: &[usize],
     first: usize,
@@ -177,7 +178,7 @@ fn run_of(
 {
     let mut run = Vec::new(alloc);
     for place in items {
-        if leads[*place] && compare_at(tokens, first, *place).is_eq() {
+        if leads[*place] && tokens.compare(first, *place).is_eq() {
             run.push(*place)?;
         }
     }

@@ -7,6 +7,6 @@ loop-at-preserved c =
     let some = c.loop-at.invariant.some in
     record {
       some = omega arith;
-      sorted = in_order_more c.args.tokens.now c.args.places.now c.loop-at.at c.compare_at.result c.is_lt.result some c.loop-at-test.true
-          c.compare_at.ensures c.is_lt.ensures c.if-is_lt.false c.loop-at.invariant.sorted;
+      sorted = in_order_more c.args.tokens.now c.args.places.now c.loop-at.at c.compare.result c.is_lt.result some c.loop-at-test.true
+          c.compare.ensures c.is_lt.ensures c.if-is_lt.false c.loop-at.invariant.sorted;
     }
