@@ -1,10 +1,9 @@
 -- Gathering the items of nodes.
-use Rattle.std.proofs.Common.{◌≡◌, ◌↔◌, ◌⊎◌, ℕ, ◌+◌, ◌-◌, ◌<◌, ◌≤◌, List, [], ◌∷◌, ◌++◌, length, get_or, take, drop, sym, ap, subst, ◌∙◌, inl, inr, arith, append_assoc, length-append}
+use Rattle.std.proofs.Common.{◌≡◌, ◌↔◌, ◌⊎◌, ℕ, ◌+◌, ◌<◌, ◌≤◌, List, [], ◌∷◌, ◌++◌, length, get_or, take, sym, ap, subst, ◌∙◌, inl, inr, arith, append_assoc, length-append}
 use Rattle.std.specs.Prelude.{All, slice_get, true, false}
-use Rattle.std.proofs.lemmas.List.{append-nil, take_more, take_all, length-drop, get_or-drop}
+use Rattle.std.proofs.lemmas.List.{append-nil, take_more, take_all}
 use Rattle.std.proofs.lemmas.List.Elements.{All-nil, All-push, All-append, Contains-get_or}
 use Rattle.std.proofs.lemmas.List.Sums.{sum_by-append, sum_by_push}
-use Rattle.ots_ops.specs.declared.op.Op.{Op}
 use Rattle.ots_tree.specs.declared.token.Token.{Token}
 use Rattle.ots_tree.specs.Wire.{last, more, step, Path, paths, paths_of_item, pre_item}
 use Rattle.ots_canon.specs.Tags.{is_fork, is_op}
@@ -128,7 +127,7 @@ behind_more {ts} {es} {ks} {before} k ls items same l b =
     let few = b.few in
     record { covers = covers_more k ls items same b.covers; few = omega arith }
 
-behind_at : {ts : List Token} {es : List ℕ} {k : ℕ} → AtOp ts es k → (p : Path) → HasBehind ts k p ↔ HasAt ts (k + 1) p
+pub behind_at : {ts : List Token} {es : List ℕ} {k : ℕ} → AtOp ts es k → (p : Path) → HasBehind ts k p ↔ HasAt ts (k + 1) p
 behind_at {ts} {es} {k} f p = (
   (λ h. record { node = h.node; is_at = behind_op ts k h.op h.node h.is_at; has = h.has }),
   (λ h. record { op = f.op; node = f.node; is_at = f.is_at; has = (has_here ts (k + 1) f.node f.behind p).0 h }),

@@ -16,5 +16,7 @@ pub mod Gathering
 pub mod Leading
 pub mod Pruned
 pub mod Runs
+pub mod Chains
+pub mod Coming
 pub mod Writing
 pub mod Canons

@@ -1,126 +1,36 @@
 -- Writing a node item by item.
-use Rattle.std.proofs.Common.{◌≡◌, ◌↔◌, ◌⊎◌, ℕ, ◌+◌, ◌-◌, ◌<◌, ◌≤◌, List, [], ◌∷◌, ◌++◌, map, reverse, length, get_or, take, drop, refl, sym, ap, subst, ◌∙◌, inl, inr, arith, append_assoc}
-use Rattle.std.specs.Prelude.{Contains, All, slice_get, Some}
+use Rattle.std.proofs.Common.{◌≡◌, ℕ, suc, ◌+◌, ◌-◌, ◌<◌, ◌≤◌, List, [], ◌∷◌, ◌++◌, reverse, length, get_or, take, drop, refl, sym, ap, subst, ◌∙◌, inl, inr, arith, append_assoc}
+use Rattle.std.specs.Prelude.{Contains, All}
 use Rattle.std.specs.List.{AllByRecursion}
 use Rattle.std.specs.List.Sorted.{IsPermutation, IsSortedBy}
 use Rattle.std.specs.declared.cmp.Ordering.TheVariants.{Less}
-use Rattle.std.proofs.lemmas.List.{append-nil, reverse-append, length-take, length-drop, get_or-take, get_or-drop, get_or_append_left, take-append-drop, drop-drop, drop_all}
+use Rattle.std.proofs.lemmas.List.{append-nil, reverse-append, length-take, length-drop, length-map, get_or-take, get_or-drop, get_or_append_left, take-append-drop, drop-drop, drop_all}
 use Rattle.std.proofs.lemmas.List.Elements.{All-nil, All-push, All-take, All-contains, Contains-get_or, Contains-append_left, Contains-append_right, Contains-push}
 use Rattle.std.proofs.lemmas.List.Sorted.{All-permutation, length_permutation, sum_by-IsPermutation}
 use Rattle.std.proofs.lemmas.List.Sums.{sum_by-append, sum_by_push}
-use Rattle.ots_ops.specs.declared.op.Op.{Op}
-use Rattle.ots_attest.specs.declared.attestation.Attestation.{Attestation}
-use Rattle.ots_attest.specs.Attestation.{IsAttestation}
 use Rattle.ots_tree.specs.declared.token.Token.{Token}
 use Rattle.ots_tree.specs.declared.token.Token.TheVariants as token
-use Rattle.ots_tree.specs.Wire.{Node, Item, last, more, attested, step, Path, below, paths, paths_of_item, pre, pre_item, IsToken}
+use Rattle.ots_tree.specs.Wire.{Node, last, more, paths, paths_of_item, pre, pre_item, IsToken}
 use Rattle.ots_canon.specs.declared.merging.Frame.{Frame}
-use Rattle.ots_canon.specs.Order.{op_step, end_step, step_cmp, Has}
-use Rattle.ots_canon.specs.Canonical.{place, IsCanonical, IsCanonicalItem}
+use Rattle.ots_canon.specs.Order.{step_cmp}
 use Rattle.ots_canon.specs.Steps.{step_at}
-use Rattle.ots_canon.specs.Places.{IsNodeAt, IsItem, HasAt, Among, HasAmong, HasBehind, size, total, AreBehind, IsFormOf}
+use Rattle.ots_canon.specs.Places.{IsItem, HasAt, HasAmong, size, total, AreEnds, AreBehind, IsFormOf}
 use Rattle.ots_canon.specs.Frames.{comes_before, left, IsFrame, owed, ComesTo, Owes, IsRunEnd, LeavesMore, LeavesNone, Leaves, Opens, OpensSome, OwesAfter, Writes}
-use Rattle.ots_canon.proofs.Orders.{same_op, same_end, op_step-apart}
-use Rattle.ots_canon.proofs.Joins.{token_limits}
-use Rattle.ots_canon.proofs.Nodes.{node_in, head_token, one_node, some_token, node_within, read_is, this_token, step_is, has_here}
-use Rattle.ots_canon.proofs.Among.{onward, both, among_none, union, permuted, has_append, has_below, is_below, some_has}
+use Rattle.ots_canon.proofs.Nodes.{node_in}
+use Rattle.ots_canon.proofs.Among.{onward, both, union, permuted, has_append}
 use Rattle.ots_canon.proofs.Runs.{next_later}
-
--- ---- items that begin alike
-
--- what the items of a run come to: their token, and behind it the tokens of the node with the items behind them
-pub record RunComes (ts : List Token) (run : List ℕ) (s : List ℕ) (x : Token) (behind : List Token) : Type 0 where
-  pub item : Item
-  pub canonical : IsCanonicalItem item
-  pub same : (p : Path) → HasAmong ts run p ↔ Has (paths_of_item item) p
-  pub place_is : s ≡ place item
-  pub are : pre_item item ≡ x ∷ behind
-
--- a canonical node with the paths of these items
-pub record Makes (ts : List Token) (ks : List ℕ) (t : Node) : Type 0 where
-  pub canonical : IsCanonical t
-  pub same : (p : Path) → HasAmong ts ks p ↔ Has (paths t) p
-
-end_at : (ts : List Token) (k : ℕ) (a : Attestation) → AllByRecursion IsToken ts → IsNodeAt ts k (last (attested a)) → IsAttestation a
-end_at ts k a limits h =
-    let w = node_within ts k (last (attested a)) h in
-    let some = some_token (last (attested a)) in
-    subst IsToken (read_is ts k (last (attested a)) token.Fork h) (token_limits ts k token.Fork (omega arith) limits)
-
--- each is that attestation
-all_ends : (ts : List Token) (a : Attestation) (k : ℕ) (i : Item) → AllByRecursion IsToken ts → IsAttestation a → IsNodeAt ts k (last i) → place i ≡ end_step a → IsNodeAt ts k (last (attested a))
-all_ends ts a k (attested b) limits ha h e =
-    let hb = end_at ts k b limits h in
-    subst (λ (z : Attestation). IsNodeAt ts k (last (attested z))) (same_end b a hb ha e) h
-all_ends ts a k (step o t) limits ha h e = absurd (op_step-apart o a e)
-
--- or that operation, with some node behind it
-record HasOp (ts : List Token) (o : Op) (k : ℕ) : Type 0 where
-  node : Node
-  is_at : IsNodeAt ts k (last (step o node))
-
-all_ops : (ts : List Token) (o : Op) (k : ℕ) (i : Item) → IsNodeAt ts k (last i) → place i ≡ op_step o → HasOp ts o k
-all_ops ts o k (attested b) h e = absurd (op_step-apart o b (sym e))
-all_ops ts o k (step u t) h e = record { node = t; is_at = subst (λ (z : Op). IsNodeAt ts k (last (step z t))) (same_op u o e) h }
-
-one_behind : {o u : Op} {t v : Node} → last (step o t) ≡ last (step u v) → t ≡ v
-one_behind e = cc
-
-not_both : {a : Attestation} {o : Op} {t : Node} → last (step o t) ≡ last (attested a) → ⊥
-not_both e = cc
-
--- a run of attestations, behind which nothing stands
-run_of_ends : (ts : List Token) (run : List ℕ) (s : List ℕ) (x : Token) (a : Attestation) (k : ℕ) → Contains run k → x ≡ token.Attestation a → s ≡ end_step a
-    → ((j : ℕ) → Contains run j → IsNodeAt ts j (last (attested a))) → RunComes ts run s x []
-run_of_ends ts run s x a k listed e f ats = record {
-  item = attested a;
-  canonical = tt;
-  same = λ p. (
-    (λ h. (has_here ts h.place (last (attested a)) (ats h.place h.listed) p).0 h.has),
-    (λ g. record { place = k; listed = listed; has = (has_here ts k (last (attested a)) (ats k listed) p).1 g }),
-  );
-  place_is = f;
-  are = ap (λ (z : Token). z ∷ []) (sym e);
-}
-
-none_behind_ends : (ts : List Token) (run : List ℕ) (a : Attestation) (p : Path) → ((j : ℕ) → Contains run j → IsNodeAt ts j (last (attested a))) → Among (HasBehind ts) run p → ⊥
-none_behind_ends ts run a p ats h = not_both (one_node ts h.place (last (step h.has.op h.has.node)) (last (attested a)) h.has.is_at (ats h.place h.listed))
-
--- a run of operations
-run_of_ops : (ts : List Token) (es run behind : List ℕ) (s : List ℕ) (x : Token) (o : Op) (v : Node) → x ≡ token.Op o → s ≡ op_step o
-    → ((j : ℕ) → Contains run j → HasOp ts o j) → AreBehind ts es run behind → Makes ts behind v → RunComes ts run s x (pre v)
-run_of_ops ts es run behind s x o v e f ats b m = record {
-  item = step o v;
-  canonical = m.canonical;
-  same = λ p. (to p, from p);
-  place_is = f;
-  are = ap (λ (z : Token). z ∷ pre v) (sym e);
-}
-  where
-    to : (p : Path) → HasAmong ts run p → Has (map (below o) (paths v)) p
-    to p h =
-        let at = ats h.place h.listed in
-        let g = is_below o (paths at.node) p ((has_here ts h.place (last (step o at.node)) at.is_at p).0 h.has) in
-        let inner = (b.covers.same g.inner).1 (record { place = h.place; listed = h.listed; has = record { op = o; node = at.node; is_at = at.is_at; has = g.has } }) in
-        subst (Has (map (below o) (paths v))) g.is (has_below o (paths v) g.inner ((m.same g.inner).0 inner))
-
-    from : (p : Path) → Has (map (below o) (paths v)) p → HasAmong ts run p
-    from p h =
-        let g = is_below o (paths v) p h in
-        let hb = (b.covers.same g.inner).0 ((m.same g.inner).1 g.has) in
-        let at = ats hb.place hb.listed in
-        let same = one_behind (one_node ts hb.place (last (step hb.has.op hb.has.node)) (last (step o at.node)) hb.has.is_at at.is_at) in
-        let has = has_below o (paths at.node) g.inner (subst (λ (z : Node). Has (paths z) g.inner) same hb.has.has) in
-        record { place = hb.place; listed = hb.listed; has = (has_here ts hb.place (last (step o at.node)) at.is_at p).1 (subst (Has (map (below o) (paths at.node))) g.is has) }
+use Rattle.ots_canon.specs.Chains.{shifted, IsChain}
+use Rattle.ots_canon.proofs.Chains.{IsRun, chain_few}
+use Rattle.ots_canon.proofs.Coming.{RunComes, Makes, AreMade, chain_comes}
 
 -- ---- what a frame comes to
 
-pub comes_last : (ts : List Token) (run : List ℕ) (x : Token) (behind : List Token) (r : RunComes ts run (step_at ts (get_or run 0 0)) x behind) → ComesTo ts run (last r.item)
-comes_last ts run x behind r = record { canonical = r.canonical; same = r.same; first_is = r.place_is }
+comes_last : {ts us : List Token} {run : List ℕ} (r : RunComes ts run us) → ComesTo ts run (last r.item)
+comes_last r = record { canonical = r.canonical; same = r.same; first_is = r.place_is }
 
-pub comes_more : (ts : List Token) (run rest : List ℕ) (x : Token) (behind : List Token) (w : Node) → 0 < length run → (r : RunComes ts run (step_at ts (get_or run 0 0)) x behind) → ComesTo ts rest w
+comes_more : {ts us : List Token} {run rest : List ℕ} (w : Node) → 0 < length run → (r : RunComes ts run us) → ComesTo ts rest w
     → step_cmp (step_at ts (get_or run 0 0)) (step_at ts (get_or rest 0 0)) ≡ Less → ComesTo ts (run ++ rest) (more r.item w)
-comes_more ts run rest x behind w some r c less = record {
+comes_more {ts} {run = run} {rest} w some r c less = record {
   canonical = (r.canonical, ((λ i. step_cmp (sym r.place_is i) (sym c.first_is i)) ∙ less), c.canonical);
   same = λ p. onward (union (HasAt ts) run rest p) (onward (both (r.same p) (c.same p)) (has_append (paths_of_item r.item) (paths w) p));
   first_is = ap (step_at ts) (get_or_append_left run rest 0 0 some) ∙ r.place_is;
@@ -164,7 +74,7 @@ record Opened (ts : List Token) (behind : List ℕ) (before : List Frame) (vs : 
   rest : List Token
   are : vs ≡ front ++ rest
   owes : Owes ts (reverse before) rest
-  made : ((v : Node) × Makes ts behind v × (front ≡ pre v)) ⊎ ((behind ≡ []) × (front ≡ []))
+  made : AreMade ts behind front
 
 left_all : (f : Frame) → f.next ≡ 0 → left f ≡ f.places.items
 left_all f e = ap (λ (z : ℕ). drop z f.places.items) e
@@ -196,49 +106,9 @@ opened {ts} vs (inr n) owes = record {
   made = inr (n.0, refl);
 }
 
-run_cases : (ts : List Token) (es run behind : List ℕ) (x : Token) (front : List Token) (i : Item) → AllByRecursion IsToken ts → 0 < length run → All (IsItem ts) run
-    → All (λ (k : ℕ). step_at ts k ≡ step_at ts (get_or run 0 0)) run → IsNodeAt ts (get_or run 0 0) (last i) → x ≡ head_token (last i) → AreBehind ts es run behind
-    → ((v : Node) × Makes ts behind v × (front ≡ pre v)) ⊎ ((behind ≡ []) × (front ≡ [])) → RunComes ts run (step_at ts (get_or run 0 0)) x front
-run_cases ts es run behind x front (attested a) limits some items alike h e b made = by made
-  where
-    ats : (j : ℕ) → Contains run j → IsNodeAt ts j (last (attested a))
-    ats j c =
-        let it = All-contains (IsItem ts) run j items c in
-        let same = sym (step_is ts j it.item it.is_at) ∙ All-contains (λ (k : ℕ). step_at ts k ≡ step_at ts (get_or run 0 0)) run j alike c ∙ step_is ts (get_or run 0 0) (attested a) h in
-        all_ends ts a j it.item limits (end_at ts (get_or run 0 0) a limits h) it.is_at same
-
-    by : ((v : Node) × Makes ts behind v × (front ≡ pre v)) ⊎ ((behind ≡ []) × (front ≡ [])) → RunComes ts run (step_at ts (get_or run 0 0)) x front
-    by (inl m) =
-        let p = some_has m.0 in
-        absurd (none_behind_ends ts run a p.0 ats ((b.covers.same p.0).0 ((m.1.same p.0).1 p.1)))
-    by (inr n) = subst (RunComes ts run (step_at ts (get_or run 0 0)) x) (sym n.1)
-        (run_of_ends ts run (step_at ts (get_or run 0 0)) x a (get_or run 0 0) (Contains-get_or run 0 0 some) e (step_is ts (get_or run 0 0) (attested a) h) ats)
-run_cases ts es run behind x front (step o t) limits some items alike h e b made = by made
-  where
-    ats : (j : ℕ) → Contains run j → HasOp ts o j
-    ats j c =
-        let it = All-contains (IsItem ts) run j items c in
-        let same = sym (step_is ts j it.item it.is_at) ∙ All-contains (λ (k : ℕ). step_at ts k ≡ step_at ts (get_or run 0 0)) run j alike c ∙ step_is ts (get_or run 0 0) (step o t) h in
-        all_ops ts o j it.item it.is_at same
-
-    by : ((v : Node) × Makes ts behind v × (front ≡ pre v)) ⊎ ((behind ≡ []) × (front ≡ [])) → RunComes ts run (step_at ts (get_or run 0 0)) x front
-    by (inl m) = subst (RunComes ts run (step_at ts (get_or run 0 0)) x) (sym m.2)
-        (run_of_ops ts es run behind (step_at ts (get_or run 0 0)) x o m.0 e (step_is ts (get_or run 0 0) (step o t) h) ats b m.1)
-    by (inr n) =
-        let p = some_has t in
-        let has : Among (HasBehind ts) run p.0 = record { place = get_or run 0 0; listed = Contains-get_or run 0 0 some; has = record { op = o; node = t; is_at = h; has = p.1 } } in
-        absurd (among_none (subst (λ (z : List ℕ). HasAmong ts z p.0) n.0 ((b.covers.same p.0).1 has)))
-
 -- the run at which a frame begins
-record RunFacts (ts : List Token) (run : List ℕ) (s : List ℕ) : Type 0 where
-  some : 0 < length run
-  items : All (IsItem ts) run
-  alike : All (λ (k : ℕ). step_at ts k ≡ step_at ts (get_or run 0 0)) run
-  first_is : s ≡ step_at ts (get_or run 0 0)
-
-run_facts : (ts : List Token) (ks : List ℕ) (from end : ℕ) → IsRunEnd ts ks from end → All (IsItem ts) (drop from ks)
-    → RunFacts ts (take (end - from) (drop from ks)) (step_at ts (get_or ks from 0))
-run_facts ts ks from end r items =
+pub run_facts : {ts : List Token} {ks : List ℕ} {from end : ℕ} → IsRunEnd ts ks from end → All (IsItem ts) (drop from ks) → IsRun ts (take (end - from) (drop from ks))
+run_facts {ts} {ks} {from} {end} r items =
     let len = run_length ks from end r.within in
     let less = r.some in
     let same = ap (step_at ts) (run_first ks from end r.some) in
@@ -246,56 +116,49 @@ run_facts ts ks from end r items =
       some = omega arith;
       items = All-take (IsItem ts) (end - from) (drop from ks) items;
       alike = λ j d l. run_alike ts ks from end r j d l ∙ sym same;
-      first_is = sym same;
     }
 
-token_first : (ts : List Token) (ks : List ℕ) (from end : ℕ) (x : Token) (i : Item) → from < end → slice_get ts (get_or ks from 0) ≡ Some x
-    → IsNodeAt ts (get_or (take (end - from) (drop from ks)) 0 0) (last i) → x ≡ head_token (last i)
-token_first ts ks from end x i l e h =
-    this_token h (ap (slice_get ts) (run_first ks from end l) ∙ e)
+pub line_within : {ts : List Token} {ks : List ℕ} {from end d : ℕ} → IsRunEnd ts ks from end → IsRun ts (take (end - from) (drop from ks)) → IsChain ts (take (end - from) (drop from ks)) d
+    → get_or ks from 0 + d < length ts
+line_within {ts} {ks} {from} {end} {d} r facts chain = subst (λ (z : ℕ). z + d < length ts) (run_first ks from end r.some) (chain 0 0 facts.some).within.0
 
 -- ---- what is left of the frame
 
-tokens_more : (out front pw us pi : List Token) (x : Token) → pi ≡ x ∷ front → out ++ (token.Fork ∷ ((pi ++ pw) ++ us)) ≡ ((out ++ token.Fork ∷ []) ++ x ∷ []) ++ (front ++ (pw ++ us))
-tokens_more out front pw us pi x e =
-    ap (λ (z : List Token). out ++ (token.Fork ∷ ((z ++ pw) ++ us))) e
-    ∙ ap (λ (z : List Token). out ++ (token.Fork ∷ x ∷ z)) (append_assoc front pw us)
-    ∙ sym (append_assoc (out ++ token.Fork ∷ []) (x ∷ []) (front ++ (pw ++ us)) ∙ append_assoc out (token.Fork ∷ []) (x ∷ (front ++ (pw ++ us))))
+tokens_more : (out xs front pw us : List Token) → out ++ (token.Fork ∷ (((xs ++ front) ++ pw) ++ us)) ≡ ((out ++ token.Fork ∷ []) ++ xs) ++ (front ++ (pw ++ us))
+tokens_more out xs front pw us =
+    ap (λ (z : List Token). out ++ (token.Fork ∷ z)) (append_assoc (xs ++ front) pw us ∙ append_assoc xs front (pw ++ us))
+    ∙ sym (append_assoc (out ++ token.Fork ∷ []) xs (front ++ (pw ++ us)) ∙ append_assoc out (token.Fork ∷ []) (xs ++ (front ++ (pw ++ us))))
 
-tokens_last : (out front us pi : List Token) (x : Token) → pi ≡ x ∷ front → out ++ (pi ++ us) ≡ (out ++ x ∷ []) ++ (front ++ us)
-tokens_last out front us pi x e =
-    ap (λ (z : List Token). out ++ (z ++ us)) e ∙ sym (append_assoc out (x ∷ []) (front ++ us))
+tokens_last : (out xs front us : List Token) → out ++ ((xs ++ front) ++ us) ≡ (out ++ xs) ++ (front ++ us)
+tokens_last out xs front us = ap (λ (z : List Token). out ++ z) (append_assoc xs front us) ∙ sym (append_assoc out xs (front ++ us))
 
 -- the tokens of a frame whose first run comes to an item
-owes_more : {ts : List Token} {f : Frame} {end : ℕ} {before mid : List Frame} {out now later vs front : List Token} {x : Token} (ws : List Token) → IsFrame ts f → IsRunEnd ts f.places.items f.next end
-    → LeavesMore f.places.items end before mid out now → later ≡ now ++ x ∷ [] → vs ≡ front ++ ws → Owes ts (reverse mid) ws
-    → RunComes ts (take (end - f.next) (drop f.next f.places.items)) (step_at ts (get_or (take (end - f.next) (drop f.next f.places.items)) 0 0)) x front
-    → OwesAfter ts (f ∷ reverse before) out later vs
-owes_more {ts} {f} {end} {before} {out = out} {vs = vs} {front = front} {x = x} ws frame r l e ev owes c =
+owes_more : {ts : List Token} {f : Frame} {end : ℕ} {before mid : List Frame} {out now later vs : List Token} (front xs ws : List Token) → IsFrame ts f → IsRunEnd ts f.places.items f.next end
+    → LeavesMore f.places.items end before mid out now → later ≡ now ++ xs → vs ≡ front ++ ws → Owes ts (reverse mid) ws
+    → RunComes ts (take (end - f.next) (drop f.next f.places.items)) (xs ++ front) → OwesAfter ts (f ∷ reverse before) out later vs
+owes_more {ts} {f} {end} {before} {out = out} {vs = vs} front xs ws frame r l e ev owes c =
     let g : Owes ts (l.frame ∷ reverse before) ws = subst (λ (z : List Frame). Owes ts z ws) (ap reverse l.frames_are ∙ reverse_push before l.frame) owes in
     let left_is : left l.frame ≡ drop end f.places.items = (λ i. drop (l.next_is i) (l.places_are i)) in
     let rest : ComesTo ts (drop end f.places.items) g.0 = subst (λ (z : List ℕ). ComesTo ts z g.0) left_is g.2 in
-    let facts = run_facts ts f.places.items f.next end r frame.items in
     let e0 : end + 0 ≡ end = omega arith in
     let later_is : get_or (drop end f.places.items) 0 0 ≡ get_or f.places.items end 0 = get_or-drop end f.places.items 0 0 ∙ ap (λ (z : ℕ). get_or f.places.items z 0) e0 in
     let less : step_cmp (step_at ts (get_or (take (end - f.next) (drop f.next f.places.items)) 0 0)) (step_at ts (get_or (drop end f.places.items) 0 0)) ≡ Less =
-    (λ i. step_cmp (sym facts.first_is i) (step_at ts (later_is i))) ∙ next_later ts f.places.items f.next end r frame.sorted l.more in
-    let joined = comes_more ts (take (end - f.next) (drop f.next f.places.items)) (drop end f.places.items) x front g.0 facts.some c rest less in
+    (λ i. step_cmp (step_at ts (run_first f.places.items f.next end r.some i)) (step_at ts (later_is i))) ∙ next_later ts f.places.items f.next end r frame.sorted l.more in
+    let joined = comes_more g.0 (run_facts r frame.items).some c rest less in
     let less_or = r.some in
     let split = run_split f.places.items f.next end (omega arith) in
     record {
       owed = pre (more c.item g.0) ++ g.1;
       owes = (more c.item g.0, g.1, subst (λ (z : List ℕ). ComesTo ts z (more c.item g.0)) split joined, refl, g.4);
-      same = tokens_more out front (pre g.0) g.1 (pre_item c.item) x c.are
-          ∙ (λ i. ((sym l.written i) ++ x ∷ []) ++ (front ++ sym g.3 i))
+      same = ap (λ (z : List Token). out ++ (token.Fork ∷ ((z ++ pre g.0) ++ g.1))) c.are ∙ tokens_more out xs front (pre g.0) g.1
+          ∙ (λ i. ((sym l.written i) ++ xs) ++ (front ++ sym g.3 i))
           ∙ (λ i. sym e i ++ sym ev i);
     }
 
-owes_last : {ts : List Token} {f : Frame} {end : ℕ} {before mid : List Frame} {out now later vs front : List Token} {x : Token} (ws : List Token) → IsFrame ts f → IsRunEnd ts f.places.items f.next end
-    → LeavesNone f.places.items end before mid out now → later ≡ now ++ x ∷ [] → vs ≡ front ++ ws → Owes ts (reverse mid) ws
-    → RunComes ts (take (end - f.next) (drop f.next f.places.items)) (step_at ts (get_or (take (end - f.next) (drop f.next f.places.items)) 0 0)) x front
-    → OwesAfter ts (f ∷ reverse before) out later vs
-owes_last {ts} {f} {end} {before} {out = out} {vs = vs} {front = front} {x = x} ws frame r l e ev owes c =
+owes_last : {ts : List Token} {f : Frame} {end : ℕ} {before mid : List Frame} {out now later vs : List Token} (front xs ws : List Token) → IsRunEnd ts f.places.items f.next end
+    → LeavesNone f.places.items end before mid out now → later ≡ now ++ xs → vs ≡ front ++ ws → Owes ts (reverse mid) ws
+    → RunComes ts (take (end - f.next) (drop f.next f.places.items)) (xs ++ front) → OwesAfter ts (f ∷ reverse before) out later vs
+owes_last {ts} {f} {end} {before} {out = out} {vs = vs} front xs ws r l e ev owes c =
     let less_or = r.some in
     let all : take (end - f.next) (drop f.next f.places.items) ≡ drop f.next f.places.items =
     sym (append-nil (take (end - f.next) (drop f.next f.places.items)))
@@ -306,11 +169,11 @@ owes_last {ts} {f} {end} {before} {out = out} {vs = vs} {front = front} {x = x} 
       owes = (
         last c.item,
         ws,
-        subst (λ (z : List ℕ). ComesTo ts z (last c.item)) all (comes_last ts _ x front c),
+        subst (λ (z : List ℕ). ComesTo ts z (last c.item)) all (comes_last c),
         refl,
         subst (λ (z : List Frame). Owes ts (reverse z) ws) l.frames_are owes,
       );
-      same = tokens_last out front ws (pre_item c.item) x c.are ∙ (λ i. ((sym l.written i) ++ x ∷ []) ++ sym ev i) ∙ (λ i. sym e i ++ vs);
+      same = ap (λ (z : List Token). out ++ (z ++ ws)) c.are ∙ tokens_last out xs front ws ∙ (λ i. ((sym l.written i) ++ xs) ++ sym ev i) ∙ (λ i. sym e i ++ vs);
     }
 
 -- ---- frames
@@ -361,11 +224,11 @@ owed_opened es (inr n) = let same = ap (owed es) n.1 in omega arith
 
 -- ---- one item is written
 
-pub writes : {ts : List Token} {es : List ℕ} {f : Frame} {end : ℕ} {behind : List ℕ} {before mid after : List Frame} {out now later : List Token} {x : Token}
-    → AllByRecursion IsToken ts → IsFrame ts f → IsRunEnd ts f.places.items f.next end → AreBehind ts es (take (end - f.next) (drop f.next f.places.items)) behind
-    → Leaves f.places.items end before mid out now → slice_get ts (get_or f.places.items f.next 0) ≡ Some x → later ≡ now ++ x ∷ [] → OpensSome ts behind mid after
-    → Writes ts es f before after out later
-writes {ts} {es} {f} {end} {behind} {before} {mid} {after} {out} {now} {later} {x} limits frame r b l is e o = record {
+pub writes : {ts : List Token} {es : List ℕ} {f : Frame} {end d : ℕ} {behind : List ℕ} {before mid after : List Frame} {out now later : List Token}
+    → AllByRecursion IsToken ts → AreEnds ts es → IsFrame ts f → IsRunEnd ts f.places.items f.next end → IsChain ts (take (end - f.next) (drop f.next f.places.items)) d
+    → AreBehind ts es (shifted d (take (end - f.next) (drop f.next f.places.items))) behind → Leaves f.places.items end before mid out now
+    → later ≡ now ++ take (suc d) (drop (get_or f.places.items f.next 0) ts) → OpensSome ts behind mid after → Writes ts es f before after out later
+writes {ts} {es} {f} {end} {d} {behind} {before} {mid} {after} {out} {now} {later} limits ends frame r chain b l e o = record {
   frames = λ all. frames_opened o b.covers.items (frames_left frame r l all);
   owes = owes;
   fewer = fewer;
@@ -374,22 +237,22 @@ writes {ts} {es} {f} {end} {behind} {before} {mid} {after} {out} {now} {later} {
     owes : (vs : List Token) → Owes ts (reverse after) vs → OwesAfter ts (f ∷ reverse before) out later vs
     owes vs given =
         let g = opened vs o given in
-        let facts = run_facts ts f.places.items f.next end r frame.items in
-        let i = facts.items 0 0 facts.some in
-        let c = run_cases ts es (take (end - f.next) (drop f.next f.places.items)) behind x g.front i.item limits facts.some facts.items facts.alike i.is_at
-        (token_first ts f.places.items f.next end x i.item r.some is i.is_at) b g.made in
+        let c = subst (λ (z : ℕ). RunComes ts (take (end - f.next) (drop f.next f.places.items)) (take (suc d) (drop z ts) ++ g.front)) (run_first f.places.items f.next end r.some)
+        (chain_comes d (take (end - f.next) (drop f.next f.places.items)) limits ends (run_facts r frame.items) chain b g.made) in
         elim l [
-          | inl m ↦ owes_more g.rest frame r m e g.are g.owes c
-          | inr n ↦ owes_last g.rest frame r n e g.are g.owes c
+          | inl m ↦ owes_more g.front (take (suc d) (drop (get_or f.places.items f.next 0) ts)) g.rest frame r m e g.are g.owes c
+          | inr n ↦ owes_last g.front (take (suc d) (drop (get_or f.places.items f.next 0) ts)) g.rest r n e g.are g.owes c
         ]
 
     fewer : owed es after < owed es before + total es (left f)
     fewer =
         let one = owed_left es l in
         let two = owed_opened es o in
-        let facts = run_facts ts f.places.items f.next end r frame.items in
+        let facts = run_facts r frame.items in
         let some = facts.some in
         let few = b.few in
+        let steps = chain_few d (take (end - f.next) (drop f.next f.places.items)) ends facts chain in
+        let len = length-map (take (end - f.next) (drop f.next f.places.items)) (λ (k : ℕ). k + d) in
         let less_or = r.some in
         let split = sym (sum_by-append (size es) (take (end - f.next) (drop f.next f.places.items)) (drop end f.places.items)) ∙ ap (total es) (run_split f.places.items f.next end (omega arith)) in
         omega arith

@@ -4,6 +4,7 @@ pub mod Join
 pub mod Prune
 pub mod Steps
 pub mod Tags
+pub mod Chains
 pub mod Rises
 pub mod Places
 pub mod Frames

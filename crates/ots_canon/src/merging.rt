@@ -1,9 +1,10 @@
 //! Merging nodes: the canonical tree with the paths of all of them.
-ghost use Rattle.std.specs.Prelude.{◌≡◌, ◌<◌, ◌++◌, IfOk, OnOk, length, drop, true, All};
+ghost use Rattle.std.specs.Prelude.{◌≡◌, ◌<◌, ◌-◌, ◌≤◌, ◌++◌, IfOk, OnOk, length, take, drop, true, All};
 ghost use Rattle.std.specs.List.{AllByRecursion};
 ghost use Rattle.std.specs.List.Sorted.{IsSortedBy};
 ghost use Rattle.ots_tree.specs.Wire.{IsToken};
 ghost use Rattle.ots_canon.specs.Places.{HasNode, AreNodes, IsItem, AreEnds, Gathers, GathersBehind, AreBehind, IsFormOf};
+ghost use Rattle.ots_canon.specs.Chains.{shifted, AreAlike, IsChain};
 ghost use Rattle.ots_canon.specs.Frames.{IsFrame, IsRunEnd, comes_before, Leaves, IsSort, Opens, OpensSome, Writes};
 
 use crate::heads::{compare_heads, items_at, places_of};
@@ -78,11 +79,12 @@ fn write_item(
     ensures { OnOk result (Writes tokens.now ends.now frame frames.old.items frames.new.items written.old.items written.new.items) }
 {
     let Frame { places, next } = frame;
+    let first = places[next];
     let end = run_end(tokens, &places, next);
-    let behind = items_behind(alloc, tokens, ends, &places[next..end])?;
-    let token = tokens.at(places[next]).copy()?;
+    let steps = common_steps(tokens, &places[next..end]);
+    let behind = items_behind(alloc, tokens, ends, &places[next..end], steps)?;
     leave(places, end, frames, written)?;
-    written.push(token)?;
+    write_line(tokens, first, first + steps + 1, written)?;
     open_some(alloc, tokens, behind, frames)
 }
 
@@ -98,6 +100,23 @@ fn leave(
     if end < places.len() {
         frames.push(Frame { places, next: end })?;
         written.push(Token::Fork)?;
+    }
+    Ok(())
+}
+
+/// Writes copies of the tokens from one place up to another.
+fn write_line(
+    tokens: &Tokens<'_>,
+    from: usize,
+    to: usize,
+    written: &mut Vec<Token>,
+) -> Result<(), OutOfMemory>
+    requires order { from ≤ to }
+    requires within { to ≤ length tokens.now }
+    ensures { OnOk result (written.new.items ≡ written.old.items ++ take (to - from) (drop from tokens.now)) }
+{
+    for at in from..to {
+        written.push(tokens.at(at).copy()?)?;
     }
     Ok(())
 }
@@ -172,20 +191,80 @@ fn run_end(tokens: &Tokens<'_>, places: &[usize], from: usize) -> usize
     end
 }
 
-/// The places of the items of all nodes that stand behind the operations at these places.
+/// How many operations, one behind the other and no fork between, follow alike on those at all of
+/// these places.
+///
+/// It goes along each chain for itself, and each time looks about twice as far ahead: so it reads
+/// tokens that lie side by side, and looks at few that are not written then.
+fn common_steps(tokens: &Tokens<'_>, run: &[usize]) -> usize
+    requires some { 0 < length run.now }
+    requires alike { IsChain tokens.now run.now 0 }
+    ensures { IsChain tokens.now run.now result }
+{
+    let mut steps = 0;
+    let mut ahead = 1;
+    while ahead < 256 {
+        steps = steps_within(tokens, run, steps, ahead);
+        if steps < ahead {
+            return steps;
+        }
+        ahead = 2 * ahead + 1;
+    }
+    steps
+}
+
+/// How many of them follow alike among the next `ahead`, where so many are known to.
+fn steps_within(tokens: &Tokens<'_>, run: &[usize], known: usize, ahead: usize) -> usize
+    requires some { 0 < length run.now }
+    requires chain { IsChain tokens.now run.now known }
+    requires ahead { known ≤ ahead }
+    ensures chain { IsChain tokens.now run.now result }
+    ensures few { result ≤ ahead }
+{
+    let mut steps = ahead;
+    for place in run {
+        steps = steps_alike(tokens, run[0], *place, known, steps);
+    }
+    steps
+}
+
+/// How many of the next `ahead` operations behind one place follow behind the other too.
+fn steps_alike(tokens: &Tokens<'_>, first: usize, place: usize, known: usize, ahead: usize) -> usize
+    requires alike { AreAlike tokens.now first place known }
+    requires ahead { known ≤ ahead }
+    ensures alike { AreAlike tokens.now first place result }
+    ensures more { known ≤ result }
+    ensures few { result ≤ ahead }
+{
+    let count = tokens.len();
+    let mut steps = known;
+    while steps < ahead
+        && first + steps + 1 < count
+        && tokens.is_op(first + steps)
+        && tokens.is_op(first + steps + 1)
+        && tokens.compare(first + steps + 1, place + steps + 1).is_eq()
+    {
+        steps += 1;
+    }
+    steps
+}
+
+/// The places of the items of all nodes that stand behind the operations which follow so many steps
+/// behind these places.
 pub(crate) fn items_behind(
     alloc: Global,
     tokens: &Tokens<'_>,
     ends: &[usize],
     run: &[usize],
+    steps: usize,
 ) -> Result<Vec<usize>, OutOfMemory>
     requires ends { AreEnds tokens.now ends.now }
-    requires items { All (IsItem tokens.now) run.now }
-    ensures { IfOk result (λ behind. AreBehind tokens.now ends.now run.now behind.items) }
+    requires items { All (IsItem tokens.now) (shifted steps run.now) }
+    ensures { IfOk result (λ behind. AreBehind tokens.now ends.now (shifted steps run.now) behind.items) }
 {
     let mut behind = Vec::with_capacity(alloc, run.len())?;
     for place in run {
-        gather_behind(tokens, ends, *place, &mut behind)?;
+        gather_behind(tokens, ends, *place + steps, &mut behind)?;
     }
     Ok(behind)
 }

@@ -87,7 +87,7 @@ fn first_path(alloc: Global, tokens: &Tokens<'_>, height: u64) -> Result<Vec<Tok
             return Ok(path);
         }
         let run = run_of(alloc, tokens, &leads, &items, first)?;
-        items = items_behind(alloc, tokens, &ends, &run)?;
+        items = items_behind(alloc, tokens, &ends, &run, 0)?;
     }
     Ok(path)
 }

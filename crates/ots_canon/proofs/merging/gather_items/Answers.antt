@@ -1,4 +1,4 @@
-use Rattle.std.proofs.Common.{◌<◌, ◌+◌, length, arith, rules, sym, ◌∙◌}
+use Rattle.std.proofs.Common.{arith, rules, sym, ◌∙◌}
 use Rattle.ots_canon.proofs.Gathering.{gathering_none, gathering_more, gathering_fork, gathering_within, gathered}
 use Rattle.ots_canon.proofs.merging.gather_items.Goals as goal
 

@@ -1,4 +1,4 @@
-use Rattle.std.proofs.Common.{subst, sym, arith}
+use Rattle.std.proofs.Common.{arith}
 use Rattle.std.proofs.lemmas.List.{take_all}
 use Rattle.ots_canon.proofs.Leading.{least_more}
 use Rattle.ots_canon.proofs.pruning.least_height.Goals as goal
