@@ -40,12 +40,6 @@ alike_op ts n m e f = first_op (slice_get ts n) (ap (λ (z : List ℕ). get_or z
 
 -- ---- how far they follow alike
 
-pub shorter : {ts : List Token} {first k d : ℕ} (e : ℕ) → e ≤ d → AreAlike ts first k d → AreAlike ts first k e
-shorter e l h =
-    let a = h.within.0 in
-    let b = h.within.1 in
-    record { within = (omega arith, omega arith); ops = λ j m. h.ops j (omega arith); same = λ j m. h.same j (omega arith) }
-
 pub further : {ts : List Token} {first k d : ℕ} → is_op (slice_get ts (first + d)) ≡ true → is_op (slice_get ts (first + d + 1)) ≡ true → step_at ts (first + d + 1) ≡ step_at ts (k + d + 1)
     → AreAlike ts first k d → AreAlike ts first k (d + 1)
 further {ts} {first} {k} {d} here next same h =

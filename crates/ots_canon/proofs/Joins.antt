@@ -42,15 +42,6 @@ token_limits (x ∷ xs) (suc n) d l h = token_limits xs n d (omega arith) h.1
 pub not_equal : (x : Token) (r : Ordering) → r ≡ step_cmp (token_step x) (token_step x) → is_eq r ≡ false → ⊥
 not_equal x r e f = let tie = ap is_eq (e ∙ tied_itself step_total (token_step x)) in absurd cc
 
--- ---- joins
-
-all_joined : (ts us : List Token) → AllByRecursion IsToken ts → AllByRecursion IsToken us → AllByRecursion IsToken (ts ++ us)
-all_joined [] us h g = g
-all_joined (t ∷ ts) us h g = (h.0, all_joined ts us h.1 g)
-
-pub joined_limits : (ts us vs : List Token) → vs ≡ ts ++ us → AllByRecursion IsToken ts → AllByRecursion IsToken us → AllByRecursion IsToken vs
-joined_limits ts us vs e h g = subst (AllByRecursion IsToken) (sym e) (all_joined ts us h g)
-
 -- ---- trees with the same paths
 
 pub same_forms : (ts us vs ws : List Token) → IsCanonOf ts vs → IsCanonOf us ws → (vs ≡ ws) ↔ HaveSamePaths ts us

@@ -22,7 +22,7 @@ use Rattle.ots_canon.specs.Prune.{IsPruneOf}
 use Rattle.ots_canon.specs.Steps.{step_at}
 use Rattle.ots_canon.specs.Places.{IsNodeAt, IsItem, HasAt, HasAmong, Covers, AreBehind, Gathers, size, total}
 use Rattle.ots_canon.specs.Leading.{IsLeastHeight, is_marked, AreLeads, first_of, IsFirst, IsFirstMarked, is_of_run, line, IsFirstPath, IsLineOfFirst}
-use Rattle.ots_canon.proofs.Orders.{equal_of, step_total, same_step, same_op}
+use Rattle.ots_canon.proofs.Orders.{is_less, equal_of, step_total, same_step, same_op}
 use Rattle.ots_canon.proofs.Growing.{single, single-paths, single-canonical, path_of}
 use Rattle.ots_canon.proofs.Nodes.{step_is, this_token, end_node, has_here}
 use Rattle.ots_canon.proofs.Among.{contains_none, contains_one, contains_some, onward, at_one, has_below, is_below}
@@ -30,11 +30,6 @@ use Rattle.ots_canon.proofs.Gathering.{covers_none, items_more}
 use Rattle.ots_canon.proofs.Leading.{path_token, token_path, leads_end, marked}
 
 -- ---- the first of the marked places
-
-is_less : (o : Ordering) → is_lt o ≡ true → o ≡ Less
-is_less Less e = refl
-is_less Equal e = absurd cc
-is_less Greater e = absurd cc
 
 -- what comes before the first of two places comes before the second
 before_both : (x y z : List ℕ) → is_lt (step_cmp y z) ≡ true → is_lt (step_cmp x z) ≡ false → is_lt (step_cmp x y) ≡ false

@@ -16,7 +16,6 @@ use Rattle.ots_canon.specs.Order.{step_cmp}
 use Rattle.ots_canon.specs.Steps.{step_at}
 use Rattle.ots_canon.specs.Places.{IsItem, HasAt, HasAmong, size, total, AreEnds, AreBehind, IsFormOf}
 use Rattle.ots_canon.specs.Frames.{comes_before, left, IsFrame, owed, ComesTo, Owes, IsRunEnd, LeavesMore, LeavesNone, Leaves, Opens, OpensSome, OwesAfter, Writes}
-use Rattle.ots_canon.proofs.Nodes.{node_in}
 use Rattle.ots_canon.proofs.Among.{onward, both, union, permuted, has_append}
 use Rattle.ots_canon.proofs.Runs.{next_later}
 use Rattle.ots_canon.specs.Chains.{shifted, IsChain}
@@ -306,15 +305,6 @@ writing_falls {es = es} {before = before} {f = f} e w =
 
 pub writing_end : {ts : List Token} {ks : List ℕ} {frames : List Frame} {out : List Token} → frames ≡ [] → IsWriting ts ks frames out → IsFormOf ts ks out
 writing_end {ts} {ks} {out = out} e h = subst (IsFormOf ts ks) (append-nil out) (h.owes [] (subst (λ (z : List Frame). Owes ts (reverse z) []) (sym e) refl))
-
-pub frame_within : {ts : List Token} {f : Frame} → IsFrame ts f → get_or f.places.items f.next 0 < length ts
-frame_within {ts} {f} h =
-    let len = length-drop f.next f.places.items in
-    let some = h.some in
-    let l : 0 < length (drop f.next f.places.items) = omega arith in
-    let i = h.items 0 0 l in
-    let e0 : f.next + 0 ≡ f.next = omega arith in
-    subst (λ (z : ℕ). z < length ts) (get_or-drop f.next f.places.items 0 0 ∙ ap (λ (z : ℕ). get_or f.places.items z 0) e0) (node_in (record { node = last i.item; is_at = i.is_at }))
 
 pub none_left : (frames : List Frame) → length frames ≡ 0 → frames ≡ []
 none_left [] e = refl
