@@ -54,14 +54,14 @@ both_places m n a b zero d l = a
 both_places m n a b (suc zero) d l = b
 both_places m n a b (suc (suc k)) d l = absurd (omega arith)
 
-pub two_roots : (ts us vs : List Token) (n : ℕ) → vs ≡ ts ++ us → IsPre ts → IsPre us → n ≡ length ts → All (HasNode vs) (0 ∷ n ∷ [])
-two_roots ts us vs n e p q len =
+pub two_roots : {ts us vs : List Token} {n : ℕ} → vs ≡ ts ++ us → IsPre ts → IsPre us → n ≡ length ts → All (HasNode vs) (0 ∷ n ∷ [])
+two_roots {ts} {us} {vs} {n} e p q len =
     subst (λ (z : List Token). All (HasNode z) (0 ∷ n ∷ [])) ((λ i. p.1 i ++ q.1 i) ∙ sym e)
     (both_places 0 n (record { node = p.0; is_at = here p.0 (pre q.0) })
     (subst (HasNode (pre p.0 ++ pre q.0)) (ap length p.1 ∙ sym len) (record { node = q.0; is_at = behind p.0 q.0 })))
 
-pub two_nodes : (ts us vs : List Token) → vs ≡ ts ++ us → IsPre ts → IsPre us → AreNodes vs
-two_nodes ts us vs e p q = subst AreNodes ((λ i. p.1 i ++ q.1 i) ∙ sym e) (nodes_of_both p.0 q.0)
+pub two_nodes : {ts us vs : List Token} → vs ≡ ts ++ us → IsPre ts → IsPre us → AreNodes vs
+two_nodes e p q = subst AreNodes ((λ i. p.1 i ++ q.1 i) ∙ sym e) (nodes_of_both p.0 q.0)
 
 of_two : (t u : Node) (vs : List Token) → IsFormOf (pre t ++ pre u) (0 ∷ length (pre t) ∷ []) vs → IsCanonTree (paths t ++ paths u) vs
 of_two t u vs f = canon_tree (pre t ++ pre u) (0 ∷ length (pre t) ∷ []) (paths t ++ paths u) vs (λ p.
@@ -70,8 +70,8 @@ of_two t u vs f = canon_tree (pre t ++ pre u) (0 ∷ length (pre t) ∷ []) (pat
     (onward (at_one (HasAt (pre t ++ pre u)) (length (pre t)) p) (has_here (pre t ++ pre u) (length (pre t)) u (behind t u) p)))
     (has_append (paths t) (paths u) p))) f
 
-pub join_of : (ts us vs out tree : List Token) (n : ℕ) → vs ≡ ts ++ us → IsPre ts → IsPre us → n ≡ length ts → IsFormOf vs (0 ∷ n ∷ []) out → tree ≡ out → IsJoinOf ts us tree
-join_of ts us vs out tree n e p q len f same = record {
+pub join_of : {ts us vs out tree : List Token} {n : ℕ} → vs ≡ ts ++ us → IsPre ts → IsPre us → n ≡ length ts → IsFormOf vs (0 ∷ n ∷ []) out → tree ≡ out → IsJoinOf ts us tree
+join_of {ts} {us} {vs} {out} {tree} {n} e p q len f same = record {
   first = p.0;
   first_are = p.1;
   second = q.0;

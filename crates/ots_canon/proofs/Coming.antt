@@ -148,10 +148,10 @@ line_first (x ∷ ts) zero d l = refl
 line_first (x ∷ ts) (suc k) d l = line_first ts k d (omega arith)
 
 -- one more token of a line is written
-pub line_more : (ts first : List Token) (from at : ℕ) {before now : List Token} {x y : Token} → from ≤ at → slice_get ts at ≡ Some x → y ≡ x → now ≡ before ++ y ∷ []
-    → before ≡ first ++ take (at - from) (drop from ts) → now ≡ first ++ take (at + 1 - from) (drop from ts)
-line_more ts first from at {before} {now} {x} l e same pushed is =
-    pushed ∙ (λ i. is i ++ same i ∷ []) ∙ append_assoc first (take (at - from) (drop from ts)) (x ∷ []) ∙ ap (λ (z : List Token). first ++ z) (sym more)
+pub line_more : (ts first : List Token) (from at : ℕ) {now : List Token} {x : Token} → from ≤ at → slice_get ts at ≡ Some x → now ≡ (first ++ take (at - from) (drop from ts)) ++ x ∷ []
+    → now ≡ first ++ take (at + 1 - from) (drop from ts)
+line_more ts first from at {now} {x} l e pushed =
+    pushed ∙ append_assoc first (take (at - from) (drop from ts)) (x ∷ []) ∙ ap (λ (z : List Token). first ++ z) (sym more)
   where
     more : take (at + 1 - from) (drop from ts) ≡ take (at - from) (drop from ts) ++ x ∷ []
     more =

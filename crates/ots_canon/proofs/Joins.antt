@@ -16,7 +16,7 @@ use Rattle.ots_canon.specs.Order.{step_cmp, Has, HaveSame}
 use Rattle.ots_canon.specs.Canonical.{IsTreeOf, IsCanonTree, IsCanonOf}
 use Rattle.ots_canon.specs.Join.{HaveSamePaths, IsJoinOf}
 use Rattle.ots_canon.specs.Steps.{token_step}
-use Rattle.ots_canon.proofs.Orders.{equal_of, step_total, same_step, same_op, same_end, head_of}
+use Rattle.ots_canon.proofs.Orders.{step_total, same_by, same_op, same_end, head_of}
 use Rattle.ots_canon.proofs.Rising.{same_chain, same_back, one_canon}
 use Rattle.ots_canon.proofs.OneTree.{one_tree}
 
@@ -31,16 +31,19 @@ same_key (token.Attestation a) token.Fork hx hy e = absurd (let f = head_of e in
 same_key (token.Attestation a) (token.Op p) hx hy e = absurd (let f = head_of e in omega arith)
 same_key (token.Attestation a) (token.Attestation b) hx hy e = let same = same_end a b hx hy e in cc
 
-pub same_token : (x y : Token) (r : Ordering) → IsToken x → IsToken y → r ≡ step_cmp (token_step x) (token_step y) → is_eq r ≡ true → x ≡ y
-same_token x y r hx hy e t = same_key x y hx hy (same_step (token_step x) (token_step y) (sym e ∙ equal_of r t))
-
 pub token_limits : (ts : List Token) (n : ℕ) (d : Token) → n < length ts → AllByRecursion IsToken ts → IsToken (get_or ts n d)
 token_limits [] n d l h = absurd (omega arith)
 token_limits (x ∷ xs) zero d l h = h.0
 token_limits (x ∷ xs) (suc n) d l h = token_limits xs n d (omega arith) h.1
 
-pub not_equal : (x : Token) (r : Ordering) → r ≡ step_cmp (token_step x) (token_step x) → is_eq r ≡ false → ⊥
-not_equal x r e f = let tie = ap is_eq (e ∙ tied_itself step_total (token_step x)) in absurd cc
+pub limits_at : (ts : List Token) {n : ℕ} {x : Token} → n < length ts → AllByRecursion IsToken ts → x ≡ get_or ts n x → IsToken x
+limits_at ts {n} {x} l h e = subst IsToken (sym e) (token_limits ts n x l h)
+
+pub same_token : {x y : Token} {r : Ordering} {b : Bool} → IsToken x → IsToken y → r ≡ step_cmp (token_step x) (token_step y) → b ≡ is_eq r → b ≡ true → x ≡ y
+same_token {x} {y} hx hy e f t = same_key x y hx hy (same_by e f t)
+
+pub not_equal : {x y : Token} {r : Ordering} {b : Bool} → r ≡ step_cmp (token_step x) (token_step y) → b ≡ is_eq r → b ≡ false → x ≡ y → ⊥
+not_equal {x} {y} e f t same = let tie = ap is_eq (e ∙ ap (λ (z : Token). step_cmp (token_step x) (token_step z)) (sym same) ∙ tied_itself step_total (token_step x)) in absurd (let g = sym f ∙ t in cc)
 
 -- ---- trees with the same paths
 
@@ -99,21 +102,12 @@ sound_join n k ts us vs s r j =
 
 -- ---- comparing token by token
 
-pub differs_at : (ts us : List Token) (n : ℕ) (x y : Token) (r : Ordering) (b : Bool) → n < length ts → x ≡ get_or ts n x → y ≡ get_or us n y
-    → r ≡ step_cmp (token_step x) (token_step y) → b ≡ is_eq r → b ≡ false → (false ≡ true → ts ≡ us) × (ts ≡ us → false ≡ true)
-differs_at ts us n x y r b l ex ey er eb f = ((λ e. absurd cc), (λ same. absurd (by same)))
-  where
-    by : ts ≡ us → ⊥
-    by same =
-        let alike : y ≡ x = ey ∙ ap (λ (z : List Token). get_or z n y) (sym same) ∙ get_or_default ts n y x l ∙ sym ex in
-        not_equal x r (er ∙ ap (λ (z : Token). step_cmp (token_step x) (token_step z)) alike) (sym eb ∙ f)
+pub differs_at : {ts us : List Token} {n : ℕ} {x y : Token} → n < length ts → x ≡ get_or ts n x → y ≡ get_or us n y → (x ≡ y → ⊥) → (false ≡ true → ts ≡ us) × (ts ≡ us → false ≡ true)
+differs_at {ts} {us} {n} {x} {y} l ex ey apart = ((λ e. absurd cc), (λ same. absurd (apart (ex ∙ get_or_default ts n x y l ∙ ap (λ (z : List Token). get_or z n y) same ∙ sym ey))))
 
-pub same_more : (ts us : List Token) (n : ℕ) (x y : Token) (r : Ordering) (b : Bool) → n < length ts → length ts ≡ length us
-    → AllByRecursion IsToken ts → AllByRecursion IsToken us → x ≡ get_or ts n x → y ≡ get_or us n y
-    → r ≡ step_cmp (token_step x) (token_step y) → b ≡ is_eq r → b ≡ true → take n ts ≡ take n us → take (n + 1) ts ≡ take (n + 1) us
-same_more ts us n x y r b l len ht hu ex ey er eb t h =
+pub same_more : (ts us : List Token) {n : ℕ} {x y : Token} → n < length ts → length ts ≡ length us → x ≡ get_or ts n x → y ≡ get_or us n y → x ≡ y → take n ts ≡ take n us → take (n + 1) ts ≡ take (n + 1) us
+same_more ts us {n} {x} {y} l len ex ey same h =
     let lu : n < length us = omega arith in
-    let same = same_token x y r (subst IsToken (sym ex) (token_limits ts n x l ht)) (subst IsToken (sym ey) (token_limits us n y lu hu)) er (sym eb ∙ t) in
     take_more_same ts us n x l lu h (sym ex ∙ same ∙ ey ∙ get_or_default us n y x lu)
 
 pub both_ways : {A B C : Type 0} → A ↔ B → B ↔ C → A ↔ C

@@ -213,22 +213,22 @@ goes_on {ts} {es} {ls} {height} {ks} {first} {behind} us o v t at (inl g) = inl 
         let mark = (marked t.marks (All-contains (IsItem ts) ks k t.items c)).1 (record { path = q; has = h; ends = e }) in
         (λ i. is_lt (step_cmp (sym f i) (sym step_first i))) ∙ t.is_first.least k c mark
 
-    by_op : (q r : Path) (k : ℕ) (u : Op) (w : Node) → Contains ks k → IsNodeAt ts k (last (step u w)) → Has (paths w) r → r.end ≡ Bitcoin height → is_lt (step_cmp (op_step u) (op_step o)) ≡ false
+    by_op : (r : Path) (u : Op) {k : ℕ} {w : Node} → Contains ks k → IsNodeAt ts k (last (step u w)) → Has (paths w) r → r.end ≡ Bitcoin height → is_lt (step_cmp (op_step u) (op_step o)) ≡ false
         → (c : Ordering) → step_cmp (op_step o) (op_step u) ≡ c → (below u r ≡ below o g.0) ⊎ (path_cmp (below o g.0) (below u r) ≡ Less)
-    by_op q r k u w c h has e f Less x = inr (ap (λ (z : Ordering). ordering_then z (path_cmp g.0 r)) x)
-    by_op q r k u w c h has e f Equal x =
+    by_op r u c h has e f Less x = inr (ap (λ (z : Ordering). ordering_then z (path_cmp g.0 r)) x)
+    by_op r u {k} {w} c h has e f Equal x =
         let same : o ≡ u = same_op o u (same_step (op_step o) (op_step u) x) in
         elim (g.1.least r (behind_run t c h (step_first ∙ ap op_step same) has e) e) [
           | inl eq ↦ inl (λ i. below (sym same i) (eq i))
           | inr less ↦ inr (then_after (step_cmp (op_step o) (op_step u)) (path_cmp g.0 r) x ∙ less)
         ]
-    by_op q r k u w c h has e f Greater x = absurd (let less = ap is_lt (step_total.antisymm (op_step u) (op_step o) ∙ ap ordering_reverse x) in cc)
+    by_op r u c h has e f Greater x = absurd (let less = ap is_lt (step_total.antisymm (op_step u) (op_step o) ∙ ap ordering_reverse x) in cc)
 
     least : (q : Path) → HasAmong ts ks q → q.end ≡ Bitcoin height → (q ≡ below o g.0) ⊎ (path_cmp (below o g.0) q ≡ Less)
     least q h e = elim (begins (All-contains (IsItem ts) ks h.place t.items h.listed) h.has) [
       | inl b ↦ absurd (let n = not_before q h.place (end_step b.end) h.listed h.has e (step_is ts h.place (attested b.end) b.is_at) in cc)
       | inr b ↦ subst (λ (z : Path). (z ≡ below o g.0) ⊎ (path_cmp (below o g.0) z ≡ Less)) b.is
-          (by_op q b.inner h.place b.op b.node h.listed b.is_at b.has (ap (λ (z : Path). z.end) b.is ∙ e)
+          (by_op b.inner b.op h.listed b.is_at b.has (ap (λ (z : Path). z.end) b.is ∙ e)
           (not_before q h.place (op_step b.op) h.listed h.has e (step_is ts h.place (step b.op b.node) b.is_at)) (step_cmp (op_step o) (op_step b.op)) refl)
     ]
 goes_on {ts} {es} {ls} {height} {ks} {first} {behind} us o v t at (inr n) =

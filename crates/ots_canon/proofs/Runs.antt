@@ -1,11 +1,11 @@
 -- Items in order, and runs of them that begin alike.
-use Rattle.std.proofs.Common.{◌≡◌, ℕ, ◌+◌, ◌-◌, ◌<◌, ◌≤◌, List, [], ◌∷◌, ◌++◌, map, take, length, get_or, Bool, true, false, refl, sym, ap, subst, ◌∙◌, inl, inr, arith}
+use Rattle.std.proofs.Common.{◌≡◌, ℕ, ◌+◌, ◌-◌, ◌<◌, ◌≤◌, List, [], ◌∷◌, ◌++◌, map, take, length, get_or, Bool, false, refl, sym, ap, subst, ◌∙◌, inl, inr, arith}
 use Rattle.std.specs.List.{AllWithin}
 use Rattle.std.specs.Prelude.{All, slice_get, Some}
 use Rattle.std.specs.List.Sorted.{IsSortedBy, IsSortedWithin, IsPermutation}
 use Rattle.std.proofs.lemmas.Bool.Decides.{eqb_tells}
 use Rattle.std.proofs.lemmas.Grind.{get_or_default_zero}
-use Rattle.std.specs.Ordering.{is_lt, is_eq, ordering_reverse}
+use Rattle.std.specs.Ordering.{is_lt, ordering_reverse}
 use Rattle.std.specs.Cmp.{IsStrictWeakOrder}
 use Rattle.std.specs.Fn.{Called, ComparesAs}
 use Rattle.std.specs.declared.cmp.Ordering.{Ordering}
@@ -25,14 +25,14 @@ use Rattle.ots_canon.specs.declared.heads.Head.TheVariants as head
 use Rattle.ots_canon.specs.declared.heads.Item.{Item}
 use Rattle.ots_canon.specs.Heads.{head_step, place_of, head_before, IsHead, AreHeads}
 use Rattle.ots_canon.specs.Frames.{comes_before, IsRunEnd, IsSort}
-use Rattle.ots_canon.proofs.Orders.{equal_of, step_total, same_step}
+use Rattle.ots_canon.proofs.Orders.{step_total}
 
 -- ---- the sort
 
 -- one more item
-pub heads_more : (ts : List Token) (ks : List ℕ) (n : ℕ) (h : Head) {x : Token} {items now : List Item} → n < length ks → slice_get ts (get_or ks n 0) ≡ Some x
+pub heads_more : {ts : List Token} (ks : List ℕ) (n : ℕ) (h : Head) {x : Token} {items now : List Item} → n < length ks → slice_get ts (get_or ks n 0) ≡ Some x
     → head_step h ≡ token_step x → now ≡ items ++ (record { head = h; place = get_or ks n 0 }) ∷ [] → AreHeads ts (take n ks) items → AreHeads ts (take (n + 1) ks) now
-heads_more ts ks n h {x} {items} {now} l is e are a =
+heads_more {ts} ks n h {x} {items} {now} l is e are a =
     let i : Item = record { head = h; place = get_or ks n 0 } in
     record {
       places = ap (map place_of) are ∙ map-append place_of items (i ∷ []) ∙ ap (λ (z : List ℕ). z ++ get_or ks n 0 ∷ []) a.places ∙ sym (take_more ks n 0 l);
@@ -74,12 +74,10 @@ alike_one ts ks from l = λ k d le lt.
     (λ i. step_at ts (get_or ks (e i) d)) ∙ ap (step_at ts) (get_or_default ks from d 0 l)
 
 -- one more begins alike
-pub run_more : (ts : List Token) (ks : List ℕ) (from end : ℕ) (r : Ordering) (b : Bool) → end < length ks
-    → r ≡ step_cmp (step_at ts (get_or ks from 0)) (step_at ts (get_or ks end 0)) → b ≡ is_eq r → b ≡ true
+pub run_more : (ts : List Token) (ks : List ℕ) {from end : ℕ} → end < length ks → step_at ts (get_or ks from 0) ≡ step_at ts (get_or ks end 0)
     → AllWithin (λ (k : ℕ). step_at ts k ≡ step_at ts (get_or ks from 0)) ks from end
     → AllWithin (λ (k : ℕ). step_at ts k ≡ step_at ts (get_or ks from 0)) ks from (end + 1)
-run_more ts ks from end r b l e f t h =
-    let same = same_step (step_at ts (get_or ks from 0)) (step_at ts (get_or ks end 0)) (sym e ∙ equal_of r (sym f ∙ t)) in
+run_more ts ks {from} {end} l same h =
     AllWithin-more (λ (k : ℕ). step_at ts k ≡ step_at ts (get_or ks from 0)) ks from end h
     (λ d. ap (step_at ts) (get_or_default ks end d 0 l) ∙ sym same)
 
@@ -101,15 +99,13 @@ next_later ts ks from end r sorted l =
     (r.apart l)
 
 -- one item more stands in order
-pub in_order_more : (ts : List Token) (ks : List ℕ) (at : ℕ) (r : Ordering) (b : Bool) → 1 ≤ at → at < length ks
-    → r ≡ step_cmp (step_at ts (get_or ks at 0)) (step_at ts (get_or ks (at - 1) 0)) → b ≡ is_lt r → b ≡ false
+pub in_order_more : (ts : List Token) (ks : List ℕ) {at : ℕ} → 1 ≤ at → at < length ks → comes_before ts (get_or ks at 0) (get_or ks (at - 1) 0) ≡ false
     → IsSortedWithin (comes_before ts) ks 0 at → IsSortedWithin (comes_before ts) ks 0 (at + 1)
-in_order_more ts ks at r b some l is same not_less sorted k d zero small = elim (eqb_tells (k + 1) at) [
+in_order_more ts ks {at} some l there sorted k d zero small = elim (eqb_tells (k + 1) at) [
   | inr other ↦ let apart = other.1 in sorted k d zero (omega (arith, small, apart))
   | inl last ↦
       let place = last.1 in
       let before : at - 1 ≡ k = omega (arith, place) in
-      let there : comes_before ts (get_or ks at 0) (get_or ks (at - 1) 0) ≡ false = ap is_lt (sym is) ∙ sym same ∙ not_less in
       let here : comes_before ts (get_or ks (k + 1) 0) (get_or ks k 0) ≡ false =
       (subst (λ (z : ℕ). comes_before ts (get_or ks z 0) (get_or ks k 0) ≡ false) (sym place)
       (subst (λ (z : ℕ). comes_before ts (get_or ks at 0) (get_or ks z 0) ≡ false) before there)) in

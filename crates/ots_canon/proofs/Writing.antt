@@ -131,11 +131,19 @@ tokens_more out xs front pw us =
 tokens_last : (out xs front us : List Token) → out ++ ((xs ++ front) ++ us) ≡ (out ++ xs) ++ (front ++ us)
 tokens_last out xs front us = ap (λ (z : List Token). out ++ z) (append_assoc xs front us) ∙ sym (append_assoc out xs (front ++ us))
 
+-- tokens are written, and others are owed, which together are those of what a run comes to
+record WritesRun (ts : List Token) (run : List ℕ) (now later vs ws : List Token) : Type 0 where
+  line : List Token
+  front : List Token
+  later_is : later ≡ now ++ line
+  vs_are : vs ≡ front ++ ws
+  comes : RunComes ts run (line ++ front)
+
 -- the tokens of a frame whose first run comes to an item
-owes_more : {ts : List Token} {f : Frame} {end : ℕ} {before mid : List Frame} {out now later vs : List Token} (front xs ws : List Token) → IsFrame ts f → IsRunEnd ts f.places.items f.next end
-    → LeavesMore f.places.items end before mid out now → later ≡ now ++ xs → vs ≡ front ++ ws → Owes ts (reverse mid) ws
-    → RunComes ts (take (end - f.next) (drop f.next f.places.items)) (xs ++ front) → OwesAfter ts (f ∷ reverse before) out later vs
-owes_more {ts} {f} {end} {before} {out = out} {vs = vs} front xs ws frame r l e ev owes c =
+owes_more : {ts : List Token} {f : Frame} {end : ℕ} {before mid : List Frame} {out now later vs : List Token} (ws : List Token) → IsFrame ts f → IsRunEnd ts f.places.items f.next end
+    → LeavesMore f.places.items end before mid out now → Owes ts (reverse mid) ws → WritesRun ts (take (end - f.next) (drop f.next f.places.items)) now later vs ws
+    → OwesAfter ts (f ∷ reverse before) out later vs
+owes_more {ts} {f} {end} {before} {out = out} ws frame r l owes w =
     let g : Owes ts (l.frame ∷ reverse before) ws = subst (λ (z : List Frame). Owes ts z ws) (ap reverse l.frames_are ∙ reverse_push before l.frame) owes in
     let left_is : left l.frame ≡ drop end f.places.items = (λ i. drop (l.next_is i) (l.places_are i)) in
     let rest : ComesTo ts (drop end f.places.items) g.0 = subst (λ (z : List ℕ). ComesTo ts z g.0) left_is g.2 in
@@ -143,36 +151,36 @@ owes_more {ts} {f} {end} {before} {out = out} {vs = vs} front xs ws frame r l e 
     let later_is : get_or (drop end f.places.items) 0 0 ≡ get_or f.places.items end 0 = get_or-drop end f.places.items 0 0 ∙ ap (λ (z : ℕ). get_or f.places.items z 0) e0 in
     let less : step_cmp (step_at ts (get_or (take (end - f.next) (drop f.next f.places.items)) 0 0)) (step_at ts (get_or (drop end f.places.items) 0 0)) ≡ Less =
     (λ i. step_cmp (step_at ts (run_first f.places.items f.next end r.some i)) (step_at ts (later_is i))) ∙ next_later ts f.places.items f.next end r frame.sorted l.more in
-    let joined = comes_more g.0 (run_facts r frame.items).some c rest less in
+    let joined = comes_more g.0 (run_facts r frame.items).some w.comes rest less in
     let less_or = r.some in
     let split = run_split f.places.items f.next end (omega arith) in
     record {
-      owed = pre (more c.item g.0) ++ g.1;
-      owes = (more c.item g.0, g.1, subst (λ (z : List ℕ). ComesTo ts z (more c.item g.0)) split joined, refl, g.4);
-      same = ap (λ (z : List Token). out ++ (token.Fork ∷ ((z ++ pre g.0) ++ g.1))) c.are ∙ tokens_more out xs front (pre g.0) g.1
-          ∙ (λ i. ((sym l.written i) ++ xs) ++ (front ++ sym g.3 i))
-          ∙ (λ i. sym e i ++ sym ev i);
+      owed = pre (more w.comes.item g.0) ++ g.1;
+      owes = (more w.comes.item g.0, g.1, subst (λ (z : List ℕ). ComesTo ts z (more w.comes.item g.0)) split joined, refl, g.4);
+      same = ap (λ (z : List Token). out ++ (token.Fork ∷ ((z ++ pre g.0) ++ g.1))) w.comes.are ∙ tokens_more out w.line w.front (pre g.0) g.1
+          ∙ (λ i. ((sym l.written i) ++ w.line) ++ (w.front ++ sym g.3 i))
+          ∙ (λ i. sym w.later_is i ++ sym w.vs_are i);
     }
 
-owes_last : {ts : List Token} {f : Frame} {end : ℕ} {before mid : List Frame} {out now later vs : List Token} (front xs ws : List Token) → IsRunEnd ts f.places.items f.next end
-    → LeavesNone f.places.items end before mid out now → later ≡ now ++ xs → vs ≡ front ++ ws → Owes ts (reverse mid) ws
-    → RunComes ts (take (end - f.next) (drop f.next f.places.items)) (xs ++ front) → OwesAfter ts (f ∷ reverse before) out later vs
-owes_last {ts} {f} {end} {before} {out = out} {vs = vs} front xs ws r l e ev owes c =
+owes_last : {ts : List Token} {f : Frame} {end : ℕ} {before mid : List Frame} {out now later vs : List Token} (ws : List Token) → IsRunEnd ts f.places.items f.next end
+    → LeavesNone f.places.items end before mid out now → Owes ts (reverse mid) ws → WritesRun ts (take (end - f.next) (drop f.next f.places.items)) now later vs ws
+    → OwesAfter ts (f ∷ reverse before) out later vs
+owes_last {ts} {f} {end} {before} {out = out} {vs = vs} ws r l owes w =
     let less_or = r.some in
     let all : take (end - f.next) (drop f.next f.places.items) ≡ drop f.next f.places.items =
     sym (append-nil (take (end - f.next) (drop f.next f.places.items)))
     ∙ ap (λ (z : List ℕ). take (end - f.next) (drop f.next f.places.items) ++ z) (sym (drop_all end f.places.items l.none))
     ∙ run_split f.places.items f.next end (omega arith) in
     record {
-      owed = pre_item c.item ++ ws;
+      owed = pre_item w.comes.item ++ ws;
       owes = (
-        last c.item,
+        last w.comes.item,
         ws,
-        subst (λ (z : List ℕ). ComesTo ts z (last c.item)) all (comes_last c),
+        subst (λ (z : List ℕ). ComesTo ts z (last w.comes.item)) all (comes_last w.comes),
         refl,
         subst (λ (z : List Frame). Owes ts (reverse z) ws) l.frames_are owes,
       );
-      same = ap (λ (z : List Token). out ++ (z ++ ws)) c.are ∙ tokens_last out xs front ws ∙ (λ i. ((sym l.written i) ++ xs) ++ sym ev i) ∙ (λ i. sym e i ++ vs);
+      same = ap (λ (z : List Token). out ++ (z ++ ws)) w.comes.are ∙ tokens_last out w.line w.front ws ∙ (λ i. ((sym l.written i) ++ w.line) ++ sym w.vs_are i) ∙ (λ i. sym w.later_is i ++ vs);
     }
 
 -- ---- frames
@@ -223,12 +231,17 @@ owed_opened es (inr n) = let same = ap (owed es) n.1 in omega arith
 
 -- ---- one item is written
 
+-- the run at which a frame begins, the steps that follow alike, and what stands behind
+pub record Advances (ts : List Token) (es : List ℕ) (f : Frame) (end d : ℕ) (behind : List ℕ) : Type 0 where
+  pub is_end : IsRunEnd ts f.places.items f.next end
+  pub chain : IsChain ts (take (end - f.next) (drop f.next f.places.items)) d
+  pub are_behind : AreBehind ts es (shifted d (take (end - f.next) (drop f.next f.places.items))) behind
+
 pub writes : {ts : List Token} {es : List ℕ} {f : Frame} {end d : ℕ} {behind : List ℕ} {before mid after : List Frame} {out now later : List Token}
-    → AllByRecursion IsToken ts → AreEnds ts es → IsFrame ts f → IsRunEnd ts f.places.items f.next end → IsChain ts (take (end - f.next) (drop f.next f.places.items)) d
-    → AreBehind ts es (shifted d (take (end - f.next) (drop f.next f.places.items))) behind → Leaves f.places.items end before mid out now
+    → AllByRecursion IsToken ts → AreEnds ts es → IsFrame ts f → Advances ts es f end d behind → Leaves f.places.items end before mid out now
     → later ≡ now ++ take (suc d) (drop (get_or f.places.items f.next 0) ts) → OpensSome ts behind mid after → Writes ts es f before after out later
-writes {ts} {es} {f} {end} {d} {behind} {before} {mid} {after} {out} {now} {later} limits ends frame r chain b l e o = record {
-  frames = λ all. frames_opened o b.covers.items (frames_left frame r l all);
+writes {ts} {es} {f} {end} {d} {behind} {before} {mid} {after} {out} {now} {later} limits ends frame a l e o = record {
+  frames = λ all. frames_opened o a.are_behind.covers.items (frames_left frame a.is_end l all);
   owes = owes;
   fewer = fewer;
 }
@@ -236,23 +249,30 @@ writes {ts} {es} {f} {end} {d} {behind} {before} {mid} {after} {out} {now} {late
     owes : (vs : List Token) → Owes ts (reverse after) vs → OwesAfter ts (f ∷ reverse before) out later vs
     owes vs given =
         let g = opened vs o given in
-        let c = subst (λ (z : ℕ). RunComes ts (take (end - f.next) (drop f.next f.places.items)) (take (suc d) (drop z ts) ++ g.front)) (run_first f.places.items f.next end r.some)
-        (chain_comes d (take (end - f.next) (drop f.next f.places.items)) limits ends (run_facts r frame.items) chain b g.made) in
+        let run = take (end - f.next) (drop f.next f.places.items) in
+        let w : WritesRun ts run now later vs g.rest = record {
+          line = take (suc d) (drop (get_or f.places.items f.next 0) ts);
+          front = g.front;
+          later_is = e;
+          vs_are = g.are;
+          comes = subst (λ (z : ℕ). RunComes ts run (take (suc d) (drop z ts) ++ g.front)) (run_first f.places.items f.next end a.is_end.some)
+              (chain_comes d run limits ends (run_facts a.is_end frame.items) a.chain a.are_behind g.made);
+        } in
         elim l [
-          | inl m ↦ owes_more g.front (take (suc d) (drop (get_or f.places.items f.next 0) ts)) g.rest frame r m e g.are g.owes c
-          | inr n ↦ owes_last g.front (take (suc d) (drop (get_or f.places.items f.next 0) ts)) g.rest r n e g.are g.owes c
+          | inl m ↦ owes_more g.rest frame a.is_end m g.owes w
+          | inr n ↦ owes_last g.rest a.is_end n g.owes w
         ]
 
     fewer : owed es after < owed es before + total es (left f)
     fewer =
         let one = owed_left es l in
         let two = owed_opened es o in
-        let facts = run_facts r frame.items in
+        let facts = run_facts a.is_end frame.items in
         let some = facts.some in
-        let few = b.few in
-        let steps = chain_few d (take (end - f.next) (drop f.next f.places.items)) ends facts chain in
+        let few = a.are_behind.few in
+        let steps = chain_few d (take (end - f.next) (drop f.next f.places.items)) ends facts a.chain in
         let len = length-map (take (end - f.next) (drop f.next f.places.items)) (λ (k : ℕ). k + d) in
-        let less_or = r.some in
+        let less_or = a.is_end.some in
         let split = sym (sum_by-append (size es) (take (end - f.next) (drop f.next f.places.items)) (drop end f.places.items)) ∙ ap (total es) (run_split f.places.items f.next end (omega arith)) in
         omega arith
 

@@ -1,5 +1,5 @@
 use Rattle.std.proofs.Common.{arith, sym, ◌∙◌}
-use Rattle.ots_canon.proofs.Orders.{equal_of, same_step}
+use Rattle.ots_canon.proofs.Orders.{same_by}
 use Rattle.ots_canon.proofs.Chains.{further}
 use Rattle.ots_canon.proofs.merging.steps_alike.Goals as goal
 
@@ -9,7 +9,7 @@ loop-steps-preserved c =
     let more = c.loop-steps.invariant.more in
     record {
       alike = further (sym c.is_op.ensures ∙ c.if-is_op.true) (sym c.is_op-then-is_op.ensures ∙ c.if-is_op-2.true)
-          (same_step _ _ (sym c.compare.ensures ∙ equal_of c.compare.result (sym c.is_eq.ensures ∙ c.if-is_eq.true))) c.loop-steps.invariant.alike;
+          (same_by c.compare.ensures c.is_eq.ensures c.if-is_eq.true) c.loop-steps.invariant.alike;
       more = omega arith;
       few = omega arith;
     }

@@ -58,6 +58,7 @@ returns c =
     let n : c.index-first.result.now + c.common_steps-steps.result + 1 - c.index-first.result.now ≡ suc c.common_steps-steps.result = omega arith in
     on_ok c.open_some.result _ _
     (λ o. writes
-    c.requires.limits c.requires.ends c.requires.frame run (rw c.deref-2.ensures.value at c.common_steps-steps.ensures) (rw c.deref-3.ensures.value at c.in_ok-behind.ensures) c.in_ok-leave.ensures
+    c.requires.limits c.requires.ends c.requires.frame
+    (record { is_end = run; chain = rw c.deref-2.ensures.value at c.common_steps-steps.ensures; are_behind = rw c.deref-3.ensures.value at c.in_ok-behind.ensures }) c.in_ok-leave.ensures
     (rw (n, e) at c.in_ok-write_line.ensures) o)
     c.open_some.ensures
