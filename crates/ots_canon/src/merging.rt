@@ -262,7 +262,7 @@ pub(crate) fn items_behind(
     requires items { All (IsItem tokens.now) (shifted steps run.now) }
     ensures { IfOk result (λ behind. AreBehind tokens.now ends.now (shifted steps run.now) behind.items) }
 {
-    let mut behind = Vec::with_capacity(alloc, run.len())?;
+    let mut behind = Vec::new(alloc);
     for place in run {
         gather_behind(tokens, ends, *place + steps, &mut behind)?;
     }
