@@ -1,0 +1,10 @@
+//! What feeding a piece answers.
+
+/// What has come of a tree with a piece.
+#[derive(Clone, Copy, Debug, PartialEq, Eq)]
+pub enum Fed {
+    /// The tree goes on behind the piece.
+    More,
+    /// The tree is whole, and so many bytes of the piece belong to it.
+    Done(usize),
+}
