@@ -65,6 +65,24 @@ fn each_call_of_the_shelf_fails(rt: HostRuntime) -> Result<(), Fail> {
 }
 
 #[test]
+fn each_call_of_the_shelf_fails_under_migrate(rt: HostRuntime) -> Result<(), Fail> {
+    let old = bytes_of(rt.alloc(), OLD)?;
+    for call in 1..4 {
+        let failing = [call];
+        let mut on = On::new(&[], &old, &[]);
+        on.shelf = &failing;
+        let ended = run_on(&rt, &MIGRATE, &on)?;
+        assert!(rt; ends(&ended, 6, "read fault d\n"));
+        assert!(rt; ended.disk.calls().is_empty());
+    }
+    let failing = [4];
+    let mut on = On::new(&[], &old, &[]);
+    on.shelf = &failing;
+    assert!(rt; ends(&run_on(&rt, &MIGRATE, &on)?, 0, "migrated 3\n"));
+    Ok(())
+}
+
+#[test]
 fn the_nonces_fail(rt: HostRuntime) -> Result<(), Fail> {
     let mut on = On::new(&[], DIGEST.as_bytes(), NONCE);
     on.draws = &[1];

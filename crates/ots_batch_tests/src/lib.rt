@@ -9,6 +9,8 @@ mod bytes;
 #[cfg(test)]
 mod failing;
 #[cfg(test)]
+mod large;
+#[cfg(test)]
 mod migrations;
 #[cfg(test)]
 mod runs;

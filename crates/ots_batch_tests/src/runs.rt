@@ -30,7 +30,8 @@ pub const BATCH: [&str; 7] = [
 pub const MIGRATE: [&str; 3] = ["j", "migrate", "d"];
 
 /// What a run is done on: the journal's bytes, the files `k` and `d`, the nonces, the second, and
-/// which calls of the disk, of the shelf, of the nonces and of the sink fail.
+/// which calls of the disk, of the shelf, of the nonces and of the sink fail; also how many bytes the
+/// shelf and the sink have room for.
 #[derive(Clone, Copy)]
 pub struct On<'a> {
     pub journal: &'a [u8],
@@ -42,6 +43,8 @@ pub struct On<'a> {
     pub shelf: &'a [u64],
     pub draws: &'a [u64],
     pub sink: &'a [u64],
+    pub read: usize,
+    pub printed: usize,
 }
 
 impl<'a> On<'a> {
@@ -57,6 +60,8 @@ impl<'a> On<'a> {
             shelf: &[],
             draws: &[],
             sink: &[],
+            read: 1000,
+            printed: 20_000,
         }
     }
 
@@ -72,6 +77,8 @@ impl<'a> On<'a> {
             shelf: &[],
             draws: &[],
             sink: &[],
+            read: 1000,
+            printed: 20_000,
         }
     }
 }
@@ -106,13 +113,13 @@ pub fn run_on(
     let room = ShelfRoom {
         names: 3,
         name_length: 1,
-        bytes: 1000,
+        bytes: on.read,
         slots: 2,
     };
     let mut shelf = MapShelf::new(alloc, room, on.shelf)?;
     shelf.put("k", on.key)?;
     shelf.put("d", on.file)?;
-    let mut out = BytesSink::new(alloc, 20_000, on.sink)?;
+    let mut out = BytesSink::new(alloc, on.printed, on.sink)?;
     let links: VecDeque<BytesLink> = VecDeque::new(alloc);
     let (status, returned) = run_calendar(
         rt,

@@ -4,6 +4,7 @@ mod Closing
 mod AnchoringIn
 mod Anchored
 mod Asked
+mod Bodies
 mod Branches
 mod Climbing
 mod Keeping

@@ -196,7 +196,7 @@ complete_few commits i prefix suffix branch few short =
       climb_long branch,
     )
 
-taken_few : {A : Type 0} (n : ℕ) (l : List A) → length (take n l) ≤ length l
+pub taken_few : {A : Type 0} (n : ℕ) (l : List A) → length (take n l) ≤ length l
 taken_few zero l = omega arith
 taken_few (suc n) [] = omega arith
 taken_few (suc n) (x ∷ l) = omega (arith, taken_few n l)

@@ -24,6 +24,10 @@ ghost use Rattle.ots_tickets.specs.Calls.{Takes, Withdraws};
 ghost use Rattle.ots_tickets.specs.Tickets.{IsNew, TicketsTold, settles};
 ghost use Rattle.ots_tickets.specs.declared.settled.Settled.{Settled};
 ghost use Rattle.ots_tickets.specs.declared.tickets.Taken.{Taken};
+ghost use Rattle.ots_attest.specs.Uri.{IsUri};
+ghost use Rattle.ots_attest.specs.declared.attestation.Attestation.TheVariants as attested;
+ghost use Rattle.ots_tree.specs.Made.{lone};
+ghost use Rattle.ots_tree.specs.Wire.{pre, spelled};
 ghost use Rattle.ots_tree.specs.declared.token.Token.{Token};
 ghost use Rattle.ots_calendar.specs.Answer.{answer, answer_at, way_in};
 ghost use Rattle.ots_calendar.specs.Values.{AreTrue};
@@ -58,6 +62,18 @@ pub fn cycle()
 {
     path_leads_to_root();
 }
+
+/// What a calendar answers is spelled in less than 10,000 bytes, the most that a client takes of a
+/// reply: the tree of a ticket whose round is closed, which ends in a pending attestation, and that
+/// of a commitment, by the first anchor that covers it.
+pub fn trees_are_short()
+    ensures ticket { (key : List ℕ) (second : ℕ) (tickets : List Ticket) (i : ℕ) (ticket : Ticket) (uri : List ℕ)
+        → length tickets ≤ 2 ^ 16 → length ticket.nonce ≡ 16 → IsUri uri
+        → length (spelled (pre (lone (round_way key second tickets i ticket) (attested.Pending uri)))) < 10000 }
+    ensures answer { (entries : List Entry) (c : List ℕ) (tree : List Token)
+        → InRecords entries → length (commits_of (records_of entries)) ≤ 2 ^ 32
+        → answer (records_of entries) c ≡ Complete tree → length (spelled tree) < 10000 }
+{}
 
 /// A call that may write leaves the journal's limit, and its entries begin with those before.
 pub fn calls_grow<D: Disk>()

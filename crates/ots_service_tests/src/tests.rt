@@ -6,6 +6,7 @@ use std::alloc::Global;
 use std::process::Abort;
 use std::sync::Wait;
 use std::test::Fail;
+use std::thread::Threads;
 
 // The tree of the digest of 32 bytes 1, alone in its round.
 const ALONE: &str =
@@ -278,4 +279,24 @@ fn eight_callers_are_all_stamped(rt: HostRuntime) -> Result<(), Fail> {
     assert_eq!(rt; (ends.stamped, ends.waiting), (8, 0));
     assert!(rt; ends.commits >= 1 && ends.commits <= 8);
     Ok(())
+}
+
+/// Eight callers over a new book are all stamped: whether fewer commitments were stored, so that the
+/// round of one was closed by another.
+fn is_shared<R: Threads + Wait + Sync + Abort>(rt: &R, alloc: Global) -> Result<bool, Fail> {
+    let book = new_book(alloc, AMPLE, 0)?;
+    let ends = all_are_stamped(rt, alloc, book, &service(alloc)?, &ask_digest(alloc)?);
+    let ends = ends.ok_or("not shared")?;
+    assert_eq!(rt; (ends.stamped, ends.waiting), (8, 0));
+    Ok(ends.commits < 8)
+}
+
+#[test]
+fn a_round_that_another_caller_closed_is_given(rt: HostRuntime) -> Result<(), Fail> {
+    for _ in 0..10_000 {
+        if is_shared(&rt, rt.alloc())? {
+            return Ok(());
+        }
+    }
+    Err(Fail::from("each caller closed its own round"))
 }
