@@ -22,11 +22,7 @@ fn batch(
 ) -> Result<Ended, Fail> {
     let file = lines(rt.alloc(), count)?;
     let nonces = vec![in rt.alloc(); 0; count * 16]?;
-    let mut on = On::new(&[], &file, &nonces);
-    on.sink = sink;
-    on.read = 200_000;
-    on.printed = 100_000_000;
-    run_on(rt, &BATCH, &on)
+    run_on(rt, &BATCH, &On::long(&file, &nonces, sink))
 }
 
 // How many lines were printed.
@@ -51,8 +47,7 @@ fn a_full_batch_is_one_commitment(rt: HostRuntime) -> Result<(), Fail> {
 #[test]
 fn one_line_more_is_refused(rt: HostRuntime) -> Result<(), Fail> {
     let file = lines(rt.alloc(), 65_537)?;
-    let mut on = On::new(&[], &file, &[]);
-    on.read = 200_000;
+    let on = On::long(&file, &[], &[]);
     assert!(rt; refuses(&rt, &BATCH, &on, 31, "bad digests line 65537\n")?);
     Ok(())
 }

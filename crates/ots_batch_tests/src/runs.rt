@@ -65,6 +65,23 @@ impl<'a> On<'a> {
         }
     }
 
+    /// A batch over a long file, with room for all trees, where these calls of the sink fail.
+    pub fn long(file: &'a [u8], nonces: &'a [u8], sink: &'a [u64]) -> On<'a> {
+        On {
+            journal: &[],
+            key: &[b'k'; 64],
+            file,
+            nonces,
+            second: 1_700_000_000,
+            disk: &[],
+            shelf: &[],
+            draws: &[],
+            sink,
+            read: 200_000,
+            printed: 100_000_000,
+        }
+    }
+
     /// A migration of this file, where these calls of the disk fail.
     pub fn migrating(journal: &'a [u8], file: &'a [u8], disk: &'a [u64]) -> On<'a> {
         On {
