@@ -21,7 +21,7 @@ fn batch(
     sink: &[u64],
 ) -> Result<Ended, Fail> {
     let file = lines(rt.alloc(), count)?;
-    let nonces = vec![in rt.alloc(); 0; count * 16]?;
+    let nonces = vec![in rt.alloc(); 0; count.saturating_mul(16)]?;
     run_on(rt, &BATCH, &On::long(&file, &nonces, sink))
 }
 
