@@ -8,11 +8,11 @@ work=$(mktemp -d)
 trap 'rm -rf "$work"' EXIT
 crate="$work/crates/tree_pieces"
 mkdir -p "$crate/src" "$crate/specs" "$crate/proofs/fed_by"
-for name in ots_base ots_outside ots_varint ots_ripemd ots_ops ots_attest ots_tree ots_reader ots_feed; do
+for name in ots_base ots_outside ots_varint ots_ripemd ots_ops ots_attest ots_tree ots_reader; do
     cp -r "$here/../crates/$name" "$work/crates/$name"
     grep "^$name:" "$here/../crates.txt" >> "$work/crates.txt"
 done
-echo 'tree_pieces: ots_feed ots_reader ots_tree anyhow' >> "$work/crates.txt"
+echo 'tree_pieces: ots_reader ots_tree anyhow' >> "$work/crates.txt"
 cp "$here/tree_pieces/main.rt.in" "$crate/src/main.rt"
 : > "$crate/specs/Lib.antt"
 echo 'pub mod Came' > "$crate/proofs/Lib.antt"

@@ -1,6 +1,6 @@
 -- Bytes that are a URI's.
 use Rattle.std.proofs.Common.{◌≡◌, ℕ, zero, suc, ◌+◌, ◌-◌, ◌<◌, ◌≤◌, Bool, true, false, cond, ltb, List, [], ◌∷◌, ◌++◌, length, take, drop, Option, Some, None, refl, sym, ap, ◌∙◌, arith, lit<, length-drop}
-use Rattle.std.specs.Prelude.{IsTrue, not, ◌&&◌, Result, Ok, Err, is_err}
+use Rattle.std.specs.Prelude.{IsTrue, not, ◌&&◌, Result, Err, is_err}
 use Rattle.std.specs.List.{AllByRecursion, list_all, position_from}
 use Rattle.std.specs.Str.{IsAscii, IsUtf8}
 use Rattle.std.proofs.lemmas.Str.{IsUtf8-from_ascii}
@@ -13,7 +13,7 @@ use Rattle.ots_varint.proofs.Behind.{behind, same_slice}
 use Rattle.ots_attest.specs.Uri.{is_uri_byte, IsUri}
 use Rattle.ots_attest.specs.declared.uri.UriError.{UriError}
 use Rattle.ots_attest.specs.declared.uri.UriError.TheVariants.{TooLong}
-use Rattle.ots_attest.specs.NewUri.{first_bad, unless_bad, where_uri, uri_check, new_uri}
+use Rattle.ots_attest.specs.NewUri.{first_bad, unless_bad, where_uri, uri_check}
 
 -- ---- good and bad bytes
 
@@ -61,18 +61,19 @@ each_passes f (x ∷ xs) h = let b = both (f x) (list_all f xs) h in (b.0, each_
     both true y h = (refl, h)
     both false y h = absurd cc
 
+-- few bytes, all of them good, are a URI
+pub is_uri : (bytes : List ℕ) → length bytes ≤ 1000 → list_all is_uri_byte bytes ≡ true → IsUri bytes
+is_uri bytes few good = record { greatest = few; each = each_passes is_uri_byte bytes good }
+
 pub passed : {A : Type 0} (bytes : List ℕ) (v : A) → is_err (where_uri bytes v) ≡ false → IsUri bytes × (list_all is_uri_byte bytes ≡ true)
 passed bytes v e =
     let ok = passed_by (ltb 1000 (length bytes)) (first_bad bytes) (TooLong (length bytes)) v e in
     let good = all_good 0 bytes ok.1 in
-    (record { greatest = ltb-false 1000 (length bytes) ok.0; each = each_passes is_uri_byte bytes good }, good)
+    (is_uri bytes (ltb-false 1000 (length bytes) ok.0) good, good)
 
 -- of bytes that are those of a text
 pub tested : (text bytes : List ℕ) (r : Result (Unit {0}) UriError) → bytes ≡ text → r ≡ uri_check bytes → is_err r ≡ false → IsUri text × (list_all is_uri_byte text ≡ true)
 tested text bytes r same is e = passed text tt (sym (ap is_err (is ∙ ap uri_check same)) ∙ e)
-
-pub tested_bad : (text bytes : List ℕ) (r : Result (Unit {0}) UriError) → bytes ≡ text → length text ≤ 1000 → r ≡ uri_check bytes → is_err r ≡ true → list_all is_uri_byte text ≡ false
-tested_bad text bytes r same few is e = refused text tt few (sym (ap is_err (is ∙ ap uri_check same)) ∙ e)
 
 -- ---- a URI is text
 
@@ -98,10 +99,8 @@ whole n used p at room end =
 
 -- and it is one where it is short and its bytes are good
 pub uri_of_text : (n used : ℕ) (p : List ℕ) → used + n ≤ length p → n ≤ 1000 → list_all is_uri_byte (take n (drop used p)) ≡ true → IsUri (take n (drop used p))
-uri_of_text n used p room few good = record {
-  greatest = rw (length-take-le n (drop used p) (omega (arith, length-drop used p))) few;
-  each = each_passes is_uri_byte (take n (drop used p)) good;
-}
+uri_of_text n used p room few good =
+    is_uri (take n (drop used p)) (rw (length-take-le n (drop used p) (omega (arith, length-drop used p))) few) good
 
 -- the bytes of n behind the length, as a slice names them, are at most 1000
 pub text_few : (n used : ℕ) (p text : List ℕ) → text ≡ take (used + n - used) (drop used p) → n ≤ 1000 → length text ≤ 1000
@@ -109,16 +108,3 @@ text_few n used p text is few = omega (arith, ap length (is ∙ same_slice n use
 
 pub text_bytes : (n used : ℕ) (p text : List ℕ) {b : Bool} → text ≡ take (used + n - used) (drop used p) → list_all is_uri_byte text ≡ b → list_all is_uri_byte (take n (drop used p)) ≡ b
 text_bytes n used p text is e = sym (ap (list_all is_uri_byte) (is ∙ same_slice n used p)) ∙ e
-
--- a good text is the URI that is made of it
-where_ok : {A : Type 0} (long : Bool) (bad : Option ℕ) (e : UriError) (v w : A) → long ≡ false → bad ≡ None → Ok w ≡ cond long (Err e) (unless_bad bad v) → w ≡ v
-where_ok false None e v w h k is = cc
-where_ok true bad e v w h k is = absurd cc
-where_ok false (Some place) e v w h k is = absurd cc
-
-none_bad : (i : ℕ) (xs : List ℕ) → AllByRecursion (λ b. IsTrue (is_uri_byte b)) xs → position_from (λ b. not (is_uri_byte b)) i xs ≡ None
-none_bad i [] h = refl
-none_bad i (x ∷ xs) h = rw h.0 (none_bad (i + 1) xs h.1)
-
-pub made : (text uri : List ℕ) → IsUri text → Ok uri ≡ new_uri text → uri ≡ text
-made text uri h e = where_ok (ltb 1000 (length text)) (first_bad text) (TooLong (length text)) text uri (le-ltb 1000 (length text) h.greatest) (none_bad 0 text h.each) e

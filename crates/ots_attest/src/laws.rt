@@ -4,12 +4,14 @@ ghost use Rattle.std.specs.List.{AllByRecursion};
 ghost use Rattle.std.specs.Ordering.{nat_cmp};
 ghost use Rattle.std.specs.Cmp.Lexicographic.{slice_cmp};
 ghost use Rattle.ots_attest.specs.Attestation.{attestation_cmp, key, kind, payload, spell, IsAttestation};
+ghost use Rattle.ots_attest.specs.AttestationRef.{attestation_of};
 ghost use Rattle.ots_attest.specs.PayloadFault.{payload_fault, IsOf};
 ghost use Rattle.ots_attest.specs.declared.payload.PayloadError.{PayloadError};
 ghost use Rattle.ots_attest.specs.declared.payload.PayloadError.TheVariants.{OutOfMemory};
 
 use crate::attestation::Attestation;
-use crate::other::Other;
+use crate::attestation_ref::AttestationRef;
+use crate::other::{Other, are_bytes, copy_kind};
 use ots_base::MAX_PAYLOAD;
 
 /// A spelling determines its attestation and begins no other's. Nor does it begin with an
@@ -25,6 +27,22 @@ pub fn limits_of_attestation(attestation: &Attestation)
     ensures { IsAttestation attestation.now }
 {
     let _ = attestation.spelled_length();
+}
+
+/// So is any attestation whose URI or payload stands elsewhere.
+pub fn limits_of_borrowed_attestation(attestation: AttestationRef<'_>)
+    ensures { IsAttestation (attestation_of attestation.entry) }
+{
+    match attestation {
+        AttestationRef::Pending(uri) => {
+            let _ = uri.text();
+        }
+        AttestationRef::Bitcoin(_) | AttestationRef::Litecoin(_) => {}
+        AttestationRef::Unknown(other) => {
+            let _ = copy_kind(&other.kind);
+            are_bytes(other.payload);
+        }
+    }
 }
 
 /// Kind and payload determine an attestation, whose payload has no fault; and a payload of at most

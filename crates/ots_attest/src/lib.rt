@@ -6,16 +6,25 @@
 #![tactic(auto)]
 
 mod attestation;
+mod attestation_ref;
 mod laws;
 mod order;
 mod other;
+mod other_ref;
 mod payload;
 mod spelling;
 mod uri;
+mod uri_ref;
 
 pub use attestation::Attestation;
-pub use laws::{limits_of_attestation, one_attestation, one_fault, one_key, order_of_attestations};
+pub use attestation_ref::AttestationRef;
+pub use laws::{
+    limits_of_attestation, limits_of_borrowed_attestation, one_attestation, one_fault, one_key,
+    order_of_attestations,
+};
 pub use other::{Other, Payload};
-pub use payload::{PayloadError, from_payload};
+pub use other_ref::OtherRef;
+pub use payload::{PayloadError, from_payload, read_payload};
 pub use spelling::{MAX_SPELLED_ATTESTATION, spell_attestation};
 pub use uri::{Uri, UriError};
+pub use uri_ref::UriRef;

@@ -4,6 +4,7 @@ ghost use Rattle.std.specs.List.{list_all};
 ghost use Rattle.ots_base.specs.Memory.{UnlessOutOfMemory};
 ghost use Rattle.ots_varint.specs.Reading.{reading, IsSpelledAt};
 ghost use Rattle.ots_varint.specs.declared.reading.VaruintRead.TheVariants.{Value};
+ghost use Rattle.ots_attest.specs.AttestationRef.{attestation_of};
 ghost use Rattle.ots_attest.specs.Kind.{IsUnknown};
 ghost use Rattle.ots_attest.specs.Uri.{is_uri_byte};
 ghost use Rattle.ots_attest.specs.PayloadFault.{payload_fault, IsOf};
@@ -11,8 +12,10 @@ ghost use Rattle.ots_attest.specs.PayloadRead.{UriGives, HeightGives, IsFault};
 ghost use Rattle.ots_attest.specs.declared.attestation.Attestation.{Attestation};
 
 use crate::attestation::{Attestation, BITCOIN, LITECOIN, PENDING};
-use crate::other::{Other, Payload, copy_kind};
-use crate::uri::{Uri, UriError};
+use crate::attestation_ref::AttestationRef;
+use crate::other::{are_bytes, copy_kind};
+use crate::other_ref::OtherRef;
+use crate::uri_ref::UriRef;
 use ots_base::{MAX_PAYLOAD, MAX_URI};
 use ots_varint::{VaruintRead, read_varuint};
 use std::alloc::Global;
@@ -53,55 +56,71 @@ pub fn from_payload(
     ensures accepts { (a : Attestation) → IsOf kind payload.now a → UnlessOutOfMemory PayloadError.OutOfMemory result (Ok a) }
     ensures refuses { (e : PayloadError) → payload_fault kind payload.now ≡ Some e → UnlessOutOfMemory PayloadError.OutOfMemory result (Err e) }
 {
-    read_payload(alloc, kind, payload)
+    read_owned(alloc, kind, payload)
 }
 
-/// The attestation of this kind and payload, or what is wrong.
-#[tactic(auto, using(crate::proofs::PayloadOrFault::not_kind), unfolding(crate::specs::PayloadFault::payload_fault))]
-fn read_payload(alloc: Global, kind: [u8; 8], payload: &[u8]) -> Result<Attestation, PayloadError>
+/// The attestation that is read, in memory of its own.
+fn read_owned(alloc: Global, kind: [u8; 8], payload: &[u8]) -> Result<Attestation, PayloadError>
     requires { length payload.now ≤ MAX_PAYLOAD }
     ensures ok { IfOk result (λ a. IsOf kind payload.now a) }
     ensures err { IfErr result (λ e. IsFault (payload_fault kind payload.now) e) }
 {
-    if kind == PENDING {
-        return Ok(Attestation::Pending(read_uri(alloc, payload)?));
-    }
-    if kind == BITCOIN {
-        return Ok(Attestation::Bitcoin(read_height(payload)?));
-    }
-    if kind == LITECOIN {
-        return Ok(Attestation::Litecoin(read_height(payload)?));
-    }
-    read_other(alloc, kind, payload)
-}
-
-/// The attestation of this unknown kind.
-fn read_other(alloc: Global, kind: [u8; 8], payload: &[u8]) -> Result<Attestation, PayloadError>
-    requires unknown { IsUnknown kind }
-    requires few { length payload.now ≤ MAX_PAYLOAD }
-    ensures ok { IfOk result (λ a. IsOf kind payload.now a) }
-    ensures err { IfErr result (λ e. e ≡ PayloadError.OutOfMemory) }
-{
-    let kind = copy_kind(&kind);
-    match Payload::new(alloc, payload) {
-        Ok(payload) => Ok(Attestation::Unknown(Other { kind, payload })),
+    match read_payload(kind, payload)?.to_owned(alloc) {
+        Ok(attestation) => Ok(attestation),
         Err(_) => Err(PayloadError::OutOfMemory),
     }
 }
 
+/// The attestation of this kind and payload, whose URI or payload stands in these bytes, of which
+/// there are at most `MAX_PAYLOAD`, 8192. It takes no memory.
+///
+/// It is answered exactly where there is one, and otherwise the first fault, as by `from_payload`,
+/// but never `OutOfMemory`.
+#[tactic(auto, using(crate::proofs::PayloadOrFault::not_kind), unfolding(crate::specs::PayloadFault::payload_fault))]
+pub fn read_payload<'a>(
+    kind: [u8; 8],
+    payload: &'a [u8],
+) -> Result<AttestationRef<'a>, PayloadError>
+    requires { length payload.now ≤ MAX_PAYLOAD }
+    ensures ok { IfOk result (λ a. IsOf kind payload.now (attestation_of a)) }
+    ensures err { IfErr result (λ e. payload_fault kind payload.now ≡ Some e) }
+{
+    if kind == PENDING {
+        return Ok(AttestationRef::Pending(read_uri(payload)?));
+    }
+    if kind == BITCOIN {
+        return Ok(AttestationRef::Bitcoin(read_height(payload)?));
+    }
+    if kind == LITECOIN {
+        return Ok(AttestationRef::Litecoin(read_height(payload)?));
+    }
+    Ok(read_other(kind, payload))
+}
+
+/// The attestation of this unknown kind.
+fn read_other<'a>(kind: [u8; 8], payload: &'a [u8]) -> AttestationRef<'a>
+    requires unknown { IsUnknown kind }
+    requires few { length payload.now ≤ MAX_PAYLOAD }
+    ensures { IsOf kind payload.now (attestation_of result) }
+{
+    let kind = copy_kind(&kind);
+    are_bytes(payload);
+    AttestationRef::Unknown(OtherRef { kind, payload })
+}
+
 /// The URI behind its length.
-fn read_uri(alloc: Global, payload: &[u8]) -> Result<Uri, PayloadError>
+fn read_uri<'a>(payload: &'a [u8]) -> Result<UriRef<'a>, PayloadError>
     ensures { UriGives payload.now (reading payload.now) result }
 {
     match read_varuint(payload) {
-        VaruintRead::Value(length, used) => uri_behind(alloc, payload, length, used),
+        VaruintRead::Value(length, used) => uri_behind(payload, length, used),
         VaruintRead::Short => Err(PayloadError::PayloadShort),
         VaruintRead::NonMinimal | VaruintRead::TooLarge => Err(PayloadError::PayloadVaruint),
     }
 }
 
 /// The URI of this length, behind the `used` bytes that spell the length.
-fn uri_behind(alloc: Global, payload: &[u8], length: u64, used: usize) -> Result<Uri, PayloadError>
+fn uri_behind<'a>(payload: &'a [u8], length: u64, used: usize) -> Result<UriRef<'a>, PayloadError>
     requires { IsSpelledAt payload.now length used }
     ensures { UriGives payload.now (Value length used) result }
 {
@@ -115,16 +134,13 @@ fn uri_behind(alloc: Global, payload: &[u8], length: u64, used: usize) -> Result
     let Ok(text) = str::from_utf8(&payload[used..end]) else {
         return Err(PayloadError::BadUri);
     };
-    if Uri::check(text.as_bytes()).is_err() {
+    let Ok(uri) = UriRef::new(text) else {
         return Err(PayloadError::BadUri);
-    }
+    };
     if end < payload.len() {
         return Err(PayloadError::PayloadRest);
     }
-    match Uri::new(alloc, text) {
-        Ok(uri) => Ok(uri),
-        Err(_) => Err(PayloadError::OutOfMemory),
-    }
+    Ok(uri)
 }
 
 /// The height, which is the whole payload.

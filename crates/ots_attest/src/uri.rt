@@ -4,6 +4,7 @@ ghost use Rattle.ots_base.specs.Memory.{UnlessOutOfMemory};
 ghost use Rattle.ots_attest.specs.Uri.{is_uri_byte, IsUri};
 ghost use Rattle.ots_attest.specs.NewUri.{first_bad, uri_check, new_uri};
 
+use crate::uri_ref::UriRef;
 use ots_base::{MAX_URI, OutOfMemory};
 use std::alloc::Global;
 use std::marker::Model;
@@ -64,11 +65,18 @@ impl Uri {
         ensures value { UnlessOutOfMemory UriError.OutOfMemory result (new_uri text.now) }
         ensures short { result ≡ Err UriError.OutOfMemory → new_uri text.now ≡ Ok text.now }
     {
-        Uri::check(text.as_bytes())?;
-        match String::from_str(alloc, text) {
-            Ok(text) => Ok(Uri { text }),
+        match UriRef::new(text)?.to_owned(alloc) {
+            Ok(uri) => Ok(uri),
             Err(_) => Err(UriError::OutOfMemory),
         }
+    }
+
+    /// The URI that keeps this text, which is one.
+    pub(crate) fn kept(text: String) -> Uri
+        requires { IsUri (string_bytes text) }
+        ensures { result ≡ string_bytes text }
+    {
+        Uri { text }
     }
 
     /// The text, 0 to 1000 bytes.

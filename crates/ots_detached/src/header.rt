@@ -15,17 +15,19 @@ pub const MAGIC: [u8; 31] = [
     0x00, 0x50, 0x72, 0x6f, 0x6f, 0x66, 0x00, 0xbf, 0x89, 0xe2, 0xe8, 0x84, 0xe8, 0x92, 0x94,
 ];
 
-/// What a proof file is of.
-#[derive(Clone, Copy)]
-pub struct Header {
+/// What stands in a proof file before the tree: what the file is a proof of.
+#[derive(Clone, Copy, Debug)]
+pub struct FileHeader {
     /// The hash of the file.
     pub hash: HashOp,
     /// The digest of the file, 20 or 32 bytes.
     pub digest: Digest,
 }
 
-/// The header of these bytes, or what is wrong with it.
-pub fn read_header(bytes: &[u8]) -> Result<Header, Fault>
+/// The header that a proof file with these bytes begins with, which is 53 or 65 bytes long, or what is
+/// wrong with it: of the magic bytes, the version, the tag of the hash and the digest the first that is
+/// cut or is another.
+pub fn read_header(bytes: &[u8]) -> Result<FileHeader, Fault>
     ensures ok { IfOk result (λ header. IsHeader bytes.now header.hash header.digest) }
     ensures err { IfErr result (λ fault. header_fault bytes.now ≡ Some fault) }
 {
@@ -40,7 +42,7 @@ pub fn read_header(bytes: &[u8]) -> Result<Header, Fault>
         Err(fault) => return Err(fault),
     };
     match read_digest(bytes, hash) {
-        Some(digest) => Ok(Header { hash, digest }),
+        Some(digest) => Ok(FileHeader { hash, digest }),
         None => Err(at(33, Reason::Truncated)),
     }
 }

@@ -11,6 +11,7 @@ mod reading;
 mod writing;
 
 pub use hashing::{HashError, hash_source};
+pub use header::{FileHeader, read_header};
 pub use laws::{fault_or_file, one_fault, one_file, written_file};
 pub use reading::{FileError, read_bytes, read_file};
 pub use writing::{file_length, write_file};

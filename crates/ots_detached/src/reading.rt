@@ -8,7 +8,7 @@ ghost use Rattle.ots_detached.specs.File.{IsFileOf, IsHeader};
 ghost use Rattle.ots_detached.specs.FileFault.{HasFault};
 ghost use Rattle.ots_detached.specs.FileRead.{IsFileError, ReadsFile, moved_error, place_of};
 
-use crate::header::{Header, read_header};
+use crate::header::{FileHeader, read_header};
 use ots_base::MAX_PROOF_FILE;
 use ots_outside::{ReadAllError, Source, read_all};
 use ots_reader::{Fault, ReadError, Reason, read_tree};
@@ -64,7 +64,7 @@ pub fn read_bytes(alloc: Global, bytes: &[u8]) -> Result<Detached, FileError>
 
 /// The proof behind a header.
 #[tactic(auto, using(crate::proofs::Files::error_place))]
-fn read_behind(alloc: Global, bytes: &[u8], header: Header) -> Result<Detached, FileError>
+fn read_behind(alloc: Global, bytes: &[u8], header: FileHeader) -> Result<Detached, FileError>
     requires size { length bytes.now ≤ MAX_PROOF_FILE }
     requires header { IsHeader bytes.now header.hash header.digest }
     ensures ok { IfOk result (IsFileOf bytes.now) }

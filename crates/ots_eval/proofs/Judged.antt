@@ -1,5 +1,5 @@
 -- What a walk finds is the verdict.
-use Rattle.std.proofs.Common.{◌≡◌, ℕ, zero, suc, ◌<◌, ◌≤◌, inl, inr, Bool, true, false, cond, List, [], ◌∷◌, map, length, get_or, Option, Some, None, refl, sym, ap, subst, ◌∙◌, arith}
+use Rattle.std.proofs.Common.{◌≡◌, ℕ, zero, suc, ◌<◌, ◌≤◌, inl, inr, Bool, true, false, cond, List, [], ◌∷◌, ◌++◌, map, length, get_or, Option, Some, None, refl, sym, ap, subst, ◌∙◌, arith}
 use Rattle.std.specs.Prelude.{option_and_then, option_map, bytes_eq, MatchOption}
 use Rattle.std.specs.List.{Contains}
 use Rattle.std.proofs.lemmas.Slice.Eq.{bytes_eq-Decides}
@@ -9,6 +9,7 @@ use Rattle.ots_tree.specs.declared.token.Token.{Token}
 use Rattle.ots_tree.specs.declared.token.Token.TheVariants as token
 use Rattle.ots_tree.specs.declared.detached.Detached.{Detached}
 use Rattle.ots_tree.specs.Wire.{Node, pre, Path, paths}
+use Rattle.ots_tree.specs.Walk.{Met}
 use Rattle.ots_tree.proofs.Determined.{same_pre}
 use Rattle.ots_bitcoin.specs.declared.header.Header.{Header}
 use Rattle.ots_bitcoin.specs.HeaderTable.{Table, header_at, root_at, time_at}
@@ -19,9 +20,9 @@ use Rattle.ots_eval.specs.declared.best.Best.{Best}
 use Rattle.ots_eval.specs.declared.best.Found.{Found}
 use Rattle.ots_ops.specs.Value.{value}
 use Rattle.ots_eval.specs.Confirmed.{attests, Confirms, NoneConfirmed, IsLeastConfirmed, NoneConfirmedIn, IsLeastConfirmedIn, IsVerdict}
-use Rattle.ots_eval.specs.Walked.{Messages, found_in, found_at, lesser, noted, walked, nothing, verdict_of, verdict_of_found, after, reopened}
+use Rattle.ots_eval.specs.Walked.{messages, found_in, found_at, lesser, noted, walked, nothing, verdict_of, verdict_of_found}
 use Rattle.ots_eval.proofs.Least.{SomeEnd, IsLeast, least, least_is}
-use Rattle.ots_eval.proofs.PathValues.{End, ends, end_from, all_ends}
+use Rattle.ots_eval.proofs.PathValues.{End, end_at, ends, end_from, all_ends}
 
 -- ---- what an end gives
 
@@ -69,15 +70,20 @@ noted_both bitcoin litecoin (attestation.Litecoin height) (Some m) b =
 noted_both bitcoin litecoin (attestation.Pending uri) (Some m) b = nothing_added b
 noted_both bitcoin litecoin (attestation.Unknown other) (Some m) b = nothing_added b
 
-walked_least : (bitcoin : Table) (litecoin : Option Table) (xs : List Token) (s : Messages) (b : Best)
-    → walked bitcoin litecoin s b xs
-    ≡ record { bitcoin = least (gives chain.Bitcoin (Some bitcoin)) b.bitcoin (ends s xs); litecoin = least (gives chain.Litecoin litecoin) b.litecoin (ends s xs) }
-walked_least bitcoin litecoin [] s b = refl
-walked_least bitcoin litecoin (token.Fork ∷ xs) s b = walked_least bitcoin litecoin xs (after token.Fork s) b
-walked_least bitcoin litecoin (token.Op o ∷ xs) s b = walked_least bitcoin litecoin xs (after (token.Op o) s) b
-walked_least bitcoin litecoin (token.Attestation a ∷ xs) s b =
-    ap (λ (z : Best). walked bitcoin litecoin (reopened s.1) z xs) (noted_both bitcoin litecoin a s.0 b)
-    ∙ walked_least bitcoin litecoin xs (reopened s.1) (both bitcoin litecoin b (record { message = s.0; attestation = a }))
+abbrev least_of : Table → Option Table → Best → List End → Best
+least_of bitcoin litecoin b es = record { bitcoin = least (gives chain.Bitcoin (Some bitcoin)) b.bitcoin es; litecoin = least (gives chain.Litecoin litecoin) b.litecoin es }
+
+noted_least : (bitcoin : Table) (litecoin : Option Table) (x : Token) (m : Option (List ℕ)) (ms : List (Met (Option (List ℕ)))) (b : Best)
+    → ((c : Best) → walked bitcoin litecoin c ms ≡ least_of bitcoin litecoin c (ends ms))
+    → walked bitcoin litecoin (noted bitcoin litecoin x m b) ms ≡ least_of bitcoin litecoin b (end_at x m ++ ends ms)
+noted_least bitcoin litecoin token.Fork m ms b h = h b
+noted_least bitcoin litecoin (token.Op o) m ms b h = h b
+noted_least bitcoin litecoin (token.Attestation a) m ms b h =
+    ap (λ (z : Best). walked bitcoin litecoin z ms) (noted_both bitcoin litecoin a m b) ∙ h (both bitcoin litecoin b (record { message = m; attestation = a }))
+
+walked_least : (bitcoin : Table) (litecoin : Option Table) (ms : List (Met (Option (List ℕ)))) (b : Best) → walked bitcoin litecoin b ms ≡ least_of bitcoin litecoin b (ends ms)
+walked_least bitcoin litecoin [] b = refl
+walked_least bitcoin litecoin (m ∷ ms) b = noted_least bitcoin litecoin m.token m.carried ms b (λ c. walked_least bitcoin litecoin ms c)
 
 -- ---- an end gives a height exactly where its path confirms it
 
@@ -236,24 +242,22 @@ verdict_is proof bitcoin litecoin None (Some g) h k = (refl, h, k)
 verdict_is proof bitcoin litecoin None None h k = (refl, h, k)
 
 pub walk_verdict : (proof : Detached) (bitcoin : Table) (litecoin : Option Table) (t : Node) → pre t ≡ proof.tree
-    → IsVerdict proof proof.digest bitcoin litecoin (verdict_of (walked bitcoin litecoin (Some proof.digest, []) nothing proof.tree))
+    → IsVerdict proof proof.digest bitcoin litecoin (verdict_of (walked bitcoin litecoin nothing (messages proof.digest proof.tree)))
 walk_verdict proof bitcoin litecoin t is =
-    let found_ends : ends (Some proof.digest, []) proof.tree ≡ map (end_from (Some proof.digest)) (paths t) =
-    ap (ends (Some proof.digest, [])) (sym is) ∙ all_ends t (Some proof.digest) in
+    let found_ends : ends (messages proof.digest proof.tree) ≡ map (end_from (Some proof.digest)) (paths t) =
+    ap (λ (z : List Token). ends (messages proof.digest z)) (sym is) ∙ all_ends t proof.digest in
     let es = map (end_from (Some proof.digest)) (paths t) in
-    let b = least (gives chain.Bitcoin (Some bitcoin)) None es in
-    let l = least (gives chain.Litecoin litecoin) None es in
-    let best : walked bitcoin litecoin (Some proof.digest, []) nothing proof.tree ≡ record { bitcoin = b; litecoin = l } =
-    walked_least bitcoin litecoin proof.tree (Some proof.digest, []) nothing
-    ∙ ap (λ (z : List End). let r : Best = record { bitcoin = least (gives chain.Bitcoin (Some bitcoin)) None z; litecoin = least (gives chain.Litecoin litecoin) None z } in r) found_ends in
+    let best : walked bitcoin litecoin nothing (messages proof.digest proof.tree) ≡ least_of bitcoin litecoin nothing es =
+    walked_least bitcoin litecoin (messages proof.digest proof.tree) nothing ∙ ap (least_of bitcoin litecoin nothing) found_ends in
+    let found = least_of bitcoin litecoin nothing es in
     subst (λ (z : Best). IsVerdict proof proof.digest bitcoin litecoin (verdict_of z)) (sym best)
-    (verdict_is proof bitcoin litecoin b l
-    (outcome chain.Bitcoin bitcoin proof t is b (least_is (gives chain.Bitcoin (Some bitcoin)) es))
-    (outcome_in chain.Litecoin litecoin proof t is l (least_is (gives chain.Litecoin litecoin) es)))
+    (verdict_is proof bitcoin litecoin found.bitcoin found.litecoin
+    (outcome chain.Bitcoin bitcoin proof t is found.bitcoin (least_is (gives chain.Bitcoin (Some bitcoin)) es))
+    (outcome_in chain.Litecoin litecoin proof t is found.litecoin (least_is (gives chain.Litecoin litecoin) es)))
 
 -- the same of a verdict and a target that were found otherwise
 pub verdict_found : (proof : Detached) (target : List ℕ) (bitcoin : Table) (litecoin : Option Table) (best : Best) (v : Verdict) (t : Node) → pre t ≡ proof.tree
-    → target ≡ proof.digest → best ≡ walked bitcoin litecoin (Some proof.digest, []) nothing proof.tree → v ≡ verdict_of best
+    → target ≡ proof.digest → best ≡ walked bitcoin litecoin nothing (messages proof.digest proof.tree) → v ≡ verdict_of best
     → IsVerdict proof target bitcoin litecoin v
 verdict_found proof target bitcoin litecoin best v t is same found_best found_verdict =
     subst (λ (z : List ℕ). IsVerdict proof z bitcoin litecoin v) (sym same)

@@ -2,3 +2,4 @@ pub mod Judged
 pub mod Least
 pub mod OneVerdict
 pub mod PathValues
+pub mod Messages

@@ -1,5 +1,5 @@
 -- A proof has exactly one verdict.
-use Rattle.std.proofs.Common.{◌≡◌, ℕ, Bool, true, false, List, [], Option, Some, None, refl, sym, ap, subst, ◌∙◌, arith}
+use Rattle.std.proofs.Common.{◌≡◌, ℕ, Bool, true, false, List, Option, Some, None, refl, sym, ap, subst, ◌∙◌, arith}
 use Rattle.std.specs.Prelude.{bytes_eq}
 use Rattle.std.proofs.lemmas.Slice.Eq.{bytes_eq-Decides}
 use Rattle.ots_tree.specs.declared.detached.Detached.{Detached}
@@ -10,7 +10,7 @@ use Rattle.ots_eval.specs.declared.verdicts.Chain.TheVariants as chain
 use Rattle.ots_eval.specs.declared.verdicts.Verdict.{Verdict}
 use Rattle.ots_eval.specs.declared.verdicts.Verdict.TheVariants.{Yes, NoDigest, NoPath}
 use Rattle.ots_eval.specs.Confirmed.{IsLeastConfirmed, NoneConfirmedIn, IsLeastConfirmedIn, IsVerdict}
-use Rattle.ots_eval.specs.Walked.{walked, nothing, verdict_of}
+use Rattle.ots_eval.specs.Walked.{walked, nothing, messages, verdict_of}
 use Rattle.ots_eval.proofs.Judged.{walk_verdict}
 
 record Same (h k x y : ℕ) : Type 0 where
@@ -63,7 +63,7 @@ Some-verdict proof target bitcoin litecoin = (v : Verdict) × IsVerdict proof ta
 by_test : (c : Bool) (proof : Detached) (target : List ℕ) (bitcoin : Table) (litecoin : Option Table) → IsPre proof.tree
     → (c ≡ true → target ≡ proof.digest) → (target ≡ proof.digest → c ≡ true) → Some-verdict proof target bitcoin litecoin
 by_test true proof target bitcoin litecoin tree same test =
-    let v = verdict_of (walked bitcoin litecoin (Some proof.digest, []) nothing proof.tree) in
+    let v = verdict_of (walked bitcoin litecoin nothing (messages proof.digest proof.tree)) in
     let h = walk_verdict proof bitcoin litecoin tree.0 tree.1 in
     (v, subst (λ (z : List ℕ). IsVerdict proof z bitcoin litecoin v) (sym (same refl)) h)
 by_test false proof target bitcoin litecoin tree same test = (NoDigest, λ e. let c = test e in absurd cc)

@@ -12,6 +12,7 @@ use Rattle.ots_eval.specs.declared.verdicts.Chain.{Chain}
 use Rattle.ots_eval.specs.declared.verdicts.Chain.TheVariants as chain
 use Rattle.ots_eval.specs.declared.verdicts.Verdict.{Verdict}
 use Rattle.ots_eval.specs.declared.verdicts.Verdict.TheVariants.{Yes, NoDigest, NoPath}
+use Rattle.ots_eval.specs.declared.verdicts.Confirmation.{Confirmation}
 use Rattle.ots_ops.specs.Value.{value}
 
 -- the attestation that names a block of this chain
@@ -63,3 +64,12 @@ IsVerdict proof target bitcoin litecoin (Yes chain.Litecoin height time) =
 IsVerdict proof target bitcoin litecoin NoDigest = target ≢ proof.digest
 IsVerdict proof target bitcoin litecoin NoPath =
     (target ≡ proof.digest) × NoneConfirmed chain.Bitcoin bitcoin proof × NoneConfirmedIn chain.Litecoin litecoin proof
+
+-- the verdict on a proof's own digest, by what it confirms
+abbrev pub verdict_by : Option Confirmation → Verdict
+verdict_by (Some c) = Yes c.chain c.height c.time
+verdict_by None = NoPath
+
+-- This is what a proof confirms: the least height of Bitcoin, else of Litecoin, else none.
+abbrev pub Confirmed : Detached → Table → Option Table → Option Confirmation → Type 0
+Confirmed proof bitcoin litecoin best = IsVerdict proof proof.digest bitcoin litecoin (verdict_by best)

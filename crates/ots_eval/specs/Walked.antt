@@ -2,33 +2,32 @@
 -- that walk; what they find is said by IsVerdict.
 use Rattle.std.specs.Prelude.{ℕ, List, [], ◌∷◌, nat_lt, bytes_eq, if◌then◌else◌, Option, Some, None, option_and_then}
 use Rattle.ots_ops.specs.Apply.{apply}
+use Rattle.ots_ops.specs.declared.op.Op.{Op}
 use Rattle.ots_attest.specs.declared.attestation.Attestation.{Attestation}
 use Rattle.ots_attest.specs.declared.attestation.Attestation.TheVariants as attestation
 use Rattle.ots_tree.specs.declared.token.Token.{Token}
 use Rattle.ots_tree.specs.declared.token.Token.TheVariants as token
+use Rattle.ots_tree.specs.Walk.{Met, met, begun, always}
 use Rattle.ots_bitcoin.specs.declared.header.Header.{Header}
 use Rattle.ots_bitcoin.specs.HeaderTable.{Table, header_at}
 use Rattle.ots_eval.specs.declared.verdicts.Chain.TheVariants as chain
 use Rattle.ots_eval.specs.declared.verdicts.Verdict.{Verdict}
-use Rattle.ots_eval.specs.declared.verdicts.Verdict.TheVariants.{Yes, NoPath}
+use Rattle.ots_eval.specs.declared.verdicts.Confirmation.{Confirmation}
+use Rattle.ots_eval.specs.Confirmed.{verdict_by}
 use Rattle.ots_eval.specs.declared.best.Best.{Best}
 use Rattle.ots_eval.specs.declared.best.Found.{Found}
 
--- the message before the next token, and those before the forks whose nodes are still open, the last
--- one first; none where an operation before had no result
-abbrev pub Messages : Type 0
-Messages = Option (List ℕ) × List (Option (List ℕ))
+-- the message of an operation's result; none where it has none, or an operation before has none
+abbrev pub message_after : Op → Option (List ℕ) → Option (List ℕ)
+message_after o m = option_and_then (apply o) m
 
--- at the last node that is still open
-abbrev pub reopened : List (Option (List ℕ)) → Messages
-reopened [] = (None, [])
-reopened (m ∷ ms) = (m, ms)
+-- a walk carries it to each open node
+abbrev pub messages_by : Op → Option (List ℕ) → Option (Option (List ℕ))
+messages_by o m = always message_after o m
 
--- behind a token
-abbrev pub after : Token → Messages → Messages
-after token.Fork s = (s.0, s.0 ∷ s.1)
-after (token.Op o) s = (option_and_then (apply o) s.0, s.1)
-after (token.Attestation a) s = reopened s.1
+-- each token of a tree with the message before it
+abbrev pub messages : List ℕ → List Token → List (Met (Option (List ℕ)))
+messages digest tokens = met messages_by (begun (Some digest)) tokens
 
 -- what a header says of a message: the time, where the message is its Merkle root
 abbrev pub found_in : ℕ → List ℕ → Header → Option Found
@@ -60,18 +59,24 @@ noted bitcoin litecoin token.Fork m b = b
 noted bitcoin litecoin (token.Op o) m b = b
 
 -- the least of all, with what these tokens add
-abbrev pub walked : Table → Option Table → Messages → Best → List Token → Best
-walked bitcoin litecoin s b [] = b
-walked bitcoin litecoin s b (x ∷ xs) = walked bitcoin litecoin (after x s) (noted bitcoin litecoin x s.0 b) xs
+abbrev pub walked : Table → Option Table → Best → List (Met (Option (List ℕ))) → Best
+walked bitcoin litecoin b [] = b
+walked bitcoin litecoin b (m ∷ ms) = walked bitcoin litecoin (noted bitcoin litecoin m.token m.carried b) ms
 
 abbrev pub nothing : Best
 nothing = record { bitcoin = None; litecoin = None }
 
 -- Bitcoin comes first
+abbrev pub confirmation_of_found : Option Found → Option Found → Option Confirmation
+confirmation_of_found (Some f) g = Some (record { chain = chain.Bitcoin; height = f.height; time = f.time })
+confirmation_of_found None (Some g) = Some (record { chain = chain.Litecoin; height = g.height; time = g.time })
+confirmation_of_found None None = None
+
+abbrev pub confirmation_of : Best → Option Confirmation
+confirmation_of b = confirmation_of_found b.bitcoin b.litecoin
+
 abbrev pub verdict_of_found : Option Found → Option Found → Verdict
-verdict_of_found (Some f) g = Yes chain.Bitcoin f.height f.time
-verdict_of_found None (Some g) = Yes chain.Litecoin g.height g.time
-verdict_of_found None None = NoPath
+verdict_of_found f g = verdict_by (confirmation_of_found f g)
 
 abbrev pub verdict_of : Best → Verdict
 verdict_of b = verdict_of_found b.bitcoin b.litecoin

@@ -1,31 +1,33 @@
 //! The least heights that were found to be confirmed.
 ghost use Rattle.std.specs.Prelude.{◌≡◌};
 ghost use Rattle.std.specs.Option.{option_copied, option_and_then};
-ghost use Rattle.ots_eval.specs.Walked.{found_at, lesser, noted_end, nothing, verdict_of};
+ghost use Rattle.ots_eval.specs.Confirmed.{attests};
+ghost use Rattle.ots_eval.specs.Walked.{confirmation_of, found_at, lesser, noted_end, nothing, verdict_of};
 
-use crate::verdicts::{Chain, Verdict};
-use ots_attest::Attestation;
+use crate::verdicts::{Chain, Confirmation, Verdict};
 use ots_bitcoin::Headers;
 
 /// A height that is confirmed.
-#[derive(Clone, Copy)]
-pub(crate) struct Found {
+#[derive(Clone, Copy, Debug)]
+pub struct Found {
     /// The height of the block.
-    pub(crate) height: u64,
-    /// The time of its header.
-    pub(crate) time: u32,
+    pub height: u64,
+    /// The time of its header, in seconds since 1970.
+    pub time: u32,
 }
 
-/// The least of the heights found, of each chain.
-#[derive(Clone, Copy)]
-pub(crate) struct Best {
-    pub(crate) bitcoin: Option<Found>,
-    pub(crate) litecoin: Option<Found>,
+/// The least of the heights that the attestations of a tree confirm, as far as they have been noted.
+#[derive(Clone, Copy, Debug)]
+pub struct Best {
+    /// The least of Bitcoin.
+    pub bitcoin: Option<Found>,
+    /// The least of Litecoin.
+    pub litecoin: Option<Found>,
 }
 
 impl Best {
     /// Before anything is found.
-    pub(crate) fn nothing() -> Best
+    pub fn nothing() -> Best
         ensures { result ≡ nothing }
     {
         Best {
@@ -34,43 +36,52 @@ impl Best {
         }
     }
 
-    /// The least, with what an attestation that stands on this message adds.
-    pub(crate) fn noted(
+    /// The least, with what the attestation of this chain's block at this height adds, which stands on
+    /// this message.
+    pub fn noted(
         self,
-        attestation: &Attestation,
+        chain: Chain,
+        height: u64,
         message: &[u8],
         bitcoin: &Headers,
         litecoin: Option<&Headers>,
     ) -> Best
-        ensures { result ≡ noted_end bitcoin.now (option_copied litecoin.entry) attestation.now message.now self }
+        ensures { result ≡ noted_end bitcoin.now (option_copied litecoin.entry) (attests chain height) message.now self }
     {
-        match (attestation, litecoin) {
-            (Attestation::Bitcoin(height), _) => Best {
-                bitcoin: lesser(self.bitcoin, found_at(*height, bitcoin, message)),
+        match (chain, litecoin) {
+            (Chain::Bitcoin, _) => Best {
+                bitcoin: lesser(self.bitcoin, found_at(height, bitcoin, message)),
                 litecoin: self.litecoin,
             },
-            (Attestation::Litecoin(height), Some(headers)) => Best {
+            (Chain::Litecoin, Some(headers)) => Best {
                 bitcoin: self.bitcoin,
-                litecoin: lesser(self.litecoin, found_at(*height, headers, message)),
+                litecoin: lesser(self.litecoin, found_at(height, headers, message)),
             },
-            _ => self,
+            (Chain::Litecoin, None) => self,
         }
+    }
+
+    /// The least of Bitcoin where there is one, and else of Litecoin.
+    pub fn confirmation(self) -> Option<Confirmation>
+        ensures { result ≡ confirmation_of self }
+    {
+        let (chain, found) = match (self.bitcoin, self.litecoin) {
+            (Some(found), _) => (Chain::Bitcoin, found),
+            (None, Some(found)) => (Chain::Litecoin, found),
+            (None, None) => return None,
+        };
+        Some(Confirmation {
+            chain,
+            height: found.height,
+            time: found.time,
+        })
     }
 
     /// The verdict on the proof's own digest.
     pub(crate) fn verdict(self) -> Verdict
         ensures { result ≡ verdict_of self }
     {
-        let (chain, found) = match (self.bitcoin, self.litecoin) {
-            (Some(found), _) => (Chain::Bitcoin, found),
-            (None, Some(found)) => (Chain::Litecoin, found),
-            (None, None) => return Verdict::NoPath,
-        };
-        Verdict::Yes {
-            chain,
-            height: found.height,
-            time: found.time,
-        }
+        Verdict::by(self.confirmation())
     }
 }
 

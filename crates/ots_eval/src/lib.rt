@@ -12,7 +12,8 @@ mod values;
 mod verdicts;
 mod walk;
 
+pub use best::{Best, Found};
 pub use confirming::verdict;
 pub use laws::{one_verdict, some_verdict};
 pub use values::value;
-pub use verdicts::{Chain, Verdict};
+pub use verdicts::{Chain, Confirmation, Verdict};

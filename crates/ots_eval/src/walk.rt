@@ -1,14 +1,17 @@
 //! A walk over the tokens of a tree that finds the least confirmed heights.
-ghost use Rattle.std.specs.Prelude.{◌≡◌, Some, [], reverse, IfOk};
-ghost use Rattle.std.specs.Option.{option_copied, option_and_then};
-ghost use Rattle.ots_ops.specs.Apply.{apply};
-ghost use Rattle.ots_eval.specs.Walked.{after, noted, walked, nothing};
+ghost use Rattle.std.specs.Prelude.{◌≡◌, IfOk};
+ghost use Rattle.std.specs.Option.{option_copied};
+ghost use Rattle.ots_tree.specs.Wire.{IsPre};
+ghost use Rattle.ots_tree.specs.Walk.{IsStep};
+ghost use Rattle.ots_eval.specs.Walked.{message_after, messages_by, messages, noted, noted_end, walked, nothing};
 
 use crate::best::Best;
+use crate::verdicts::Chain;
+use ots_attest::Attestation;
 use ots_base::OutOfMemory;
 use ots_bitcoin::Headers;
 use ots_ops::{Digest, Message, Op, OpError, apply};
-use ots_tree::Token;
+use ots_tree::{Token, Walk};
 use std::alloc::Global;
 
 /// The least heights that are confirmed by the paths of a tree, whose tokens these are, from the
@@ -20,14 +23,15 @@ pub(crate) fn best_of(
     bitcoin: &Headers,
     litecoin: Option<&Headers>,
 ) -> Result<Best, OutOfMemory>
-    ensures { IfOk result (λ best. best ≡ walked bitcoin.now (option_copied litecoin.entry) (Some digest.now, []) nothing tokens.now) }
+    requires { IsPre tokens.now }
+    ensures { IfOk result (λ best. best ≡ walked bitcoin.now (option_copied litecoin.entry) nothing (messages digest.now tokens.now)) }
 {
-    let mut message = Some(Message::new(alloc, digest.bytes())?);
-    let mut forks = Vec::new(alloc);
+    let message = Message::new(alloc, digest.bytes())?;
+    let mut walk = Walk::begin(alloc, Some(message));
     let mut best = Best::nothing();
     for token in tokens {
-        best = noted(token, &message, best, bitcoin, litecoin);
-        message = message_behind(alloc, token, message, &mut forks)?;
+        best = noted(token, walk.carried(), best, bitcoin, litecoin);
+        follow(alloc, &mut walk, token)?;
     }
     Ok(best)
 }
@@ -44,30 +48,51 @@ fn noted(
 {
     match (token, message) {
         (Token::Attestation(attestation), Some(message)) => {
-            best.noted(attestation, message.bytes(), bitcoin, litecoin)
+            noted_end(attestation, message.bytes(), best, bitcoin, litecoin)
         }
         _ => best,
     }
 }
 
-/// The message before the next token: behind a fork the same, behind an operation its result, where
-/// it has one, and behind an attestation that of the last fork whose node is still open.
-fn message_behind(
+/// The least, with what an attestation that stands on this message adds.
+fn noted_end(
+    attestation: &Attestation,
+    message: &[u8],
+    best: Best,
+    bitcoin: &Headers,
+    litecoin: Option<&Headers>,
+) -> Best
+    ensures { result ≡ noted_end bitcoin.now (option_copied litecoin.entry) attestation.now message.now best }
+{
+    let (chain, height) = match attestation {
+        Attestation::Bitcoin(height) => (Chain::Bitcoin, *height),
+        Attestation::Litecoin(height) => (Chain::Litecoin, *height),
+        _ => return best,
+    };
+    best.noted(chain, height, message, bitcoin, litecoin)
+}
+
+/// Follows one more token, with the messages of the open nodes. Whether a node is open behind it, as
+/// one is behind each token of a tree but the last.
+fn follow(
     alloc: Global,
+    walk: &mut Walk<Option<Message>>,
     token: &Token,
-    message: Option<Message>,
-    forks: &mut Vec<Option<Message>>,
-) -> Result<Option<Message>, OutOfMemory>
-    ensures { IfOk result (λ next. (next, reverse forks.new.items) ≡ after token.now (message, reverse forks.old.items)) }
+) -> Result<bool, OutOfMemory>
+    ensures { IfOk result (IsStep messages_by token.now walk.old walk.new) }
 {
     match token {
         Token::Fork => {
-            forks.push(copy_of(&message)?)?;
-            Ok(message)
+            let copy = copy_of(walk.carried())?;
+            walk.keep(copy)?;
         }
-        Token::Op(op) => result_of(alloc, op, message),
-        Token::Attestation(_) => Ok(forks.pop().flatten()),
+        Token::Op(op) => {
+            let next = result_of(alloc, op, walk.carried())?;
+            walk.lead(next);
+        }
+        Token::Attestation(_) => return Ok(walk.close()),
     }
+    Ok(true)
 }
 
 /// An equal message, where there is one.
@@ -84,9 +109,9 @@ fn copy_of(message: &Option<Message>) -> Result<Option<Message>, OutOfMemory>
 fn result_of(
     alloc: Global,
     op: &Op,
-    message: Option<Message>,
+    message: &Option<Message>,
 ) -> Result<Option<Message>, OutOfMemory>
-    ensures { IfOk result (λ next. next ≡ option_and_then (apply op.now) message) }
+    ensures { IfOk result (λ next. next ≡ message_after op.now message.now) }
 {
     let Some(message) = message else {
         return Ok(None);

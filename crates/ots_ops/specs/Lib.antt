@@ -7,6 +7,7 @@ pub mod Hasher
 pub mod Kept
 pub mod Message
 pub mod NewArg
+pub mod OpRef
 pub mod Operation
 pub mod ResultLength
 pub mod Value

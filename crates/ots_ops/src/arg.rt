@@ -1,9 +1,10 @@
 //! The argument of an append or a prepend.
-ghost use Rattle.std.specs.Prelude.{◌≡◌, IfOk};
+ghost use Rattle.std.specs.Prelude.{◌≡◌, ◌≤◌, length, IfOk};
 ghost use Rattle.ots_base.specs.Memory.{UnlessOutOfMemory};
 ghost use Rattle.ots_ops.specs.Arg.{IsArg};
 ghost use Rattle.ots_ops.specs.NewArg.{new_arg};
 
+use crate::arg_ref::ArgRef;
 use ots_base::{MAX_ARGUMENT, OutOfMemory};
 use std::alloc::Global;
 use std::marker::Model;
@@ -51,16 +52,27 @@ impl Arg {
         ensures value { UnlessOutOfMemory ArgError.OutOfMemory result (new_arg bytes.now) }
         ensures short { result ≡ Err ArgError.OutOfMemory → new_arg bytes.now ≡ Ok bytes.now }
     {
-        if bytes.is_empty() {
-            return Err(ArgError::Empty);
-        }
-        if bytes.len() > MAX_ARGUMENT {
-            return Err(ArgError::TooLong(bytes.len() as u64));
-        }
-        match Vec::from_slice(alloc, bytes) {
-            Ok(bytes) => Ok(Arg { bytes }),
+        match ArgRef::new(bytes)?.to_owned(alloc) {
+            Ok(argument) => Ok(argument),
             Err(_) => Err(ArgError::OutOfMemory),
         }
+    }
+
+    /// The argument that keeps these bytes, 1 to 4096 of them.
+    pub(crate) fn kept(bytes: Vec<u8>) -> Arg
+        requires least { 1 ≤ length bytes.items }
+        requires greatest { length bytes.items ≤ MAX_ARGUMENT }
+        ensures { result ≡ bytes.items }
+    {
+        Arg { bytes }
+    }
+
+    /// The same argument, whose bytes stand in this one. It takes no memory.
+    pub fn borrowed(&self) -> ArgRef<'_>
+        ensures argument { result.bytes.now ≡ self.now }
+        ensures limits { IsArg self.now }
+    {
+        ArgRef::of(self.bytes())
     }
 
     /// The bytes, 1 to 4096 of them.

@@ -4,10 +4,12 @@ ghost use Rattle.std.specs.Result.{result_ok, result_err};
 ghost use Rattle.hex.specs.Hex.{encode_lower};
 ghost use Rattle.sha2.specs.Sha256.{sha256};
 ghost use Rattle.ots_ops.specs.Apply.{applied, apply};
+ghost use Rattle.ots_ops.specs.OpRef.{op_of};
 ghost use Rattle.ots_ops.specs.ResultLength.{len, made, most, refusal};
 
-use crate::length::{OpError, result_length};
+use crate::length::OpError;
 use crate::op::Op;
+use crate::op_ref::OpRef;
 use ots_base::{MAX_HEXLIFIED, MAX_MESSAGE};
 use ots_ripemd::ripemd160;
 use sha1::Sha1;
@@ -18,7 +20,6 @@ use sha2::{Digest, Sha256};
 ///
 /// It refuses exactly what `result_length` refuses, for the same reason, and the buffer is then as
 /// before. It takes no memory, and never answers `OutOfMemory`.
-#[tactic(auto, using(crate::proofs::AppliedLength::length_of_applied))]
 pub fn apply_in_place(
     op: &Op,
     buffer: &mut [u8; MAX_MESSAGE],
@@ -32,35 +33,56 @@ pub fn apply_in_place(
     ensures behind { IfOk result (λ answered. drop answered buffer.new ≡ drop answered buffer.old) }
     ensures as_before { OnErr result (buffer.new ≡ buffer.old) }
 {
-    let answered = result_length(op, length)?;
-    put(op, buffer, length);
-    Ok(answered)
+    op.borrowed().apply_in_place(buffer, length)
 }
 
-/// Puts what an operation makes of the first `filled` bytes in their place.
-fn put(op: &Op, buffer: &mut [u8], filled: usize)
-    requires room { length buffer.old ≡ MAX_MESSAGE }
-    requires message_fits { filled ≤ most op.now }
-    requires result_fits { made op.now filled ≤ MAX_MESSAGE }
-    ensures { buffer.new ≡ applied op.now (take filled buffer.old) ++ drop (made op.now filled) buffer.old }
-{
-    match op {
-        Op::Sha1 => {
-            let digest = Sha1::digest(&buffer[..filled]);
-            put_front(buffer, &digest);
+impl<'a> OpRef<'a> {
+    /// Puts the result of the operation in the place of the message, as `apply_in_place` of the same
+    /// operation, and refuses for the same reasons.
+    #[tactic(auto, using(crate::proofs::AppliedLength::length_of_applied))]
+    pub fn apply_in_place(
+        self,
+        buffer: &mut [u8; MAX_MESSAGE],
+        length: usize,
+    ) -> Result<usize, OpError>
+        requires { length ≤ MAX_MESSAGE }
+        ensures length { result_ok result ≡ len (op_of self.entry) length }
+        ensures refusal { result_err result ≡ refusal (op_of self.entry) length }
+        ensures limit { IfOk result (λ answered. answered ≤ MAX_MESSAGE) }
+        ensures value { IfOk result (λ answered. apply (op_of self.entry) (take length buffer.old) ≡ Some (take answered buffer.new)) }
+        ensures behind { IfOk result (λ answered. drop answered buffer.new ≡ drop answered buffer.old) }
+        ensures as_before { OnErr result (buffer.new ≡ buffer.old) }
+    {
+        let answered = self.result_length(length)?;
+        self.put(buffer, length);
+        Ok(answered)
+    }
+
+    /// Puts what the operation makes of the first `filled` bytes in their place.
+    fn put(self, buffer: &mut [u8], filled: usize)
+        requires room { length buffer.old ≡ MAX_MESSAGE }
+        requires message_fits { filled ≤ most (op_of self) }
+        requires result_fits { made (op_of self) filled ≤ MAX_MESSAGE }
+        ensures { buffer.new ≡ applied (op_of self.entry) (take filled buffer.old) ++ drop (made (op_of self.entry) filled) buffer.old }
+    {
+        match self {
+            OpRef::Sha1 => {
+                let digest = Sha1::digest(&buffer[..filled]);
+                put_front(buffer, &digest);
+            }
+            OpRef::Ripemd160 => {
+                let digest = ripemd160(&buffer[..filled]);
+                put_front(buffer, &digest);
+            }
+            OpRef::Sha256 => {
+                let digest = sha256(&buffer[..filled]);
+                put_front(buffer, &digest);
+            }
+            OpRef::Append(argument) => append(buffer, filled, argument.bytes()),
+            OpRef::Prepend(argument) => prepend(buffer, filled, argument.bytes()),
+            OpRef::Reverse => buffer[..filled].reverse(),
+            OpRef::Hexlify => hexlify(buffer, filled),
         }
-        Op::Ripemd160 => {
-            let digest = ripemd160(&buffer[..filled]);
-            put_front(buffer, &digest);
-        }
-        Op::Sha256 => {
-            let digest = sha256(&buffer[..filled]);
-            put_front(buffer, &digest);
-        }
-        Op::Append(argument) => append(buffer, filled, argument.bytes()),
-        Op::Prepend(argument) => prepend(buffer, filled, argument.bytes()),
-        Op::Reverse => buffer[..filled].reverse(),
-        Op::Hexlify => hexlify(buffer, filled),
     }
 }
 

@@ -4,11 +4,13 @@ ghost use Rattle.ots_ops.specs.declared.op.Op.{Op};
 ghost use Rattle.ots_ops.specs.Apply.{applied};
 ghost use Rattle.ots_ops.specs.HashOp.{digest_length};
 ghost use Rattle.ots_ops.specs.Hashed.{hashed};
+ghost use Rattle.ots_ops.specs.OpRef.{op_of};
 ghost use Rattle.ots_ops.specs.Operation.{tag, spell, key, IsOp};
 ghost use Rattle.ots_ops.specs.ResultLength.{made};
 ghost use Rattle.ots_ops.specs.declared.hash_op.HashOp.{HashOp};
 
 use crate::op::Op;
+use crate::op_ref::OpRef;
 
 /// A spelling determines its operation, and begins no other's.
 pub fn one_operation()
@@ -32,6 +34,18 @@ pub fn limits_of_operation(op: &Op)
 {
     match op {
         Op::Append(argument) | Op::Prepend(argument) => {
+            let _ = argument.bytes();
+        }
+        _ => {}
+    }
+}
+
+/// So is that of any operation whose argument stands elsewhere.
+pub fn limits_of_borrowed_operation(op: OpRef<'_>)
+    ensures { IsOp (op_of op.entry) }
+{
+    match op {
+        OpRef::Append(argument) | OpRef::Prepend(argument) => {
             let _ = argument.bytes();
         }
         _ => {}

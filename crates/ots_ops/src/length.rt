@@ -1,10 +1,12 @@
 //! How long the result of an operation is.
 ghost use Rattle.std.specs.Prelude.{◌≡◌, ◌≤◌, nat_lt, if◌then◌else◌, IfOk};
 ghost use Rattle.std.specs.Result.{result_ok, result_err};
+ghost use Rattle.ots_ops.specs.OpRef.{op_of};
 ghost use Rattle.ots_ops.specs.ResultLength.{len, refusal};
 
 use crate::hash_op::HashOp;
 use crate::op::Op;
+use crate::op_ref::OpRef;
 use ots_base::{MAX_HEXLIFIED, MAX_MESSAGE};
 use thiserror::Error;
 
@@ -38,15 +40,27 @@ pub fn result_length(op: &Op, length: usize) -> Result<usize, OpError>
     ensures refusal { result_err result ≡ refusal op.now length }
     ensures limit { IfOk result (λ answered. answered ≤ MAX_MESSAGE) }
 {
-    at_most(length, MAX_MESSAGE)?;
-    match op {
-        Op::Sha1 => Ok(HashOp::Sha1.digest_length()),
-        Op::Ripemd160 => Ok(HashOp::Ripemd160.digest_length()),
-        Op::Sha256 => Ok(HashOp::Sha256.digest_length()),
-        Op::Append(argument) => at_most(length + argument.bytes().len(), MAX_MESSAGE),
-        Op::Prepend(argument) => at_most(argument.bytes().len() + length, MAX_MESSAGE),
-        Op::Reverse => at_least_one(length),
-        Op::Hexlify => Ok(2 * at_least_one(at_most(length, MAX_HEXLIFIED)?)?),
+    op.borrowed().result_length(length)
+}
+
+impl<'a> OpRef<'a> {
+    /// How many bytes the operation makes of a message of `length` bytes, as `result_length` of the
+    /// same operation, and for the same reasons none.
+    pub fn result_length(self, length: usize) -> Result<usize, OpError>
+        ensures length { result_ok result ≡ len (op_of self.entry) length }
+        ensures refusal { result_err result ≡ refusal (op_of self.entry) length }
+        ensures limit { IfOk result (λ answered. answered ≤ MAX_MESSAGE) }
+    {
+        at_most(length, MAX_MESSAGE)?;
+        match self {
+            OpRef::Sha1 => Ok(HashOp::Sha1.digest_length()),
+            OpRef::Ripemd160 => Ok(HashOp::Ripemd160.digest_length()),
+            OpRef::Sha256 => Ok(HashOp::Sha256.digest_length()),
+            OpRef::Append(argument) => at_most(length + argument.bytes().len(), MAX_MESSAGE),
+            OpRef::Prepend(argument) => at_most(argument.bytes().len() + length, MAX_MESSAGE),
+            OpRef::Reverse => at_least_one(length),
+            OpRef::Hexlify => Ok(2 * at_least_one(at_most(length, MAX_HEXLIFIED)?)?),
+        }
     }
 }
 

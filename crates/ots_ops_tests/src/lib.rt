@@ -4,6 +4,8 @@
 #[cfg(test)]
 mod applying;
 #[cfg(test)]
+mod borrowed;
+#[cfg(test)]
 mod hashing;
 #[cfg(test)]
 mod lists;

@@ -1,5 +1,5 @@
 -- No bytes have two faults, and bytes that begin with a sound tree have none.
-use Rattle.std.proofs.Common.{◌≡◌, ℕ, ◌≤◌, Bool, List, [], ◌∷◌, ◌++◌, length, Option, Some, None, refl, sym, ap, subst, ◌∙◌, append_assoc}
+use Rattle.std.proofs.Common.{◌≡◌, ℕ, ◌≤◌, Bool, List, [], ◌∷◌, ◌++◌, length, Option, Some, None, refl, sym, ap, subst, ◌∙◌, arith, append_assoc, length-append}
 use Rattle.std.specs.Prelude.{option_and_then}
 use Rattle.std.specs.List.{AllByRecursion}
 use Rattle.std.proofs.lemmas.Grind.{flat_map-append}
@@ -127,3 +127,20 @@ pub never_both_lem : (n k : ℕ) (input : List ℕ) (f : Fault) (t : Node) (rest
 never_both_lem n k input f t rest deep h tree whole =
     let c = closed_is (opened (start n k) (pre t)) ((front_law n k (pre t) deep).1 (t, tree.sound, refl)) in
     apart_from n k input f h t rest c.0 tree.fits c.1 c.2 whole (begins (pre t) h.front rest h.rest tree.fits h.is_front.fits (sym whole ∙ h.whole))
+
+-- ---- a fault stands behind every front
+
+before : (ts us : List Token) (f : Fault) → us ≡ ts → f.place ≡ length (spelled us) → length (spelled ts) ≤ f.place
+before ts us f e place = omega (arith, place, ap (λ (z : List Token). length (spelled z)) e)
+
+not_past : (n k : ℕ) (input : List ℕ) (f : Fault) (h : HasTreeFault n k input f) (ts : List Token) (rest : List ℕ) (s : Open) → AllByRecursion IsToken ts
+    → input ≡ spelled ts ++ rest → opened (start n k) ts ≡ Some s → OneBegins ts h.front → length (spelled ts) ≤ f.place
+not_past n k input f h ts rest s fits whole leads (first more e) =
+    omega (arith, h.place, ap (λ (z : List Token). length (spelled z)) e, ap length (flat_map-append spell ts more), length-append (spelled ts) (spelled more))
+not_past n k input f h ts rest s fits whole leads (second [] e) = before ts h.front f (sym (e ∙ append-nil h.front)) h.place
+not_past n k input f h ts rest s fits whole leads (second (y ∷ ys) e) =
+    absurd (goes_on n k input f h y ys rest s (subst (AllByRecursion IsToken) e fits) (whole ∙ ap (λ (z : List Token). spelled z ++ rest) e) (sym (ap (opened (start n k)) e) ∙ leads))
+
+pub front_before : (n k : ℕ) (input : List ℕ) (f : Fault) (ts : List Token) (rest : List ℕ) (s : Open) → HasTreeFault n k input f → AllByRecursion IsToken ts
+    → input ≡ spelled ts ++ rest → opened (start n k) ts ≡ Some s → length (spelled ts) ≤ f.place
+front_before n k input f ts rest s h fits whole leads = not_past n k input f h ts rest s fits whole leads (begins ts h.front rest h.rest fits h.is_front.fits (sym whole ∙ h.whole))

@@ -1,6 +1,6 @@
 -- A token at an open node leads on exactly where no line on its place fits.
-use Rattle.std.proofs.Common.{◌≡◌, ℕ, ◌+◌, ◌<◌, ◌≤◌, Bool, true, false, cond, ltb, leb, List, [], ◌∷◌, Option, Some, None, refl, sym, subst, ◌∙◌, inl, inr, arith}
-use Rattle.std.specs.Prelude.{◌⊎◌, ◌||◌, ◌&&◌, option_map, option_and_then}
+use Rattle.std.proofs.Common.{◌≡◌, ℕ, ◌+◌, ◌<◌, ◌≤◌, Bool, true, false, cond, ltb, leb, List, [], ◌∷◌, Option, Some, None, refl, sym, ap, subst, ◌∙◌, inl, inr, arith}
+use Rattle.std.specs.Prelude.{◌⊎◌, ◌||◌, ◌&&◌, option_map}
 use Rattle.std.specs.List.{AllByRecursion}
 use Rattle.std.proofs.lemmas.Bool.{cases_lt, lt-ltb, le-ltb, lt-leb, le-leb}
 use Rattle.std.proofs.lemmas.Bool.Decides.{nat_tests}
@@ -11,7 +11,9 @@ use Rattle.ots_ops.specs.ResultLength.{len, made, most, fewest}
 use Rattle.ots_tree.specs.declared.shape.Shape.{Shape}
 use Rattle.ots_tree.specs.declared.token.Token.{Token}
 use Rattle.ots_tree.specs.declared.token.Token.TheVariants as token
-use Rattle.ots_tree.specs.Front.{Open, next_at, next_in, next, opened}
+use Rattle.ots_tree.specs.Front.{Open, shape_after, next_at, opened}
+use Rattle.ots_tree.proofs.Closing.{shape_of}
+use Rattle.ots_tree.proofs.Walks.{opened_all}
 use Rattle.ots_reader.specs.declared.fault.Reason.{Reason}
 use Rattle.ots_reader.specs.declared.fault.Reason.TheVariants.{ForkFork, TooDeep, ResultTooLong}
 use Rattle.ots_reader.specs.TreeFault.{place_fault}
@@ -92,40 +94,17 @@ result_message o n m h e =
 abbrev pub AreMessages : List Shape → Type 0
 AreMessages nodes = AllByRecursion (λ p. IsMessage p.length) nodes
 
-led_to : (m : Option ℕ) (d : ℕ) (p : Shape) (others : List Shape) (u : Open) → ((n : ℕ) → m ≡ Some n → IsMessage n) → AreMessages others
-    → cond (ltb d 255) (option_map (λ n. record { nodes = record { length = n; depth = d + 1 } ∷ others; forked = false }) m) None ≡ Some u → AreMessages u.nodes
-led_to None d p others u h rest e = absurd (elim (ltb d 255) as (λ b. cond b (option_map (λ n. record { nodes = record { length = n; depth = d + 1 } ∷ others; forked = false }) None) None ≡ Some u → ⊥) [ true ↦ λ f. cc | false ↦ λ f. cc ] e)
-led_to (Some n) d p others u h rest e =
-    elim (decide (ltb d 255)) [
-      | inl y ↦
-          let is : Some (open_at (record { length = n; depth = d + 1 }) others false) ≡ Some u = rw y at e in
-          let same : open_at (record { length = n; depth = d + 1 }) others false ≡ u = cc in
-          subst (λ (s : Open). AreMessages s.nodes) same (h n refl, rest)
-      | inr z ↦ absurd (let is : None ≡ Some u = rw z at e in cc)
-    ]
-
-some_open : (s u : Open) → AreMessages s.nodes → Some s ≡ Some u → AreMessages u.nodes
-some_open s u h e = let same : s ≡ u = cc in subst (λ (v : Open). AreMessages v.nodes) same h
-
-next_messages : (nodes : List Shape) (forked : Bool) (x : Token) (u : Open) → AreMessages nodes → next_in nodes forked x ≡ Some u → AreMessages u.nodes
-next_messages [] forked x u h e = absurd cc
-next_messages (p ∷ ps) forked (token.Attestation a) u h e = some_open (record { nodes = ps; forked = false }) u h.1 e
-next_messages (p ∷ ps) forked (token.Op o) u h e = led_to (len o p.length) p.depth p ps u (λ n is. result_message o p.length n h.0 is) h.1 e
-next_messages (p ∷ ps) false token.Fork u h e = some_open (open_at p (p ∷ ps) true) u (h.0, (h.0, h.1)) e
-next_messages (p ∷ ps) true token.Fork u h e = absurd cc
-
-some_next : (o : Option Open) (ts : List Token) (u : Open) → ((v : Open) → o ≡ Some v → AreMessages v.nodes) → ((v : Open) → AreMessages v.nodes → opened v ts ≡ Some u → AreMessages u.nodes)
-    → option_and_then (λ v. opened v ts) o ≡ Some u → AreMessages u.nodes
-some_next None ts u g f e = absurd cc
-some_next (Some v) ts u g f e = f v (g v refl) e
+message_led : (o : Op) (p r : Shape) → IsMessage p.length → shape_after o p ≡ Some r → IsMessage r.length
+message_led o p r m e =
+    let h = shape_of o p r e in
+    subst (λ (q : Shape). IsMessage q.length) (sym h.shape) (result_message o p.length h.result m h.is)
 
 pub opened_messages : (s : Open) (ts : List Token) (u : Open) → AreMessages s.nodes → opened s ts ≡ Some u → AreMessages u.nodes
-opened_messages s [] u h e = some_open s u h e
-opened_messages s (x ∷ ts) u h e = some_next (next x s) ts u (λ v is. next_messages s.nodes s.forked x v h is) (λ v. opened_messages v ts u) e
+opened_messages s ts u h e = opened_all shape_after (λ (p : Shape). IsMessage p.length) message_led ts s u h e
 
 -- ---- a token that can't stand there
 
-no_op : (long : Bool) (m : Option ℕ) (d : ℕ) (g : ℕ → Open) (r : Reason) → (long ≡ true → m ≡ None) → first_line (line (leb 255 d) TooDeep ∷ line long ResultTooLong ∷ []) ≡ Some r
+no_op : (long : Bool) (m : Option ℕ) (d : ℕ) (g : ℕ → Shape) (r : Reason) → (long ≡ true → m ≡ None) → first_line (line (leb 255 d) TooDeep ∷ line long ResultTooLong ∷ []) ≡ Some r
     → cond (ltb d 255) (option_map g m) None ≡ None
 no_op true m d g r none e = rw (none refl) (elim (ltb d 255) as (λ b. cond b (option_map g None) None ≡ None) [ true ↦ refl | false ↦ refl ])
 no_op false m d g r none e =
@@ -139,7 +118,7 @@ refused at others true token.Fork r e = refl
 refused at others false token.Fork r e = absurd cc
 refused at others forked (token.Attestation a) r e = absurd cc
 refused at others forked (token.Op o) r e =
-    no_op (too_long o at.length) (len o at.length) at.depth (λ n. record { nodes = record { length = n; depth = at.depth + 1 } ∷ others; forked = false }) r (len_none o at.length) e
+    ap (option_map (λ (q : Shape). open_at q others false)) (no_op (too_long o at.length) (len o at.length) at.depth (λ n. record { length = n; depth = at.depth + 1 }) r (len_none o at.length) e)
 
 -- ---- a token leads on, or has a fault there
 

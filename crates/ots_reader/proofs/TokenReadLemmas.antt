@@ -1,18 +1,23 @@
 -- Arguments and payloads behind their lengths.
-use Rattle.std.proofs.Common.{◌≡◌, ℕ, ◌+◌, ◌-◌, ◌<◌, ◌≤◌, List, length, take, drop, get_or, length-drop, refl, ap, sym, subst, ◌∙◌, arith}
-use Rattle.std.specs.Prelude.{Result, Ok}
+use Rattle.std.proofs.Common.{◌≡◌, ℕ, ◌+◌, ◌-◌, ◌<◌, ◌≤◌, Bool, true, false, ltb, List, [], ◌∷◌, length, take, drop, get_or, length-drop, Some, None, refl, ap, sym, subst, ◌∙◌, arith}
+use Rattle.std.specs.Prelude.{Ok, Option, not, bytes_eq, if◌then◌else◌}
+use Rattle.std.specs.List.{list_all}
 use Rattle.std.proofs.lemmas.Bool.{le-ltb, ne_eqb}
 use Rattle.std.proofs.lemmas.List.{length-take-le}
-use Rattle.ots_base.specs.Memory.{UnlessOutOfMemory}
-use Rattle.ots_varint.specs.Reading.{IsSpelledAt}
+use Rattle.ots_base.specs.Table.{line, first_line}
+use Rattle.ots_varint.specs.declared.reading.VaruintRead.{VaruintRead}
+use Rattle.ots_varint.specs.declared.reading.VaruintRead.TheVariants as read
+use Rattle.ots_varint.specs.Reading.{reading, IsSpelledAt}
 use Rattle.ots_varint.proofs.Behind.{IsBehind, behind, same_slice}
 use Rattle.ots_varint.proofs.ReadBack.{all_bytes}
 use Rattle.ots_ops.specs.Arg.{AreBytes}
 use Rattle.ots_ops.specs.NewArg.{new_arg}
-use Rattle.ots_ops.specs.declared.arg.ArgError.{ArgError}
-use Rattle.ots_ops.specs.declared.arg.ArgError.TheVariants.{OutOfMemory}
+use Rattle.ots_attest.specs.Kind.{pending_kind, bitcoin_kind, litecoin_kind}
+use Rattle.ots_attest.specs.Uri.{is_uri_byte}
 use Rattle.ots_attest.specs.declared.attestation.Attestation.{Attestation}
-use Rattle.ots_attest.specs.PayloadFault.{IsOf}
+use Rattle.ots_attest.specs.declared.payload.PayloadError.{PayloadError}
+use Rattle.ots_attest.specs.declared.payload.PayloadError.TheVariants as payload_error
+use Rattle.ots_attest.specs.PayloadFault.{payload_fault, uri_fault, height_fault, IsOf}
 use Rattle.ots_reader.specs.TokenRead.{IsArgAt, IsBodyAt}
 use Rattle.ots_reader.proofs.ByteLists.{all_take, all_drop}
 
@@ -47,18 +52,55 @@ body_read n used k bytes a at room is =
 
 -- ---- what the constructors of arguments answer
 
-ok_is : (r : Result (List ℕ) ArgError) (a b : List ℕ) → Ok a ≡ r → r ≡ Ok b → a ≡ b
-ok_is r a b e f = cc
+arg_is : (x : List ℕ) → 1 ≤ length x → length x ≤ 4096 → new_arg x ≡ Ok x
+arg_is x least greatest = rw (ne_eqb (length x) 0 (λ e. omega arith), le-ltb 4096 (length x) greatest) refl
 
-arg_made : (x a : List ℕ) → 1 ≤ length x → length x ≤ 4096 → UnlessOutOfMemory OutOfMemory (Ok a) (new_arg x) → a ≡ x
-arg_made x a least greatest made =
-    let is : new_arg x ≡ Ok x = rw (ne_eqb (length x) 0 (λ e. omega arith), le-ltb 4096 (length x) greatest) refl in
-    ok_is (new_arg x) a x (made (λ e. cc)) is
+slice_size : (n used : ℕ) (bytes : List ℕ) → used + n ≤ length bytes → length (take (used + n - used) (drop used bytes)) ≡ n
+slice_size n used bytes room = ap length (same_slice n used bytes) ∙ length-take-le n (drop used bytes) (omega (arith, length-drop used bytes))
 
 -- the argument that is made of a slice
 pub argument_made : (n used : ℕ) (bytes a : List ℕ) → IsSpelledAt bytes n used → ((k : ℕ) → get_or bytes k 0 < 256) → used + n ≤ length bytes → 1 ≤ n → n ≤ 4096
-    → UnlessOutOfMemory OutOfMemory (Ok a) (new_arg (take (used + n - used) (drop used bytes))) → IsArgAt bytes a (used + n)
+    → new_arg (take (used + n - used) (drop used bytes)) ≡ Ok a → IsArgAt bytes a (used + n)
 argument_made n used bytes a at all room least greatest made =
     let x = take (used + n - used) (drop used bytes) in
-    let size : length x ≡ n = ap length (same_slice n used bytes) ∙ length-take-le n (drop used bytes) (omega (arith, length-drop used bytes)) in
-    argument_read n used bytes a at (all_bytes bytes all) room least greatest (arg_made x a (omega arith) (omega arith) made)
+    let size = slice_size n used bytes room in
+    let is : Ok a ≡ Ok x = sym made ∙ arg_is x (omega arith) (omega arith) in
+    argument_read n used bytes a at (all_bytes bytes all) room least greatest cc
+
+-- ---- what is wrong with a payload is never want of memory
+
+abbrev Never : Option PayloadError → Type 0
+Never known = known ≡ Some payload_error.OutOfMemory → ⊥
+
+uri_lines : (a b c d : Bool) → Never (first_line (line a payload_error.BadUri ∷ line b payload_error.PayloadShort ∷ line c payload_error.BadUri ∷ line d payload_error.PayloadRest ∷ []))
+uri_lines true b c d e = cc
+uri_lines false true c d e = cc
+uri_lines false false true d e = cc
+uri_lines false false false true e = cc
+uri_lines false false false false e = cc
+
+uri_never : (r : VaruintRead) (p : List ℕ) → Never (uri_fault r p)
+uri_never (read.Value n used) p e = uri_lines (ltb 1000 n) (ltb (length p) (used + n)) (not (list_all is_uri_byte (take n (drop used p)))) (ltb (used + n) (length p)) e
+uri_never read.Short p e = cc
+uri_never read.NonMinimal p e = cc
+uri_never read.TooLarge p e = cc
+
+rest_line : (a : Bool) → Never (first_line (line a payload_error.PayloadRest ∷ []))
+rest_line true e = cc
+rest_line false e = cc
+
+height_never : (r : VaruintRead) (p : List ℕ) → Never (height_fault r p)
+height_never (read.Value n used) p e = rest_line (ltb used (length p)) e
+height_never read.Short p e = cc
+height_never read.NonMinimal p e = cc
+height_never read.TooLarge p e = cc
+
+of_kind : (a b c : Bool) (u h : Option PayloadError) → Never u → Never h → Never (if a then u else if b then h else if c then h else None)
+of_kind true b c u h un hn e = un e
+of_kind false true c u h un hn e = hn e
+of_kind false false true u h un hn e = hn e
+of_kind false false false u h un hn e = cc
+
+pub never_memory : (k p : List ℕ) → payload_fault k p ≡ Some payload_error.OutOfMemory → ⊥
+unfolding payload_fault
+never_memory k p e = of_kind (bytes_eq k pending_kind) (bytes_eq k bitcoin_kind) (bytes_eq k litecoin_kind) (uri_fault (reading p) p) (height_fault (reading p) p) (uri_never (reading p) p) (height_never (reading p) p) e

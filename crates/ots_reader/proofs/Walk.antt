@@ -1,15 +1,15 @@
 -- Reading token after token.
-use Rattle.std.proofs.Common.{◌≡◌, ℕ, ◌+◌, ◌≤◌, Bool, false, List, [], ◌∷◌, ◌++◌, length, take, drop, ◌-◌, length-drop, Option, Some, None, refl, sym, ap, subst, ◌∙◌, arith, append_assoc, length-append, reverse}
+use Rattle.std.proofs.Common.{◌≡◌, ℕ, ◌+◌, ◌≤◌, Bool, false, List, [], ◌∷◌, ◌++◌, length, take, drop, Some, None, refl, sym, ap, subst, ◌∙◌, arith, append_assoc, length-append}
 use Rattle.std.specs.Prelude.{option_and_then, Result, Ok, Err, IfOk, IfErr}
 use Rattle.std.specs.List.{AllByRecursion}
 use Rattle.std.proofs.lemmas.Grind.{flat_map-append}
-use Rattle.std.proofs.lemmas.List.{append-nil, drop-drop, take_all, take_at, drop_at}
+use Rattle.std.proofs.lemmas.List.{append-nil, drop-drop, take_at, drop_at}
 use Rattle.ots_base.specs.Memory.{UnlessOutOfMemory}
 use Rattle.ots_tree.specs.declared.shape.Shape.{Shape}
 use Rattle.ots_tree.specs.declared.tree.Tree.{Tree}
 use Rattle.ots_tree.specs.declared.token.Token.{Token}
 use Rattle.ots_tree.specs.declared.token.Token.TheVariants as token
-use Rattle.ots_tree.specs.Wire.{Node, pre, bytes, spell, spelled, IsToken, IsPre}
+use Rattle.ots_tree.specs.Wire.{Node, pre, bytes, spell, spelled, IsToken}
 use Rattle.ots_tree.specs.Sound.{IsSoundPre}
 use Rattle.ots_tree.specs.Front.{Open, start, next, opened, IsClosed}
 use Rattle.ots_tree.proofs.Closing.{front_law}
@@ -18,15 +18,11 @@ use Rattle.ots_reader.specs.declared.fault.Fault.{Fault}
 use Rattle.ots_reader.specs.declared.fault.Reason.{Reason}
 use Rattle.ots_reader.specs.declared.fault.ReadError.{ReadError}
 use Rattle.ots_reader.specs.declared.fault.ReadError.TheVariants as error
-use Rattle.ots_reader.specs.declared.fault.TokenError.{TokenError}
-use Rattle.ots_reader.specs.declared.fault.TokenError.TheVariants as failure
 use Rattle.ots_reader.specs.TokenFault.{token_fault}
-use Rattle.ots_reader.specs.TokenRead.{IsTokenAt, IsTokenError, IsErrorAt}
+use Rattle.ots_reader.specs.TokenRead.{IsTokenAt}
 use Rattle.ots_reader.specs.TreeFault.{place_fault, BeginsWith, no_token, no_place, HasTreeFault}
 use Rattle.ots_reader.specs.OneAnswer.{IsShape}
 use Rattle.ots_reader.specs.TreeRead.{IsTreeAt, IsTreeError, IsSoundNode}
-use Rattle.ots_reader.specs.declared.turn.OpenNode.{OpenNode}
-use Rattle.ots_reader.specs.Turn.{Moves}
 use Rattle.ots_reader.proofs.OneFault.{opened-append, open_at, never_both_lem, one_fault_lem}
 use Rattle.ots_reader.proofs.NoTokenFault.{token_ok}
 use Rattle.ots_reader.proofs.Places.{IsMessage, opened_messages, refused}
@@ -49,14 +45,14 @@ walk_message n k input ts at others forked place shape w =
 
 -- ---- one token more
 
-fits_more : (ts : List Token) (x : Token) → AllByRecursion IsToken ts → IsToken x → AllByRecursion IsToken (ts ++ x ∷ [])
+pub fits_more : (ts : List Token) (x : Token) → AllByRecursion IsToken ts → IsToken x → AllByRecursion IsToken (ts ++ x ∷ [])
 fits_more [] x h i = (i, tt)
 fits_more (t ∷ ts) x h i = (h.0, fits_more ts x h.1 i)
 
-spelled_more : (ts : List Token) (x : Token) → spelled (ts ++ x ∷ []) ≡ spelled ts ++ spell x
+pub spelled_more : (ts : List Token) (x : Token) → spelled (ts ++ x ∷ []) ≡ spelled ts ++ spell x
 spelled_more ts x = flat_map-append spell ts (x ∷ []) ∙ ap (λ (z : List ℕ). spelled ts ++ z) (append-nil (spell x))
 
-opens_more : (s : Open) (ts : List Token) (x : Token) (u v : Open) → opened s ts ≡ Some u → next x u ≡ Some v → opened s (ts ++ x ∷ []) ≡ Some v
+pub opens_more : (s : Open) (ts : List Token) (x : Token) (u v : Open) → opened s ts ≡ Some u → next x u ≡ Some v → opened s (ts ++ x ∷ []) ≡ Some v
 opens_more s ts x u v e f = opened-append s ts (x ∷ []) ∙ ap (option_and_then (λ w. opened w (x ∷ []))) e ∙ ap (option_and_then (λ w. opened w [])) f
 
 pub walk_more : (n k : ℕ) (input : List ℕ) (ts : List Token) (s u : Open) (place used : ℕ) (x : Token)
@@ -111,17 +107,9 @@ none_open = record { nodes = []; forked = false }
 pub walk_sound : (n k : ℕ) (input : List ℕ) (ts : List Token) (s : Open) (place : ℕ) → k ≤ 255 → IsWalk n k input ts s place → s.nodes ≡ [] → IsSoundPre n k ts
 walk_sound n k input ts s place deep w closed = (front_law n k ts deep).0 (subst IsClosed (sym w.opens) closed)
 
-pub walk_pre : (n k : ℕ) (input : List ℕ) (ts : List Token) (place : ℕ) → k ≤ 255 → IsWalk n k input ts none_open place → IsPre ts
-walk_pre n k input ts place deep w = let t = walk_sound n k input ts none_open place deep w refl in (t.0, t.2)
-
 pub walk_read : (n k : ℕ) (input : List ℕ) (ts : List Token) (s : Open) (place : ℕ) → k ≤ 255 → IsWalk n k input ts s place → s.nodes ≡ [] → IsTreeAt n k input ts place
 walk_read n k input ts s place deep w closed =
     record { sound = walk_sound n k input ts s place deep w closed; fits = w.fits; front = w.whole; len = w.len }
-
--- of the tree that is made of the tokens
-pub walk_is_tree : (n k : ℕ) (input : List ℕ) (ts : List Token) (tree : Tree) (place : ℕ) → k ≤ 255 → IsWalk n k input ts none_open place → tree ≡ ts → IsTreeAt n k input tree place
-walk_is_tree n k input ts tree place deep w is =
-    subst (λ (z : List Token). IsTreeAt n k input z place) (sym is) (walk_read n k input ts none_open place deep w refl)
 
 -- ---- trees at the front of bytes
 
@@ -185,43 +173,3 @@ token_room n k input ts s place used x w t = (
 
 pub walk_place : (n k : ℕ) (input : List ℕ) (ts : List Token) (s : Open) (place : ℕ) → IsWalk n k input ts s place → place ≤ length input
 walk_place n k input ts s place w = omega (arith, w.len, ap length w.whole, length-append (spelled ts) (drop place input))
-
--- the bytes that a slice from this place has
-whole_rest : (place : ℕ) (input : List ℕ) → take (length input - place) (drop place input) ≡ drop place input
-whole_rest place input = take_all (length input - place) (drop place input) (omega (arith, length-drop place input))
-
-abbrev slice_from : ℕ → List ℕ → List ℕ
-slice_from place input = take (length input - place) (drop place input)
-
-pub token_at : (place : ℕ) (input : List ℕ) (x : Token) (used : ℕ) → IsTokenAt (slice_from place input) x used → IsTokenAt (drop place input) x used
-token_at place input x used t = subst (λ (z : List ℕ). IsTokenAt z x used) (whole_rest place input) t
-
--- ---- what a turn of the loop answers
-
-pub token_error : (n k : ℕ) (input : List ℕ) (ts : List Token) (at : Shape) (others : List Shape) (forked : Bool) (place : ℕ) (e : TokenError) (r : ReadError)
-    → IsWalk n k input ts (open_at at others forked) place → IsTokenError (token_fault (slice_from place input)) e → IsErrorAt place e r → IsTreeError n k input r
-token_error n k input ts at others forked place (failure.Fault reason) r w h e =
-    subst (IsTreeError n k input) (sym e) (token_stops n k input ts at others forked place reason w (ap token_fault (sym (whole_rest place input)) ∙ h))
-token_error n k input ts at others forked place failure.OutOfMemory r w h e = subst (IsTreeError n k input) (sym e) tt
-
-pub turn_error : (n k : ℕ) (input : List ℕ) (ts : List Token) (last : OpenNode) (old new : List Shape) (place used : ℕ) (x : Token) (e : TokenError) (r : ReadError)
-    → IsWalk n k input ts (open_at last.shape (reverse old) last.forked) place → IsTokenAt (slice_from place input) x used → Moves last old new x (Err e) → IsErrorAt place e r → IsTreeError n k input r
-turn_error n k input ts last old new place used x (failure.Fault reason) r w t h e =
-    subst (IsTreeError n k input) (sym e) (place_stops n k input ts last.shape (reverse old) last.forked place used x reason w (token_at place input x used t) h)
-turn_error n k input ts last old new place used x failure.OutOfMemory r w t h e = subst (IsTreeError n k input) (sym e) tt
-
-pub walk_moved : (n k : ℕ) (input : List ℕ) (ts us : List Token) (last p : OpenNode) (old new : List Shape) (place used : ℕ) (x : Token) (moved : Option OpenNode)
-    → IsWalk n k input ts (open_at last.shape (reverse old) last.forked) place → IsTokenAt (slice_from place input) x used → Moves last old new x (Ok moved) → moved ≡ Some p
-    → us ≡ ts ++ x ∷ [] → IsWalk n k input us (open_at p.shape (reverse new) p.forked) (place + used)
-walk_moved n k input ts us last p old new place used x moved w t h is e =
-    let m = subst (λ (z : Option OpenNode). Moves last old new x (Ok z)) is h in
-    let v = walk_more n k input ts (open_at last.shape (reverse old) last.forked) (open_at p.shape (reverse new) p.forked) place used x w (token_at place input x used t) m in
-    subst (λ (z : List Token). IsWalk n k input z (open_at p.shape (reverse new) p.forked) (place + used)) (sym e) v
-
-pub walk_closed : (n k : ℕ) (input : List ℕ) (ts us : List Token) (last : OpenNode) (old new : List Shape) (place used : ℕ) (x : Token) (moved : Option OpenNode)
-    → IsWalk n k input ts (open_at last.shape (reverse old) last.forked) place → IsTokenAt (slice_from place input) x used → Moves last old new x (Ok moved) → moved ≡ None
-    → us ≡ ts ++ x ∷ [] → IsWalk n k input us none_open (place + used)
-walk_closed n k input ts us last old new place used x moved w t h is e =
-    let m = subst (λ (z : Option OpenNode). Moves last old new x (Ok z)) is h in
-    let v = walk_more n k input ts (open_at last.shape (reverse old) last.forked) none_open place used x w (token_at place input x used t) m in
-    subst (λ (z : List Token). IsWalk n k input z none_open (place + used)) (sym e) v

@@ -5,3 +5,9 @@ pub mod TokenRead
 pub mod TreeRead
 pub mod OneAnswer
 pub mod Turn
+pub mod Cut
+pub mod Progress
+pub mod Tokens
+pub mod Front
+pub mod Held
+pub mod Run

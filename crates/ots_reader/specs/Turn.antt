@@ -1,25 +1,20 @@
 -- What a token does to the nodes that are open.
-use Rattle.std.specs.Prelude.{◌≡◌, List, [], ◌∷◌, Bool, true, false, Option, Some, None, Result, Ok, Err, reverse}
+use Rattle.std.specs.Prelude.{◌≡◌, Bool, Some, Result, Ok, Err, if◌then◌else◌}
+use Rattle.ots_ops.specs.declared.op.Op.{Op}
 use Rattle.ots_tree.specs.declared.shape.Shape.{Shape}
 use Rattle.ots_tree.specs.declared.token.Token.{Token}
-use Rattle.ots_tree.specs.Front.{next_at}
-use Rattle.ots_reader.specs.declared.fault.TokenError.{TokenError}
-use Rattle.ots_reader.specs.declared.fault.TokenError.TheVariants as error
-use Rattle.ots_reader.specs.declared.turn.OpenNode.{OpenNode}
-use Rattle.ots_reader.specs.declared.turn.Turn.{Turn}
-use Rattle.ots_reader.specs.declared.turn.Turn.TheVariants as turn
+use Rattle.ots_tree.specs.declared.token.Token.TheVariants as token
+use Rattle.ots_tree.specs.Walk.{Position, open_at, none_open}
+use Rattle.ots_tree.specs.Front.{shape_after, next_at}
+use Rattle.ots_reader.specs.declared.fault.Reason.{Reason}
 use Rattle.ots_reader.specs.TreeFault.{place_fault}
 
--- whatever other nodes are open
-abbrev pub IsTurn : Shape → Bool → Token → Turn → Type 0
-IsTurn at forked x (turn.To p) = (others : List Shape) → next_at at others forked x ≡ Some (record { nodes = p ∷ others; forked = false })
-IsTurn at forked x turn.Again = (others : List Shape) → next_at at others forked x ≡ Some (record { nodes = at ∷ at ∷ others; forked = true })
-IsTurn at forked x turn.Close = (others : List Shape) → next_at at others forked x ≡ Some (record { nodes = others; forked = false })
-IsTurn at forked x (turn.Refused r) = place_fault at forked x ≡ Some r
+-- The node of an operation's result, or why the operation can't stand there, behind a fork or not.
+abbrev pub LeadsTo : Shape → Op → Result Shape Reason → Type 0
+LeadsTo at o (Ok to) = shape_after o at ≡ Some to
+LeadsTo at o (Err r) = (forked : Bool) → place_fault at forked (token.Op o) ≡ Some r
 
--- The other open nodes stand in a vector, the last one last. None is open where no node is answered.
-abbrev pub Moves : OpenNode → List Shape → List Shape → Token → Result (Option OpenNode) TokenError → Type 0
-Moves last old new x (Ok (Some p)) = next_at last.shape (reverse old) last.forked x ≡ Some (record { nodes = p.shape ∷ reverse new; forked = p.forked })
-Moves last old new x (Ok None) = next_at last.shape (reverse old) last.forked x ≡ Some (record { nodes = []; forked = false })
-Moves last old new x (Err error.OutOfMemory) = Unit {0}
-Moves last old new x (Err (error.Fault r)) = place_fault last.shape last.forked x ≡ Some r
+-- The walk behind one more token and whether a node is still open, or why the token can't stand there, and the walk is as it was.
+abbrev pub Moves : Position Shape → Position Shape → Token → Result Bool Reason → Type 0
+Moves old new x (Ok more) = next_at old.last old.others old.forked x ≡ Some (if more then open_at new else none_open)
+Moves old new x (Err r) = (place_fault old.last old.forked x ≡ Some r) × (new ≡ old)

@@ -107,6 +107,17 @@ pub enum ReadError {
     OutOfMemory,
 }
 
+impl From<Fault> for ReadError {
+    ghost use Rattle.std.specs.Prelude.{◌≡◌};
+    ghost use Rattle.ots_reader.specs.declared.fault.ReadError.TheVariants.{Fault};
+
+    ghost from_gives = { λ f e. e ≡ Fault f };
+
+    fn from(fault: Fault) -> ReadError {
+        ReadError::Fault(fault)
+    }
+}
+
 impl From<OutOfMemory> for ReadError {
     ghost use Rattle.std.specs.Prelude.{◌≡◌};
     ghost use Rattle.ots_reader.specs.declared.fault.ReadError.TheVariants.{OutOfMemory};
@@ -126,25 +137,5 @@ impl<T: Drop> From<AllocFailed<T>> for ReadError {
 
     fn from(_: AllocFailed<T>) -> ReadError {
         ReadError::OutOfMemory
-    }
-}
-
-/// Why no token was read, or why it can't stand where it is.
-#[derive(Clone, Copy)]
-pub(crate) enum TokenError {
-    /// The bytes begin with no token, or with one that can't stand there.
-    Fault(Reason),
-    /// Memory ran out.
-    OutOfMemory,
-}
-
-impl<T: Drop> From<AllocFailed<T>> for TokenError {
-    ghost use Rattle.std.specs.Prelude.{◌≡◌};
-    ghost use Rattle.ots_reader.specs.declared.fault.TokenError.TheVariants.{OutOfMemory};
-
-    ghost from_gives = { λ _ e. e ≡ OutOfMemory };
-
-    fn from(_: AllocFailed<T>) -> TokenError {
-        TokenError::OutOfMemory
     }
 }

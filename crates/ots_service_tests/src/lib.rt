@@ -2,12 +2,11 @@
 //! and what several callers of one book do. Expected bytes are those of Python's hashlib and hmac.
 #![tactic(auto)]
 
+#[cfg(test)]
 mod serving;
+#[cfg(test)]
 mod sharing;
 #[cfg(test)]
 mod tests;
 #[cfg(test)]
 mod texts;
-
-pub use serving::{Ask, Told, serve_all};
-pub use sharing::{Ends, all_are_stamped, serve_beside};

@@ -1,5 +1,6 @@
+use crate::serving::{Ask, Told, serve_all};
+use crate::sharing::{all_are_stamped, serve_beside};
 use crate::texts::{ask, ask_digest, book_of, is_said, is_tree, new_book, service};
-use crate::{Ask, Told, all_are_stamped, serve_all, serve_beside};
 use ots_calendar::{Leaf, Receipt};
 use ots_service::Served;
 use std::alloc::Global;

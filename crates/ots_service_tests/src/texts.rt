@@ -1,7 +1,7 @@
 //! What the tests ask, and what they are to be told.
 ghost use Rattle.std.specs.Prelude.{◌≡◌, true, IfOk};
 
-use crate::{Ask, Told};
+use crate::serving::{Ask, Told};
 use ots_attest::Uri;
 use ots_calendar::{Book, Key};
 use ots_disk::{DiskRoom, MemoryDisk};

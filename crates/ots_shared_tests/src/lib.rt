@@ -2,14 +2,13 @@
 //! with one book. What is done with the book stands for every disk; the tests do it in memory.
 #![tactic(auto)]
 
+#[cfg(test)]
 mod round;
 #[cfg(test)]
 mod tests;
+#[cfg(test)]
 mod turns;
+#[cfg(test)]
 mod watching;
+#[cfg(test)]
 mod workers;
-
-pub use round::is_one_round;
-pub use turns::{Stamper, close, put, stamp, take};
-pub use watching::is_as_told;
-pub use workers::all_find_their_receipts;

@@ -1,6 +1,9 @@
 ghost use Rattle.std.specs.Prelude.{◌≡◌, true, IfOk};
 
-use crate::{Stamper, all_find_their_receipts, is_as_told, is_one_round};
+use crate::round::is_one_round;
+use crate::turns::Stamper;
+use crate::watching::is_as_told;
+use crate::workers::all_find_their_receipts;
 use ots_attest::Uri;
 use ots_calendar::{Book, Key, Leaf};
 use ots_disk::{DiskRoom, MemoryDisk};

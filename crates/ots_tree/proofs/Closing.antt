@@ -1,17 +1,18 @@
 -- Tokens close every node that they open exactly where they are those of a sound tree.
-use Rattle.std.proofs.Common.{◌≡◌, ℕ, ◌+◌, ◌<◌, ◌≤◌, Bool, true, false, cond, ltb, List, [], ◌∷◌, ◌++◌, map, Option, Some, None, refl, sym, ap, subst, ◌∙◌, arith, append_assoc}
+use Rattle.std.proofs.Common.{◌≡◌, ℕ, ◌+◌, ◌<◌, ◌≤◌, Bool, true, false, cond, ltb, List, [], ◌∷◌, ◌++◌, map, length, Option, Some, None, refl, sym, ap, subst, arith}
 use Rattle.std.specs.Prelude.{IsSome, option_and_then, option_map, ◌↔◌}
 use Rattle.std.specs.List.{AllByRecursion}
 use Rattle.std.proofs.lemmas.Bool.{lt-ltb, ltb-true}
-use Rattle.std.proofs.lemmas.List.{append-nil}
 use Rattle.ots_ops.specs.declared.op.Op.{Op}
 use Rattle.ots_ops.specs.ResultLength.{len}
 use Rattle.ots_tree.specs.declared.token.Token.{Token}
-use Rattle.ots_tree.specs.declared.token.Token.TheVariants as token
-use Rattle.ots_tree.specs.Wire.{Node, Item, last, more, attested, step, pre, pre_item, Path, paths, paths_of_item, below}
+use Rattle.ots_tree.specs.Wire.{Node, Item, last, more, attested, step, Path, paths, paths_of_item, below}
 use Rattle.ots_tree.specs.Sound.{length_after, IsSoundPath, IsSound, IsSoundPre}
 use Rattle.ots_tree.specs.declared.shape.Shape.{Shape}
-use Rattle.ots_tree.specs.Front.{Open, start, next_at, opened, IsClosed}
+use Rattle.ots_tree.specs.Walk as walk
+use Rattle.ots_tree.specs.Front.{Open, shape_after, start, opened, IsClosed}
+use Rattle.ots_tree.specs.OpenDepths.{one_more}
+use Rattle.ots_tree.proofs.Walks.{Goes, GoesAlong, closed_law, Counts, open_falls, falls_room, map_open, IsMappedWhere, opened_along}
 
 -- ---- all of a list
 
@@ -75,89 +76,72 @@ step_leads o t n k h =
     let q = node_path t in
     leads o n k q.first (subst (λ (z : List Path). AllByRecursion (IsSoundPath n k) (map (below o) z)) q.are h).0
 
--- ---- a sound tree closes the node that it stands in
+-- ---- the walk goes along the trees that are sound
 
-abbrev at : ℕ → ℕ → Shape
+abbrev pub at : ℕ → ℕ → Shape
 at n k = record { length = n; depth = k }
 
-abbrev open_at : List Shape → Bool → Open
-open_at ps forked = record { nodes = ps; forked = forked }
-
-next-op : (o : Op) (n k m : ℕ) (ps : List Shape) (forked : Bool) → k < 255 → len o n ≡ Some m
-    → next_at (at n k) ps forked (token.Op o) ≡ Some (open_at (at m (k + 1) ∷ ps) false)
-next-op o n k m ps forked room e = rw (lt-ltb k 255 room, e) refl
+shape-op : (o : Op) (n k m : ℕ) → k < 255 → len o n ≡ Some m → shape_after o (at n k) ≡ Some (at m (k + 1))
+shape-op o n k m room e = rw (lt-ltb k 255 room, e) refl
 
 mutual
-  node_closes : (t : Node) (n k : ℕ) (ps : List Shape) (rest : List Token) → IsSound n k t
-      → opened (open_at (at n k ∷ ps) false) (pre t ++ rest) ≡ opened (open_at ps false) rest
-  node_closes (last i) n k ps rest h = item_closes i n k ps false rest h
-  node_closes (more i t) n k ps rest h =
-      let regrouped : (pre_item i ++ pre t) ++ rest ≡ pre_item i ++ (pre t ++ rest) = append_assoc (pre_item i) (pre t) rest in
-      ap (opened (open_at (at n k ∷ at n k ∷ ps) true)) regrouped
-      ∙ item_closes i n k (at n k ∷ ps) true (pre t ++ rest) (all-left (IsSoundPath n k) (paths_of_item i) (paths t) h)
-      ∙ node_closes t n k ps rest (all-right (IsSoundPath n k) (paths_of_item i) (paths t) h)
+  sound_goes : (t : Node) (n k : ℕ) → IsSound n k t → Goes shape_after (at n k) t
+  sound_goes (last i) n k h = sound_along i n k h
+  sound_goes (more i t) n k h =
+      (sound_along i n k (all-left (IsSoundPath n k) (paths_of_item i) (paths t) h), sound_goes t n k (all-right (IsSoundPath n k) (paths_of_item i) (paths t) h))
 
-  item_closes : (i : Item) (n k : ℕ) (ps : List Shape) (forked : Bool) (rest : List Token) → AllByRecursion (IsSoundPath n k) (paths_of_item i)
-      → opened (open_at (at n k ∷ ps) forked) (pre_item i ++ rest) ≡ opened (open_at ps false) rest
-  item_closes (attested a) n k ps forked rest h = refl
-  item_closes (step o t) n k ps forked rest h =
+  sound_along : (i : Item) (n k : ℕ) → AllByRecursion (IsSoundPath n k) (paths_of_item i) → GoesAlong shape_after (at n k) i
+  sound_along (attested a) n k h = tt
+  sound_along (step o t) n k h =
       let l = step_leads o t n k h in
-      ap (option_and_then (λ u. opened u (pre t ++ rest))) (next-op o n k l.result ps forked l.room l.is)
-      ∙ node_closes t l.result (k + 1) ps rest (down o n k l.result l.is (paths t) h)
+      (at l.result (k + 1), shape-op o n k l.result l.room l.is, sound_goes t l.result (k + 1) (down o n k l.result l.is (paths t) h))
 
--- ---- what closes all nodes are sound trees, one for each node
+-- an operation that has a result
+pub record HasShape (o : Op) (n k : ℕ) (r : Shape) : Type 0 where
+  pub room : k < 255
+  pub result : ℕ
+  pub is : len o n ≡ Some result
+  pub shape : r ≡ at result (k + 1)
 
-abbrev IsItem : Bool → Node → Type 0
-IsItem false t = Unit {0}
-IsItem true (last i) = Unit {0}
-IsItem true (more i t) = ⊥
+has_shape : (o : Op) (n k : ℕ) (b : Bool) (x : Option ℕ) (r : Shape) → ltb k 255 ≡ b → len o n ≡ x → cond b (option_map (λ m. at m (k + 1)) x) None ≡ Some r → HasShape o n k r
+has_shape o n k false x r low is e = absurd cc
+has_shape o n k true None r low is e = absurd cc
+has_shape o n k true (Some m) r low is e = record { room = ltb-true k 255 low; result = m; is = is; shape = cc }
 
-abbrev Closes : List Shape → Bool → List Token → Type 0
-Closes [] forked ts = ts ≡ []
-Closes (p ∷ ps) forked ts = (t : Node) × (rest : List Token) × IsSound p.length p.depth t × IsItem forked t × (ts ≡ pre t ++ rest) × Closes ps false rest
+pub shape_of : (o : Op) (p r : Shape) → shape_after o p ≡ Some r → HasShape o p.length p.depth r
+shape_of o p r e = has_shape o p.length p.depth (ltb p.depth 255) (len o p.length) r refl refl e
 
-last_is_item : (forked : Bool) (i : Item) → IsItem forked (last i)
-last_is_item false i = tt
-last_is_item true i = tt
+mutual
+  goes_sound : (t : Node) (n k : ℕ) → k ≤ 255 → Goes shape_after (at n k) t → IsSound n k t
+  goes_sound (last i) n k deep h = along_sound i n k deep h
+  goes_sound (more i t) n k deep h = all-append (IsSoundPath n k) (paths_of_item i) (paths t) (along_sound i n k deep h.0) (goes_sound t n k deep h.1)
 
--- an operation that is taken
-op_taken : (b : Bool) (x : Option ℕ) (g : ℕ → Open) (f : Open → Option Open) → IsClosed (option_and_then f (cond b (option_map g x) None))
-    → (b ≡ true) × (m : ℕ) × (x ≡ Some m) × IsClosed (f (g m))
-op_taken false x g f h = absurd h
-op_taken true None g f h = absurd h
-op_taken true (Some m) g f h = (refl, m, refl, h)
-
-abbrev Deep : List Shape → Type 0
-Deep ps = AllByRecursion (λ p. p.depth ≤ 255) ps
-
--- a fork, an item and the other items
-joined : (p : Shape) (ps : List Shape) (xs : List Token) → Closes (p ∷ p ∷ ps) true xs → Closes (p ∷ ps) false (token.Fork ∷ xs)
-joined p ps xs (last i, rest, sound, item, e, (others, behind, sound', item', e', more')) = (
-  more i others,
-  behind,
-  all-append (IsSoundPath p.length p.depth) (paths_of_item i) (paths others) sound sound',
-  tt,
-  ap (λ (z : List Token). token.Fork ∷ z) (e ∙ ap (λ (z : List Token). pre_item i ++ z) e' ∙ sym (append_assoc (pre_item i) (pre others) behind)),
-  more',
-)
-joined p ps xs (more i t, rest, sound, item, e, others) = absurd item
-
-closes : (ts : List Token) (ps : List Shape) (forked : Bool) → Deep ps → IsClosed (opened (open_at ps forked) ts) → Closes ps forked ts
-closes [] [] forked d h = refl
-closes [] (p ∷ ps) forked d h = absurd cc
-closes (x ∷ xs) [] forked d h = absurd h
-closes (token.Attestation a ∷ xs) (p ∷ ps) forked d h =
-    (last (attested a), xs, (record { short = let deep = d.0 in omega arith; has_result = refl }, tt), last_is_item forked (attested a), refl, closes xs ps false d.1 h)
-closes (token.Op o ∷ xs) (p ∷ ps) forked d h =
-    let k = op_taken (ltb p.depth 255) (len o p.length) (λ n. open_at (at n (p.depth + 1) ∷ ps) false) (λ u. opened u xs) h in
-    let room : p.depth < 255 = ltb-true p.depth 255 k.0 in
-    let r = closes xs (at k.1 (p.depth + 1) ∷ ps) false (omega arith, d.1) k.3 in
-    (last (step o r.0), r.1, up o p.length p.depth k.1 k.2 (paths r.0) r.2, last_is_item forked (step o r.0), ap (λ (z : List Token). token.Op o ∷ z) r.4, r.5)
-closes (token.Fork ∷ xs) (p ∷ ps) true d h = absurd h
-closes (token.Fork ∷ xs) (p ∷ ps) false d h = joined p ps xs (closes xs (p ∷ p ∷ ps) true (d.0, d) h)
+  along_sound : (i : Item) (n k : ℕ) → k ≤ 255 → GoesAlong shape_after (at n k) i → AllByRecursion (IsSoundPath n k) (paths_of_item i)
+  along_sound (attested a) n k deep h = (record { short = omega arith; has_result = refl }, tt)
+  along_sound (step o t) n k deep h =
+      let s = shape_of o (at n k) h.0 h.1 in
+      let room = s.room in
+      up o n k s.result s.is (paths t) (goes_sound t s.result (k + 1) (omega arith) (subst (λ (z : Shape). Goes shape_after z t) s.shape h.2))
 
 pub front_law : (n k : ℕ) (ts : List Token) → k ≤ 255 → IsClosed (opened (start n k) ts) ↔ IsSoundPre n k ts
-front_law n k ts deep = (
-  λ h. let c = closes ts (at n k ∷ []) false (deep, tt) h in (c.0, c.2, sym (c.4 ∙ ap (λ (z : List Token). pre c.0 ++ z) c.5 ∙ append-nil (pre c.0))),
-  λ (t, sound, is). subst (λ (z : List Token). IsClosed (opened (start n k) z)) (append-nil (pre t) ∙ is) (subst IsClosed (sym (node_closes t n k [] [] sound)) refl),
-)
+front_law n k ts deep =
+    let law = closed_law shape_after (at n k) ts in
+    (λ h. let c = law.0 h in (c.0, goes_sound c.0 n k deep c.1, c.2), λ (t, sound, is). law.1 (t, sound_goes t n k sound, is))
+
+-- ---- how many nodes are open
+
+abbrev depth : Shape → ℕ
+depth p = p.depth
+
+counts : Counts shape_after depth
+counts o s r e = let h = shape_of o s r e in let room = h.room in (ap depth h.shape, omega (arith, ap depth h.shape))
+
+pub front_room : (n k : ℕ) (ts : List Token) (s : Open) → k ≤ 255 → opened (start n k) ts ≡ Some s → length s.nodes + k ≤ 257
+front_room n k ts s low e = falls_room depth k s.nodes s.forked low (open_falls shape_after depth k counts ts (at n k) s (omega arith) low e)
+
+-- a walk that counts goes on wherever that of the lengths does
+one_deeper : IsMappedWhere depth shape_after one_more
+one_deeper o s r e = let h = counts o s r e in let low = h.1 in ap Some (omega (arith, h.0))
+
+pub front_depths : (n k : ℕ) (ts : List Token) (s : Open) → opened (start n k) ts ≡ Some s → walk.opened one_more (walk.begun k) ts ≡ Some (map_open depth s)
+front_depths n k ts s e = opened_along depth shape_after one_more one_deeper ts (start n k) s e

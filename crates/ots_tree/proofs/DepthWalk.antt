@@ -1,17 +1,21 @@
 -- The numbers of operations that a walk over the tokens of a tree counts are those of its listing.
-use Rattle.std.proofs.Common.{◌≡◌, ℕ, suc, ◌+◌, ◌-◌, ◌^◌, min, List, [], ◌∷◌, ◌++◌, map, length, take, drop, ◌≤◌, refl, sym, ap, subst, ◌∙◌, arith, append_assoc}
+use Rattle.std.proofs.Common.{◌≡◌, ℕ, suc, ◌+◌, ◌-◌, ◌^◌, min, Bool, List, [], ◌∷◌, ◌++◌, map, length, get_or, take, drop, ◌<◌, ◌≤◌, refl, sym, ap, subst, ◌∙◌, arith, append_assoc}
 use Rattle.std.specs.List.{AllByRecursion}
 use Rattle.std.proofs.lemmas.List.{append-nil, map-append, take_all, drop_all}
 use Rattle.ots_tree.specs.declared.token.Token.{Token}
-use Rattle.ots_tree.specs.Wire.{Node, Item, last, more, attested, step, pre, pre_item, IsToken}
+use Rattle.ots_tree.specs.Wire.{Node, Item, last, more, attested, step, IsPre, IsToken}
 use Rattle.ots_tree.specs.Listed.{listed, listed_item}
 use Rattle.ots_tree.specs.Kept.{depth_of, IsKept}
-use Rattle.ots_tree.specs.OpenDepths.{Depths, reopened, after}
+use Rattle.ots_tree.specs.Walk.{Open, Met, met, Position, begun, open_at, IsStep}
+use Rattle.ots_tree.specs.OpenDepths.{counted, one_more}
+use Rattle.ots_tree.proofs.Walks.{met_in, met_along, tree_met, Ends, tree_ends, moves_at}
+
+abbrev carried : Met ℕ → ℕ
+carried m = m.carried
 
 -- the number before each token
-abbrev pub walked : Depths → List Token → List ℕ
-walked s [] = []
-walked s (x ∷ xs) = s.0 ∷ walked (after x s) xs
+abbrev pub before : Open ℕ → List Token → List ℕ
+before s ts = map carried (met one_more s ts)
 
 abbrev cap : ℕ → ℕ
 cap k = min k (2 ^ 32 - 1)
@@ -19,46 +23,51 @@ cap k = min k (2 ^ 32 - 1)
 cap-suc : (k : ℕ) → min (cap k + 1) (2 ^ 32 - 1) ≡ cap (suc k)
 cap-suc k = omega arith
 
-abbrev depths_in : ℕ → Node → List ℕ
-depths_in k t = map depth_of (listed k t)
-
 mutual
-  node_walked : (t : Node) (k : ℕ) (s : List ℕ) (rest : List Token)
-      → walked (cap k, s) (pre t ++ rest) ≡ map depth_of (listed k t) ++ walked (reopened s) rest
-  node_walked (last i) k s rest = item_walked i k s rest
-  node_walked (more i t) k s rest =
-      ap (λ (z : List Token). cap k ∷ walked (cap k, cap k ∷ s) z) (append_assoc (pre_item i) (pre t) rest)
-      ∙ ap (λ (z : List ℕ). cap k ∷ z) (
-      item_walked i k (cap k ∷ s) (pre t ++ rest)
-      ∙ ap (λ (z : List ℕ). map depth_of (listed_item k i) ++ z) (node_walked t k s rest)
-      ∙ sym (append_assoc (map depth_of (listed_item k i)) (map depth_of (listed k t)) (walked (reopened s) rest))
-      ∙ ap (λ (z : List ℕ). z ++ walked (reopened s) rest) (sym (map-append depth_of (listed_item k i) (listed k t))))
+  node_counts : (t : Node) (k : ℕ) → map carried (met_in counted (cap k) t) ≡ map depth_of (listed k t)
+  node_counts (last i) k = item_counts i k
+  node_counts (more i t) k = ap (λ (z : List ℕ). cap k ∷ z) (
+      map-append carried (met_along counted (cap k) i) (met_in counted (cap k) t)
+      ∙ ap (λ (z : List ℕ). z ++ map carried (met_in counted (cap k) t)) (item_counts i k)
+      ∙ ap (λ (z : List ℕ). map depth_of (listed_item k i) ++ z) (node_counts t k)
+      ∙ sym (map-append depth_of (listed_item k i) (listed k t)))
 
-  item_walked : (i : Item) (k : ℕ) (s : List ℕ) (rest : List Token)
-      → walked (cap k, s) (pre_item i ++ rest) ≡ map depth_of (listed_item k i) ++ walked (reopened s) rest
-  item_walked (attested a) k s rest = refl
-  item_walked (step o t) k s rest =
-      ap (λ (z : ℕ). cap k ∷ walked (z, s) (pre t ++ rest)) (cap-suc k)
-      ∙ ap (λ (z : List ℕ). cap k ∷ z) (node_walked t (suc k) s rest)
+  item_counts : (i : Item) (k : ℕ) → map carried (met_along counted (cap k) i) ≡ map depth_of (listed_item k i)
+  item_counts (attested a) k = refl
+  item_counts (step o t) k = ap (λ (z : ℕ). cap k ∷ map carried (met_in counted z t)) (cap-suc k) ∙ ap (λ (z : List ℕ). cap k ∷ z) (node_counts t (suc k))
+
+-- the numbers before these tokens are those that are not noted yet
+pub record Left (all noted : List ℕ) (s : Open ℕ) (ts : List Token) : Type 0 where
+  pub numbers : noted ++ before s ts ≡ all
+  pub ends : Ends one_more s ts
+
+pub nothing_noted : (noted : List ℕ) (s : Open ℕ) (ts : List Token) → noted ≡ [] → s ≡ begun 0 → IsPre ts → Left (before (begun 0) ts) noted s ts
+nothing_noted noted s ts none is tree = record { numbers = rw (none, is) refl; ends = tree_ends counted 0 s ts is tree }
+
+pub one_noted : (all noted longer : List ℕ) (d : ℕ) (w v : Position ℕ) (going : Bool) (ts : List Token) (i : ℕ) (x : Token) → i < length ts → x ≡ get_or ts i x
+    → Left all noted (open_at w) (drop i ts) → longer ≡ noted ++ d ∷ [] → d ≡ w.last → IsStep one_more x w v going → Left all longer (open_at v) (drop (i + 1) ts)
+one_noted all noted longer d w v going ts i x low here h is last_is on =
+    let m = moves_at one_more w v going ts i x low here h.ends on in
+    let rest = before (open_at v) (drop (i + 1) ts) in
+    record {
+      numbers =
+          ap (λ (z : List ℕ). z ++ rest) is ∙ append_assoc noted (d ∷ []) rest ∙ ap (λ (z : ℕ). noted ++ z ∷ rest) last_is
+          ∙ ap (λ (z : List (Met ℕ)). noted ++ map carried z) (sym m.0) ∙ h.numbers;
+      ends = m.1;
+    }
 
 -- where no token is left
-pub end_of_walk : (tokens : List Token) (depths : List ℕ) (s : Depths) (n : ℕ) → length tokens ≤ n
-    → depths ++ walked s (drop n tokens) ≡ walked (0, []) tokens → walked (0, []) tokens ≡ depths
-end_of_walk tokens depths s n over walk =
-    sym walk ∙ ap (λ (z : List Token). depths ++ walked s z) (drop_all n tokens over) ∙ append-nil depths
+pub all_noted : (all noted : List ℕ) (s : Open ℕ) (ts : List Token) (n : ℕ) → length ts ≤ n → Left all noted s (drop n ts) → all ≡ noted
+all_noted all noted s ts n over h = sym h.numbers ∙ ap (λ (z : List Token). noted ++ before s z) (drop_all n ts over) ∙ append-nil noted
 
 pub all_taken : {A : Type 0} (P : A → Type 0) (xs : List A) (n : ℕ) → length xs ≤ n → AllByRecursion P (take n xs) → AllByRecursion P xs
 all_taken P xs n over h = subst (AllByRecursion P) (take_all n xs over) h
 
 -- the walk from the root
-pub walk_kept : (tokens : List Token) (depths : List ℕ) (t : Node) → pre t ≡ tokens → walked (0, []) tokens ≡ depths → AllByRecursion IsToken tokens → IsKept tokens depths
-walk_kept tokens depths t is walk limits = record {
+pub walk_kept : (tokens : List Token) (depths : List ℕ) → IsPre tokens → before (begun 0) tokens ≡ depths → AllByRecursion IsToken tokens → IsKept tokens depths
+walk_kept tokens depths (t, is) walk limits = record {
   node = t;
   tokens_are = is;
-  depths_are =
-      sym (append-nil (map depth_of (listed 0 t)))
-      ∙ sym (node_walked t 0 [] [])
-      ∙ ap (walked (0, [])) (append-nil (pre t) ∙ is)
-      ∙ walk;
+  depths_are = sym (node_counts t 0) ∙ sym (ap (map carried) (tree_met counted t 0)) ∙ ap (before (begun 0)) is ∙ walk;
   limits = limits;
 }

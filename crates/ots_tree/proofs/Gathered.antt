@@ -1,11 +1,11 @@
 -- Bytes that are gathered for a sink.
-use Rattle.std.proofs.Common.{◌≡◌, ℕ, ◌+◌, ◌<◌, ◌≤◌, List, [], ◌∷◌, ◌++◌, length, get_or, take, drop, Option, sym, ap, subst, ◌∙◌, arith, append_assoc, length-append}
+use Rattle.std.proofs.Common.{◌≡◌, ℕ, ◌+◌, ◌<◌, ◌≤◌, List, [], ◌∷◌, ◌++◌, length, get_or, take, drop, Option, sym, ap, subst, ◌∙◌, append_assoc}
 use Rattle.std.proofs.Math.Seq.{take-append-add, take-append_seam}
 use Rattle.std.proofs.lemmas.List.{append-nil, take-append-drop, take-append-le, take_all, take_more, length-take-le}
 use Rattle.std.proofs.lemmas.List.Concat.{flat_map-append}
 use Rattle.ots_tree.specs.declared.token.Token.{Token}
 use Rattle.ots_tree.specs.Wire.{spell, spelled}
-use Rattle.ots_outside.specs.Streams.{Takes, Takes-trans, TakesFront}
+use Rattle.ots_outside.specs.Streams.{Takes, TakesFront}
 use Rattle.ots_outside.specs.Buffered.{Buffered}
 use Rattle.ots_outside.proofs.Buffers.{all_written, front_written, held_more, moved_on}
 

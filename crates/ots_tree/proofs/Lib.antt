@@ -9,3 +9,4 @@ pub mod Numbered
 pub mod PathLengths
 pub mod PendingPaths
 pub mod Untruncated
+pub mod Walks

@@ -1,5 +1,6 @@
 pub mod Wire
 pub mod Sound
+pub mod Walk
 pub mod Front
 pub mod Listed
 pub mod Kept
@@ -9,3 +10,4 @@ pub mod Made
 pub mod LastItem
 pub mod Pending
 pub mod PendingWalk
+pub mod TokenRef

@@ -1,20 +1,12 @@
--- How a walk over the tokens of a tree counts operations. It serves the functions that walk; what
--- they count is said by `listed`.
-use Rattle.std.specs.Prelude.{ℕ, ◌+◌, ◌-◌, ◌^◌, min, List, [], ◌∷◌}
-use Rattle.ots_tree.specs.declared.token.Token.{Token}
-use Rattle.ots_tree.specs.declared.token.Token.TheVariants as token
+-- A walk over the tokens of a tree that counts operations. It serves the function that walks; what it
+-- counts is said by `listed`.
+use Rattle.std.specs.Prelude.{ℕ, ◌+◌, ◌-◌, ◌^◌, min, Option}
+use Rattle.ots_ops.specs.declared.op.Op.{Op}
+use Rattle.ots_tree.specs.Walk.{always}
 
--- the number before the next token, and those before the forks whose nodes are still open, the last one first
-abbrev pub Depths : Type 0
-Depths = ℕ × List ℕ
+-- one more, and 2^32 - 1 at most
+abbrev pub counted : Op → ℕ → ℕ
+counted o d = min (d + 1) (2 ^ 32 - 1)
 
--- at the last node that is still open
-abbrev pub reopened : List ℕ → Depths
-reopened [] = (0, [])
-reopened (k ∷ ks) = (k, ks)
-
--- behind a token
-abbrev pub after : Token → Depths → Depths
-after token.Fork s = (s.0, s.0 ∷ s.1)
-after (token.Op o) s = (min (s.0 + 1) (2 ^ 32 - 1), s.1)
-after (token.Attestation a) s = reopened s.1
+abbrev pub one_more : Op → ℕ → Option ℕ
+one_more o d = always counted o d

@@ -1,11 +1,11 @@
 //! Laws of trees.
-ghost use Rattle.std.specs.Prelude.{◌≡◌, ◌≢◌, ℕ, ◌≤◌, List, [], ◌∷◌, ◌++◌, ◌↔◌, length, map, filter};
+ghost use Rattle.std.specs.Prelude.{◌≡◌, ◌≢◌, ℕ, ◌+◌, ◌≤◌, Some, List, [], ◌∷◌, ◌++◌, ◌↔◌, length, map, filter};
 ghost use Rattle.std.specs.List.{AllByRecursion};
 ghost use Rattle.ots_attest.specs.declared.attestation.Attestation.{Attestation};
 ghost use Rattle.ots_ops.specs.declared.op.Op.{Op};
 ghost use Rattle.ots_tree.specs.Wire.{Node, pre, bytes, spell, paths, IsToken};
 ghost use Rattle.ots_tree.specs.declared.token.Token.{Token};
-ghost use Rattle.ots_tree.specs.Front.{opened, start, IsClosed};
+ghost use Rattle.ots_tree.specs.Front.{Open, opened, start, IsClosed};
 ghost use Rattle.ots_tree.specs.Sound.{IsSoundPath, IsSoundPre};
 ghost use Rattle.ots_tree.specs.Made.{chain, lone, joined, behind, IsUnder, IsBeside, IsSoundBehind};
 ghost use Rattle.ots_tree.specs.Listed.{listed, token_of, is_attestation, end_below};
@@ -17,6 +17,14 @@ use ots_base::MAX_OPERATIONS;
 /// Tokens close every node that they open exactly where they are those of a sound tree.
 pub fn fronts()
     ensures { (n k : ℕ) (ts : List Token) → k ≤ MAX_OPERATIONS → IsClosed (opened (start n k) ts) ↔ IsSoundPre n k ts }
+{}
+
+/// At most 256 nodes are open besides the last one, and as many fewer as there are operations before
+/// the root. For from the root on each open node has an operation more before it, but that one which a
+/// fork has just kept open stands twice. So who keeps room for 256 others takes no more memory.
+pub fn room_of_fronts()
+    ensures { (n k : ℕ) (ts : List Token) (front : Open) → k ≤ MAX_OPERATIONS → opened (start n k) ts ≡ Some front
+        → length front.nodes + k ≤ MAX_OPERATIONS + 2 }
 {}
 
 /// A token's spelling determines it, and begins no other token's.

@@ -12,12 +12,14 @@ mod shape;
 mod sound;
 mod spelling;
 mod token;
+mod token_ref;
 mod tree;
+mod walk;
 
 pub use detached::Detached;
 pub use laws::{
     fronts, limits_of_detached, one_listing, one_spelling, one_token, one_tree,
-    paths_of_made_trees, some_path, sound_made_trees,
+    paths_of_made_trees, room_of_fronts, some_path, sound_made_trees,
 };
 pub use length::spelled_length;
 pub use listing::listed;
@@ -27,4 +29,6 @@ pub use shape::Shape;
 pub use sound::is_sound;
 pub use spelling::{WriteFault, spell_to};
 pub use token::{Token, TokenAt, limits_of_token};
+pub use token_ref::TokenRef;
 pub use tree::{Tree, beside, from_tokens};
+pub use walk::Walk;

@@ -1,14 +1,16 @@
 //! A tree, kept as its tokens.
-ghost use Rattle.std.specs.Prelude.{◌≡◌, ◌<◌, IfOk, [], length, reverse, slice_index};
+ghost use Rattle.std.specs.Prelude.{◌≡◌, ◌<◌, IfOk, length, slice_index};
 ghost use Rattle.std.specs.List.{AllByRecursion};
 ghost use Rattle.ots_tree.specs.Wire.{IsPre, IsToken};
 ghost use Rattle.ots_tree.specs.Kept.{IsKept, beside};
 ghost use Rattle.ots_tree.specs.LastItem.{IsLastZero};
 ghost use Rattle.ots_tree.specs.Listed.{IsListed};
 ghost use Rattle.ots_tree.specs.Made.{IsBeside};
-ghost use Rattle.ots_tree.specs.OpenDepths.{after};
+ghost use Rattle.ots_tree.specs.OpenDepths.{one_more};
+ghost use Rattle.ots_tree.specs.Walk.{IsStep};
 
 use crate::token::{Token, limits_of_token};
+use crate::walk::Walk;
 use ots_base::OutOfMemory;
 use std::alloc::Global;
 use std::marker::Model;
@@ -143,28 +145,24 @@ fn depths_of(alloc: Global, tokens: &[Token]) -> Result<Vec<u32>, OutOfMemory>
     ensures { IfOk result (λ depths. IsKept tokens.now depths.items) }
 {
     let mut depths = Vec::with_capacity(alloc, tokens.len())?;
-    let mut forks = Vec::new(alloc);
-    let mut depth = 0;
+    let mut walk = Walk::begin(alloc, 0);
     for token in tokens {
         limits_of_token(token);
-        depths.push(depth)?;
-        depth = depth_behind(token, depth, &mut forks)?;
+        depths.push(walk.last())?;
+        count(&mut walk, token)?;
     }
     Ok(depths)
 }
 
-/// The number of operations before the next token: behind a fork as many as before it, behind an
-/// operation one more, and behind an attestation as many as before the last fork whose node is
-/// still open, which none is behind the last token.
-fn depth_behind(token: &Token, depth: u32, forks: &mut Vec<u32>) -> Result<u32, OutOfMemory>
-    ensures { IfOk result (λ next. (next, reverse forks.new.items) ≡ after token.now (depth, reverse forks.old.items)) }
+/// Counts one more token. Whether a node is open behind it, as one is behind each token of a tree but
+/// the last.
+fn count(walk: &mut Walk<u32>, token: &Token) -> Result<bool, OutOfMemory>
+    ensures { IfOk result (IsStep one_more token.now walk.old walk.new) }
 {
     match token {
-        Token::Fork => {
-            forks.push(depth)?;
-            Ok(depth)
-        }
-        Token::Op(_) => Ok(depth.saturating_add(1)),
-        Token::Attestation(_) => Ok(forks.pop().unwrap_or(0)),
+        Token::Fork => walk.fork()?,
+        Token::Op(_) => walk.lead(walk.last().saturating_add(1)),
+        Token::Attestation(_) => return Ok(walk.close()),
     }
+    Ok(true)
 }

@@ -331,22 +331,48 @@ fn is_sent(
     Ok(())
 }
 
+/// What the four pairs come to, in words, by the outcomes of the three conversations.
+fn in_words(alloc: Global, outcomes: [&str; 3]) -> Result<String, Fail> {
+    let [one, two, three] = outcomes;
+    Ok(format!(in alloc;
+        "http://127.0.0.1:14788 {one};https://alice.btc.calendar.opentimestamps.org skipped;http://127.0.0.1:14789 {two};http://127.0.0.1:14788 {three};"
+    )?)
+}
+
+/// Calendars that answer the three conversations, the second one with this; the call of this number
+/// fails, none for 0.
+fn calendars(alloc: Global, second: &[u8], failing: u64) -> Result<ScriptDialer, Fail> {
+    let first = good(alloc, ANSWERS[0])?;
+    let third = good(alloc, ANSWERS[2])?;
+    Ok(ScriptDialer::new(alloc, &[&first, second, &third], ROOM, &[failing])?)
+}
+
+/// At these calendars the three conversations have these outcomes, and the proof's tree becomes this.
+fn becomes(
+    rt: &impl Abort,
+    alloc: Global,
+    dialer: &mut ScriptDialer,
+    outcomes: [&str; 3],
+    tree: &[&str],
+) -> Result<(), Fail> {
+    let file = file_with(alloc, ASKING)?;
+    let upgraded = upgraded(alloc, dialer, BOTH, &file)?;
+    let asked = in_words(alloc, outcomes)?;
+    let expected = file_with(alloc, tree)?;
+    is_upgraded(rt, alloc, &upgraded, &asked, &expected)
+}
+
 #[test]
 fn pairs_are_asked_for_in_order(rt: HostRuntime) -> Result<(), Fail> {
     let alloc = rt.alloc();
-    let file = file_with(alloc, ASKING)?;
-    let first = good(alloc, ANSWERS[0])?;
     let second = good(alloc, ANSWERS[1])?;
-    let third = good(alloc, ANSWERS[2])?;
-    let mut dialer = ScriptDialer::new(alloc, &[&first, &second, &third], ROOM, &[])?;
-    let upgraded = upgraded(alloc, &mut dialer, BOTH, &file)?;
-    let expected = file_with(alloc, ALL)?;
-    is_upgraded(
+    let mut dialer = calendars(alloc, &second, 0)?;
+    becomes(
         &rt,
         alloc,
-        &upgraded,
-        "http://127.0.0.1:14788 2 tokens;https://alice.btc.calendar.opentimestamps.org skipped;http://127.0.0.1:14789 4 tokens;http://127.0.0.1:14788 2 tokens;",
-        &expected,
+        &mut dialer,
+        ["2 tokens", "4 tokens", "2 tokens"],
+        ALL,
     )?;
     let digest = "03ba204e50d126e4674c005e04d82e84c21366780af1f43bd54a37816b6ab340";
     let hashed = "1e435c479714a18ef8ed591e9e7f2452309bfbda3f342bd88382877667f563f5";
@@ -389,17 +415,9 @@ fn fails(
     outcomes: [&str; 3],
     tree: &[&str],
 ) -> Result<(), Fail> {
-    let file = file_with(alloc, ASKING)?;
-    let first = good(alloc, ANSWERS[0])?;
     let second = good(alloc, ANSWERS[1])?;
-    let third = good(alloc, ANSWERS[2])?;
-    let mut dialer = ScriptDialer::new(alloc, &[&first, &second, &third], ROOM, &[call])?;
-    let upgraded = upgraded(alloc, &mut dialer, BOTH, &file)?;
-    let [one, two, three] = outcomes;
-    let asked = format!(in alloc;
-        "http://127.0.0.1:14788 {one};https://alice.btc.calendar.opentimestamps.org skipped;http://127.0.0.1:14789 {two};http://127.0.0.1:14788 {three};"
-    )?;
-    is_upgraded(rt, alloc, &upgraded, &asked, &file_with(alloc, tree)?)
+    let mut dialer = calendars(alloc, &second, call)?;
+    becomes(rt, alloc, &mut dialer, outcomes, tree)
 }
 
 #[test]
@@ -423,15 +441,14 @@ fn each_call_that_fails(rt: HostRuntime) -> Result<(), Fail> {
 
 /// What the second answers is refused: nothing of it is joined.
 fn is_refused(rt: &impl Abort, alloc: Global, answer: &[u8], outcome: &str) -> Result<(), Fail> {
-    let file = file_with(alloc, ASKING)?;
-    let first = good(alloc, ANSWERS[0])?;
-    let third = good(alloc, ANSWERS[2])?;
-    let mut dialer = ScriptDialer::new(alloc, &[&first, answer, &third], ROOM, &[])?;
-    let upgraded = upgraded(alloc, &mut dialer, BOTH, &file)?;
-    let asked = format!(in alloc;
-        "http://127.0.0.1:14788 2 tokens;https://alice.btc.calendar.opentimestamps.org skipped;http://127.0.0.1:14789 {outcome};http://127.0.0.1:14788 2 tokens;"
-    )?;
-    is_upgraded(rt, alloc, &upgraded, &asked, &file_with(alloc, NOT_SECOND)?)
+    let mut dialer = calendars(alloc, answer, 0)?;
+    becomes(
+        rt,
+        alloc,
+        &mut dialer,
+        ["2 tokens", outcome, "2 tokens"],
+        NOT_SECOND,
+    )
 }
 
 #[test]

@@ -1,10 +1,11 @@
-use Rattle.std.proofs.Common.{◌≡◌, Some, [], drop, reverse}
+use Rattle.std.proofs.Common.{drop}
 use Rattle.std.specs.Option.{option_copied}
-use Rattle.ots_eval.specs.Walked.{walked, nothing}
+use Rattle.ots_tree.specs.Walk.{open_at}
+use Rattle.ots_eval.specs.Walked.{walked, nothing, messages}
+use Rattle.ots_eval.proofs.Messages.{Left}
 use Rattle.ots_eval.proofs.walk.best_of.Given as goal
 
--- The tokens that are left add what all add to nothing.
 abbrev pub invariant-loop-token : goal.invariant-loop-token
 invariant-loop-token l =
-    walked l.bitcoin (option_copied l.litecoin) (l.message, reverse l.forks.items) l.best (drop l.token-index l.tokens)
-    ≡ walked l.bitcoin (option_copied l.litecoin) (Some l.digest, []) nothing l.tokens
+    let litecoin = option_copied l.litecoin in
+    Left l.bitcoin litecoin (walked l.bitcoin litecoin nothing (messages l.digest l.tokens)) l.best (open_at l.walk) (drop l.token-index l.tokens)

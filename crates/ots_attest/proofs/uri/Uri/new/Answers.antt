@@ -1,7 +1,0 @@
-use Rattle.std.proofs.Common.{ap}
-use Rattle.std.specs.Prelude.{is_err}
-use Rattle.ots_attest.proofs.UriBytes.{tested}
-use Rattle.ots_attest.proofs.uri.Uri.new.Goals as goal
-
-pub invariant_of-result : goal.invariant_of-result
-invariant_of-result c = rw c.in-Ok.ensures.ok (tested c.args.text.now c.as_bytes.result.now c.check.result c.as_bytes.ensures.value c.check.ensures (ap is_err c.in_ok-check.was)).0

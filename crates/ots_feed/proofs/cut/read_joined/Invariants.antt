@@ -1,9 +1,0 @@
-use Rattle.std.proofs.Common.{◌-◌, length}
-use Rattle.ots_feed.proofs.ReadOn.{Joins}
-use Rattle.ots_feed.proofs.cut.read_joined.Given as goal
-
-abbrev pub invariant-loop-end : goal.invariant-loop-end
-invariant-loop-end l = Joins l.fn.kept.items l.piece l.kept.items l.end
-
-abbrev pub decreases-loop-end : goal.decreases-loop-end
-decreases-loop-end l = length l.piece - l.end

@@ -1,0 +1,68 @@
+-- Before the first byte, what a tree stands below may be set anew.
+use Rattle.std.proofs.Common.{◌≡◌, ℕ, ◌≤◌, Bool, true, false, List, [], ◌∷◌, Option, Some, refl, sym, ap, subst, ◌∙◌, if◌then◌else◌}
+use Rattle.ots_ops.specs.declared.op.Op.{Op}
+use Rattle.ots_ops.specs.declared.op.Op.TheVariants as op
+use Rattle.ots_tree.specs.declared.shape.Shape.{Shape}
+use Rattle.ots_tree.specs.declared.token.Token.TheVariants as token
+use Rattle.ots_tree.specs.Walk.{Position, open_at, none_open, next}
+use Rattle.ots_tree.specs.Front.{Open, start, opened}
+use Rattle.ots_reader.specs.declared.front.Front.{Front}
+use Rattle.ots_reader.specs.Front.{tokens_of, IsHeld}
+use Rattle.ots_reader.specs.OneAnswer.{IsShape}
+use Rattle.ots_reader.specs.Tokens.{Tokens, begun}
+
+abbrev of_one : Shape → List Shape → Open
+of_one s others = record { nodes = s ∷ others; forked = false }
+
+-- the walk stands at the root
+record AtRoot (whole : Bool) (others : List Shape) : Type 0 where
+  still : whole ≡ false
+  alone : others ≡ []
+
+at_root : (whole : Bool) (s : Shape) (w : Position Shape) → Some (of_one s []) ≡ Some (if whole then none_open else open_at w) → AtRoot whole w.others
+at_root true s w e =
+    let same : of_one s [] ≡ none_open = cc in
+    let nodes : s ∷ [] ≡ [] = ap (λ (z : Open). z.nodes) same in absurd cc
+at_root false s w e =
+    let same : of_one s [] ≡ open_at w = cc in
+    let nodes : s ∷ [] ≡ w.last ∷ w.others = ap (λ (z : Open). z.nodes) same in
+    record { still = refl; alone = cc }
+
+opens_there : (whole : Bool) (shape : Shape) (w v : Position Shape) → AtRoot whole w.others → Some (of_one shape w.others) ≡ Some (open_at v)
+    → Some (of_one shape []) ≡ Some (if whole then none_open else open_at v)
+opens_there true shape w v h e = let still = h.still in absurd cc
+opens_there false shape w v h e = ap (λ z. Some (of_one shape z)) (sym h.alone) ∙ e
+
+abbrev pub Leads : Position Shape → Shape → Position Shape → Type 0
+Leads w shape v = (by : Op → Shape → Option Shape) (o : Op) → by o w.last ≡ Some shape → next by (token.Op o) (open_at w) ≡ Some (open_at v)
+
+abbrev pub set_below : Front → Shape → Position Shape → Front
+set_below f shape v = record {
+  below = shape;
+  place = f.place;
+  walk = v;
+  whole = f.whole;
+  kept = f.kept;
+  at_hand = f.at_hand;
+  came = f.came;
+}
+
+pub placed : (f : Front) (shape : Shape) (v : Position Shape) → IsHeld f → tokens_of f ≡ begun f.below → IsShape shape.length shape.depth → Leads f.walk shape v → v.room ≡ f.walk.room
+    → IsHeld (set_below f shape v)
+placed f shape v h none is leads room =
+    let came = ap (λ (z : Tokens). z.came) none in
+    let opens : Some (of_one f.below []) ≡ Some (if f.whole then none_open else open_at f.walk) =
+    ap (opened (start f.below.length f.below.depth)) (sym came) ∙ h.opens in
+    let root = at_root f.whole f.below f.walk opens in
+    record {
+      shape = is;
+      fits = h.fits;
+      opens = ap (opened (start shape.length shape.depth)) came ∙ opens_there f.whole shape f.walk v root (leads (λ _ _. Some shape) op.Sha256 refl);
+      place = h.place;
+      kept = h.kept;
+      bytes = h.bytes;
+      nodes = rw room h.nodes;
+    }
+
+pub placed_begun : (f : Front) (shape : Shape) (v : Position Shape) → tokens_of f ≡ begun f.below → tokens_of (set_below f shape v) ≡ begun shape
+placed_begun f shape v none = ap (λ (z : Tokens). record { shape = shape; came = z.came; kept = z.kept; last = z.last }) none

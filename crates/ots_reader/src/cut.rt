@@ -1,0 +1,102 @@
+//! Tokens that are cut between two pieces.
+ghost use Rattle.std.specs.Prelude.{◌≡◌, ◌≤◌, ◌+◌, [], ◌++◌, length, vec_capacity};
+ghost use Rattle.ots_tree.specs.declared.token.Token.{Token};
+ghost use Rattle.ots_tree.specs.TokenRef.{token_of};
+ghost use Rattle.ots_reader.specs.Cut.{IsCut, IsSpelling, ReadsOn, ReadsWhole};
+
+use crate::fault::Reason;
+use crate::token::read_token;
+use ots_attest::MAX_SPELLED_ATTESTATION;
+use ots_tree::TokenRef;
+
+/// How many bytes of a piece are kept at once behind the first bytes of a token.
+const KEPT_AT_ONCE: usize = 64;
+
+/// The most bytes that are kept: those of the longest token, and some behind it.
+pub(crate) const MAX_KEPT: usize = MAX_SPELLED_ATTESTATION + KEPT_AT_ONCE;
+
+/// How many bytes of the piece belong to the token whose first bytes are kept, where it ends within the
+/// piece. Its spelling is kept then. Where it ends later, the piece is kept behind its first bytes. It
+/// takes no memory.
+pub(crate) fn read_on(kept: &mut Vec<u8>, piece: &[u8]) -> Result<Option<usize>, Reason>
+    requires cut { IsCut kept.old.items }
+    requires room { MAX_KEPT ≤ vec_capacity kept.old }
+    ensures read { ReadsOn kept.old.items piece.now kept.new.items result }
+    ensures room { vec_capacity kept.old ≤ vec_capacity kept.new }
+{
+    if kept.is_empty() {
+        return read_first(kept, piece);
+    }
+    read_joined(kept, piece)
+}
+
+/// The same of a token that begins with the piece.
+fn read_first(kept: &mut Vec<u8>, piece: &[u8]) -> Result<Option<usize>, Reason>
+    requires none { kept.old.items ≡ [] }
+    requires room { MAX_KEPT ≤ vec_capacity kept.old }
+    ensures read { ReadsOn [] piece.now kept.new.items result }
+    ensures room { vec_capacity kept.old ≤ vec_capacity kept.new }
+{
+    let found = token_length(piece)?;
+    let count = match found {
+        Some(used) => used,
+        None => piece.len(),
+    };
+    keep(kept, &piece[..count]);
+    Ok(found)
+}
+
+/// The same of a token whose first bytes are kept. The piece is kept behind them a few bytes at a time
+/// until it is whole, so no more is kept than one token and less than `KEPT_AT_ONCE` bytes behind it.
+/// That a token goes on shows in its first bytes and its length, so its others aren't read again and
+/// again.
+fn read_joined(kept: &mut Vec<u8>, piece: &[u8]) -> Result<Option<usize>, Reason>
+    requires cut { IsCut kept.old.items }
+    requires room { MAX_KEPT ≤ vec_capacity kept.old }
+    ensures read { ReadsOn kept.old.items piece.now kept.new.items result }
+    ensures room { vec_capacity kept.old ≤ vec_capacity kept.new }
+{
+    let start = kept.len();
+    let mut end = 0;
+    while end < piece.len() {
+        let count = KEPT_AT_ONCE.min(piece.len() - end);
+        keep(kept, &piece[end..end + count]);
+        end += count;
+        if let Some(length) = token_length(kept)? {
+            kept.truncate(length);
+            return Ok(Some(length - start));
+        }
+    }
+    Ok(None)
+}
+
+/// Keeps these bytes behind the others, where there is room for them.
+fn keep(kept: &mut Vec<u8>, bytes: &[u8])
+    requires { length kept.old.items + length bytes.now ≤ vec_capacity kept.old }
+    ensures items { kept.new.items ≡ kept.old.items ++ bytes.now }
+    ensures room { vec_capacity kept.old ≤ vec_capacity kept.new }
+{
+    kept.extend_from_slice(bytes).unwrap();
+}
+
+/// How many of the bytes spell the token at their front, where it is whole.
+fn token_length(bytes: &[u8]) -> Result<Option<usize>, Reason>
+    ensures { ReadsWhole bytes.now result }
+{
+    match read_token(bytes) {
+        Ok((_, length)) => Ok(Some(length)),
+        Err(Reason::Truncated) => Ok(None),
+        Err(reason) => Err(reason),
+    }
+}
+
+/// The token that these bytes spell, where its parts stand.
+pub(crate) fn token_in(bytes: &[u8]) -> TokenRef<'_>
+    requires { (x : Token) × IsSpelling bytes.now x }
+    ensures { (x : Token) → IsSpelling bytes.now x → token_of result ≡ x }
+{
+    match read_token(bytes) {
+        Ok((token, _)) => token,
+        Err(_) => unreachable!(),
+    }
+}

@@ -1,0 +1,10 @@
+use Rattle.ots_ops.specs.Apply.{apply}
+use Rattle.ots_attest.specs.AttestationRef.{attestation_of}
+use Rattle.ots_tree.specs.declared.token.Token.TheVariants as token
+use Rattle.ots_tree.proofs.Walks.{leads}
+use Rattle.ots_verifier.proofs.messages.Messages.follow.Goals as goal
+
+pub returns-in-Attestation : goal.returns-in-Attestation
+returns-in-Attestation c =
+    let a = attestation_of c.in-Attestation.field-0 in
+    rw c.in-Attestation.is (leads apply (token.Attestation a) c.args.self.now c.close.new.self c.close.result (c.close.ensures a))

@@ -1,0 +1,5 @@
+pub mod Following
+pub mod Messages
+pub mod Progress
+pub mod Rows
+pub mod Stage

@@ -1,0 +1,35 @@
+-- How far a proof file has come.
+use Rattle.std.specs.Prelude.{◌≡◌, ◌<◌, ◌≤◌, ℕ, List, length, take, min, Option, IsSome}
+use Rattle.ots_base.specs.declared.limits.TheConstants.{MAX_PROOF_FILE}
+use Rattle.ots_reader.specs.Tokens.{begun}
+use Rattle.ots_detached.specs.FileFault.{header_fault}
+use Rattle.ots_bitcoin.specs.HeaderTable.{Table}
+use Rattle.ots_eval.specs.Walked.{nothing}
+use Rattle.ots_verifier.specs.declared.following.Following.{Following}
+use Rattle.ots_verifier.specs.declared.progress.TheConstants.{MAX_HEADER}
+use Rattle.ots_verifier.specs.declared.progress.Progress.{Progress}
+use Rattle.ots_verifier.specs.declared.progress.State.{State}
+use Rattle.ots_verifier.specs.declared.progress.State.TheVariants.{Header, Behind, TooBig}
+use Rattle.ots_verifier.specs.Stage.{Stands}
+
+-- no byte has come of the tree
+pub record IsFresh (f : Following) : Type 0 where
+  pub reader : f.reader ≡ begun f.reader.shape
+  pub none : f.best ≡ nothing
+
+-- The header has not come whole, or is none: its first bytes are kept.
+pub record IsGathering (bytes : List ℕ) (p : Progress) : Type 0 where
+  pub counted : p.count ≡ length bytes
+  pub front : take (min p.count MAX_HEADER) p.header ≡ take MAX_HEADER bytes
+  pub bad : IsSome (header_fault (take MAX_HEADER bytes))
+  pub fresh : IsFresh p.following
+
+abbrev pub IsIn : Table → Option Table → List ℕ → Progress → State → Type 0
+IsIn bitcoin litecoin bytes p Header = IsGathering bytes p
+IsIn bitcoin litecoin bytes p (Behind s) = Stands bitcoin litecoin bytes p.count s p.following
+IsIn bitcoin litecoin bytes p TooBig = MAX_PROOF_FILE < length bytes
+
+-- These bytes have come.
+pub record HasCome (bitcoin : Table) (litecoin : Option Table) (bytes : List ℕ) (p : Progress) : Type 0 where
+  pub room : p.count ≤ MAX_PROOF_FILE
+  pub is_in : IsIn bitcoin litecoin bytes p p.state
