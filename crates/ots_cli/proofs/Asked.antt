@@ -3,13 +3,15 @@ use Rattle.std.proofs.Common.{◌≡◌, ◌⊎◌, ℕ, Bool, Bor, length, List
 use Rattle.std.proofs.lemmas.List.{length-map}
 use Rattle.std.specs.Prelude.{◌↔◌, IsTrue, IfOk, Result, Ok, Err}
 use Rattle.ots_base.specs.declared.out_of_memory.OutOfMemory.{OutOfMemory as NoMemory}
-use Rattle.ots_cli.specs.Answer.{CompletesAs, Decides, DecidesAs, PrintsInfo, WritesAsked, asked_made}
+use Rattle.ots_cli.specs.Answer.{CompletesAs, Decides, DecidesAs, PrintsInfo, TellsVerdict, WritesAsked, asked_made}
 use Rattle.ots_cli.specs.Decided.{EndsAs, IsEndingOf}
 use Rattle.ots_cli.specs.Ending.{Act, Ending, makes, prints}
-use Rattle.ots_cli.specs.Text.{asked_text, complete_status, complete_text}
+use Rattle.ots_cli.specs.Text.{asked_text, complete_status, complete_text, verdict_status, verdict_text}
 use Rattle.ots_cli.specs.declared.ending.Acts.TheVariants.{MakeBehind, Print}
 use Rattle.ots_cli.specs.declared.ending.Ending.{Ending as Decided}
 use Rattle.ots_cli.specs.declared.ending.Text.TheVariants.{Asked, Proof}
+use Rattle.ots_cli.specs.declared.ending.Text.TheVariants as text
+use Rattle.ots_eval.specs.declared.verdicts.Verdict.{Verdict}
 use Rattle.ots_cli.specs.declared.status.Status.{Status}
 use Rattle.ots_cli.specs.declared.status.Status.TheVariants.{Done}
 use Rattle.ots_detached.specs.File.{IsFileOf, file_of}
@@ -29,7 +31,7 @@ use Rattle.ots_cli.specs.Gathered as gathered
 use Rattle.ots_cli.specs.Gathered.{AreOffline, Suits, SuitsStamp, SuitsUpgrade}
 use Rattle.ots_cli.specs.declared.inputs.Inputs.{Inputs}
 use Rattle.ots_cli.specs.declared.inputs.Inputs.TheVariants as inputs
-use Rattle.ots_words.specs.Words.{Command, Stamping, Upgrading, info, canon, merge, prune, verify, stamp, upgrade}
+use Rattle.ots_words.specs.Words.{Command, Stamping, Upgrading, info, canon, merge, prune, verify, stamp, upgrade, sample}
 
 module _ {D : Type 0} (told : D → DialerTold) (faults : D → ℕ) where
   same_told : (old new : D) → new ≡ old → KeepsTold told faults old new
@@ -86,6 +88,7 @@ module _ {D : Type 0} (told : D → DialerTold) (faults : D → ℕ) where
     asks_nobody (inputs.Verify v) old new m n offline h = h
     asks_nobody (inputs.Stamp s) old new m n offline h = absurd offline
     asks_nobody (inputs.Upgrade calendars proof to) old new m n offline h = absurd offline
+    asks_nobody (inputs.Sample s) old new m n offline h = h
 
     asks_calendars : (names : Option Names) (u : Upgrading) (i : Inputs) (old new : D) (m n : N) → SuitsUpgrade names u i → gathered.AsksFor told faults left i old new m n
         → AsksUpTo told faults names u old new
@@ -94,6 +97,7 @@ module _ {D : Type 0} (told : D → DialerTold) (faults : D → ℕ) where
     asks_calendars names u (inputs.Merge first second to) old new m n suits h = absurd suits
     asks_calendars names u (inputs.Verify v) old new m n suits h = absurd suits
     asks_calendars names u (inputs.Stamp s) old new m n suits h = absurd suits
+    asks_calendars names u (inputs.Sample s) old new m n suits h = absurd suits
     asks_calendars names u (inputs.Upgrade calendars proof to) old new m n suits h = record {
       calendars = calendars.items;
       is_list = suits.0;
@@ -109,6 +113,7 @@ module _ {D : Type 0} (told : D → DialerTold) (faults : D → ℕ) where
     submits names s (inputs.Merge first second to) old new m n suits h = absurd suits
     submits names s (inputs.Verify v) old new m n suits h = absurd suits
     submits names s (inputs.Upgrade calendars proof to) old new m n suits h = absurd suits
+    submits names s (inputs.Sample i) old new m n suits h = absurd suits
     submits names s (inputs.Stamp i) old new m n suits (inl same) = inl same
     submits names s (inputs.Stamp i) old new m n suits (inr h) = inr (record {
       calendars = i.calendars.items;
@@ -132,6 +137,7 @@ module _ {D : Type 0} (told : D → DialerTold) (faults : D → ℕ) where
     asks_of names (verify v) i old new m n suits h = asks_nobody i old new m n suits h
     asks_of names (stamp s) i old new m n suits h = submits names s i old new m n suits h
     asks_of names (upgrade u) i old new m n suits h = inr (asks_calendars names u i old new m n suits h)
+    asks_of names (sample k) i old new m n suits h = asks_nobody i old new m n suits h
 
     -- nothing was asked
     pub asks_none : (names : Option Names) (c : Option Command) (d : D) (m : N) → Asks told faults left names c d d m m
@@ -143,6 +149,7 @@ module _ {D : Type 0} (told : D → DialerTold) (faults : D → ℕ) where
     asks_none names (Some (verify v)) d m = refl
     asks_none names (Some (stamp s)) d m = inl refl
     asks_none names (Some (upgrade u)) d m = inl refl
+    asks_none names (Some (sample n)) d m = refl
 
   -- conversations in which nothing is drawn
   pub heard_alone : {N : Type 0} (left : N → Option (List ℕ)) (draw_faults : N → ℕ) (old new : D) (m : N) (o : Outside) → Hears told faults old new o
@@ -168,6 +175,7 @@ module _ {N : Type 0} (left : N → Option (List ℕ)) where
   draws_none (Some (verify v)) m = refl
   draws_none (Some (stamp s)) m = record { nonces = []; few = omega arith; mid = m; draws = refl; left_stay = refl }
   draws_none (Some (upgrade u)) m = refl
+  draws_none (Some (sample n)) m = refl
 
   draws_nothing : (i : Inputs) (m n : N) → AreOffline i → gathered.DrawsOf left i m n → n ≡ m
   draws_nothing (inputs.Info proof) m n offline h = h
@@ -176,6 +184,7 @@ module _ {N : Type 0} (left : N → Option (List ℕ)) where
   draws_nothing (inputs.Verify v) m n offline h = h
   draws_nothing (inputs.Stamp s) m n offline h = absurd offline
   draws_nothing (inputs.Upgrade calendars proof to) m n offline h = h
+  draws_nothing (inputs.Sample s) m n offline h = h
 
   of_upgrade : (names : Option Names) (u : Upgrading) (i : Inputs) (m n : N) → SuitsUpgrade names u i → gathered.DrawsOf left i m n → n ≡ m
   of_upgrade names u (inputs.Info proof) m n suits h = h
@@ -183,6 +192,7 @@ module _ {N : Type 0} (left : N → Option (List ℕ)) where
   of_upgrade names u (inputs.Merge first second to) m n suits h = h
   of_upgrade names u (inputs.Verify v) m n suits h = h
   of_upgrade names u (inputs.Stamp s) m n suits h = absurd suits
+  of_upgrade names u (inputs.Sample s) m n suits h = absurd suits
   of_upgrade names u (inputs.Upgrade calendars proof to) m n suits h = h
 
   of_stamp : (names : Option Names) (s : Stamping) (i : Inputs) (m n : N) → SuitsStamp names s i → gathered.DrawsOf left i m n → DrawsSome left (length s.files) m n
@@ -191,6 +201,7 @@ module _ {N : Type 0} (left : N → Option (List ℕ)) where
   of_stamp names s (inputs.Merge first second to) m n suits h = absurd suits
   of_stamp names s (inputs.Verify v) m n suits h = absurd suits
   of_stamp names s (inputs.Upgrade calendars proof to) m n suits h = absurd suits
+  of_stamp names s (inputs.Sample i) m n suits h = absurd suits
   of_stamp names s (inputs.Stamp i) m n suits h =
       subst (λ (z : ℕ). DrawsSome left z m n) (sym (length-map i.files.items _) ∙ ap length suits.files) h
 
@@ -202,6 +213,7 @@ module _ {N : Type 0} (left : N → Option (List ℕ)) where
   draws_of names (verify v) i m n suits h = draws_nothing i m n suits h
   draws_of names (stamp s) i m n suits h = of_stamp names s i m n suits h
   draws_of names (upgrade u) i m n suits h = of_upgrade names u i m n suits h
+  draws_of names (sample k) i m n suits h = draws_nothing i m n suits h
 
 -- ---- what is decided
 
@@ -233,6 +245,9 @@ asked_ends asked to p complete s e is bitcoin file h =
     (h.acts.2 ∙ ap (λ (z : List ℕ). prints z ∷ makes to.now (file_of p) ∷ prints (complete_text complete) ∷ []) h.acts.1))
 
 -- the text of a proof is printed
+pub printed_verdict : (v : Verdict) (s : Status) (e : Ending) → s ≡ verdict_status v → IsEndingOf (record { status = s; acts = Print (text.Verdict v) }) e → TellsVerdict v e
+printed_verdict v s e is h = ending_is e (verdict_status v) (prints (verdict_text v) ∷ []) (h.status ∙ is) (h.acts.2 ∙ ap (λ (z : List ℕ). prints z ∷ []) h.acts.1)
+
 pub printed_info : (p : Detached) (e : Ending) → IsEndingOf (record { status = Done; acts = Print (Proof p) }) e → PrintsInfo p e
 printed_info p e h = (
   h.acts.0,

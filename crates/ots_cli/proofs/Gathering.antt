@@ -148,6 +148,22 @@ reads_none {told = told} h = record {
   writing = refl;
 }
 
+-- Memory ran out before more is read.
+pub runs_short : {B : Type 0} {names : List (List ℕ)} {gives : Option Names → B → Type 0} {refuses : Option Names → Ending → Type 0} {told : ShelfTold} {faults : ShelfFaults}
+    (r : Result B Stop) → IsErrAnd r (λ stop. stop.cause ≡ OutOfMemory) → Reads names gives refuses told told faults faults r
+runs_short (Ok x) short = absurd short
+runs_short {B} {names} {gives} {refuses} {told} {faults} (Err stop) short = record {
+  given = tt;
+  stopped = subst (λ (z : InputError). StopsFor (refuses told.names) (StopsAt names told.opened told.opened faults faults) stop.name.now z) (sym short) tt;
+  opened = tt;
+  front = (0, none_opened told.opened);
+  names = refl;
+  slots = λ k. refl;
+  short = λ enough. absurd (enough short);
+  later = record { opening = omega arith; reading = omega arith; writing = omega arith };
+  writing = refl;
+}
+
 -- What was read is seen as something else.
 pub reads_as : {A B : Type 0} {names : List (List ℕ)} {gives : Option Names → A → Type 0} {takes : Option Names → B → Type 0} {refuses : Option Names → Ending → Type 0}
     {old new : ShelfTold} {before now : ShelfFaults} {x : A} {y : B} → (gives old.names x → takes old.names y)

@@ -17,3 +17,5 @@ mod Counting
 mod OneStamp
 mod Submitted
 mod Completeness
+pub mod Short
+mod Sampled

@@ -22,8 +22,10 @@ use Rattle.ots_cli.specs.declared.rewriting.Rewriting.TheVariants.{Canon, Prune}
 use Rattle.ots_canon.specs.Join.{IsMergeOf}
 use Rattle.ots_canon.proofs.Lawful.{one_form, one_join, one_prune}
 use Rattle.ots_cli.specs.Found.{HasUnder, IsHashOf, RefusesProof, too_big, bad_proof, RefusesTable, cut, too_many, RefusesTarget}
-use Rattle.ots_cli.specs.Text.{verdict_status, verdict_text}
-use Rattle.ots_words.specs.Words.{Command, HeaderFile, Verification, info, canon, merge, prune, verify, stamp, upgrade}
+use Rattle.ots_cli.specs.Text.{sample_text, verdict_status, verdict_text}
+use Rattle.ots_sample.specs.declared.outcome.Sample.{Sample}
+use Rattle.ots_sample.proofs.OneSample.{one_sample}
+use Rattle.ots_words.specs.Words.{Command, HeaderFile, Verification, info, canon, merge, prune, verify, stamp, upgrade, sample}
 use Rattle.ots_cli.specs.Asking.{IsOffline, Outside, alone}
 use Rattle.ots_cli.specs.Answer.{Answers, AnswersAs, Comes, as_defined, not_read, PrintsInfo, UnlessFailed, PrintsVerdict, RefusesInput, no_file, refuses, WithInput, is_given, is_refused, WithProof, WithTable, WithPerhapsTable, WithTarget, VerifiesTarget, VerifiesProof, VerifiesBy, Verifies, Writes, too_long, is_made, WritesOf, Merges, differ, joined}
 use Rattle.ots_cli.specs.CarriedOut.{Ends, carried_out, no_memory, status_over}
@@ -208,6 +210,8 @@ one_answer o q names (Some (prune from to)) d e alone f g = rewrites names Prune
 one_answer o q names (Some (verify v)) d e alone f g = verifies names v d e f g
 one_answer o q names (Some (stamp s)) d e alone f g = absurd alone
 one_answer o q names (Some (upgrade u)) d e alone f g = absurd alone
+one_answer o q names (Some (sample n)) d e alone f g =
+    f.2 ∙ ap (λ (z : Sample). printing (verdict_status z.verdict) (sample_text z)) (one_sample n f.0 g.0 f.1 g.1) ∙ sym g.2
 
 -- ---- the status that is answered
 

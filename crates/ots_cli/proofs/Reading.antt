@@ -21,9 +21,13 @@ use Rattle.ots_bitcoin.specs.HeaderTable.{Table}
 use Rattle.ots_bitcoin.specs.TableRead.{IsTableOf, ReadsTable}
 use Rattle.ots_bitcoin.specs.declared.headers.HeadersError.{HeadersError}
 use Rattle.ots_bitcoin.specs.declared.headers.HeadersError.TheVariants as headers
+use Rattle.ots_verifier.specs.declared.checked.Checked.{Checked}
+use Rattle.ots_verifier.specs.declared.source.SourceError.{SourceError}
+use Rattle.ots_verifier.specs.declared.source.SourceError.TheVariants as source
+use Rattle.ots_verifier.specs.Source.{ChecksSource, IsChecked}
 use Rattle.ots_cli.specs.declared.status.Status.{Status}
 use Rattle.ots_cli.specs.declared.input.InputError.{InputError}
-use Rattle.ots_cli.specs.Found.{IsUnder, IsHashOf, IsRefusal, ReadsInput, RefusesProof, too_big, bad_proof, RefusesTable, cut, too_many, RefusesTarget, refused_headers, refused_proof, refused_target}
+use Rattle.ots_cli.specs.Found.{IsUnder, IsHashOf, IsRefusal, ReadsInput, RefusesProof, too_big, bad_proof, RefusesTable, cut, too_many, RefusesTarget, refused_headers, refused_proof, refused_source, refused_target}
 
 -- The bytes that came begin what is under the name, and are all of it where the end was reached.
 record IsFront (told : Option Names) (name came : List ℕ) (whole : Type 0) : Type 0 where
@@ -68,6 +72,24 @@ module _ (told : Option Names) (name : List ℕ) (left after : Option (List ℕ)
 
   pub proof_read : (p : Detached) → ReadsFile left after (Ok p) → ReadsInput told name IsFileOf RefusesProof (Ok p)
   proof_read p read =
+      let f = front told name left after read.came some is read.gave in
+      (f.bytes, f.under, rw (f.all read.tells.0) read.tells.1)
+
+  -- a proof that is verified as it is read
+  pub checked_refused : (bitcoin : Table) (litecoin : Option Table) (e : SourceError) → ChecksSource bitcoin litecoin left after (Err e) → IsRefusal told name RefusesProof (refused_source e)
+  checked_refused bitcoin litecoin source.ReadFault read = tt
+  checked_refused bitcoin litecoin source.TooBig read =
+      let f = front told name left after read.came some is read.gave in
+      let long = read.tells in
+      let longer = f.longer in
+      (f.bytes, f.under, too_big (omega arith) refl)
+  checked_refused bitcoin litecoin (source.BadProof fault) read =
+      let f = front told name left after read.came some is read.gave in
+      let all = f.all read.tells.0 in
+      (f.bytes, f.under, rw all (bad_proof fault read.tells.1 read.tells.2 refl))
+
+  pub checked_read : (bitcoin : Table) (litecoin : Option Table) (c : Checked) → ChecksSource bitcoin litecoin left after (Ok c) → ReadsInput told name (IsChecked bitcoin litecoin) RefusesProof (Ok c)
+  checked_read bitcoin litecoin c read =
       let f = front told name left after read.came some is read.gave in
       (f.bytes, f.under, rw (f.all read.tells.0) read.tells.1)
 

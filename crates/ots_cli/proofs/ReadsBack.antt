@@ -11,7 +11,7 @@ use Rattle.ots_cli.specs.declared.status.Status.{Status}
 use Rattle.ots_cli.specs.declared.status.Status.TheVariants.{Done, No, Usage, BadProof, NoFile, Exists, ReadFault, WriteFault, TooBig, TooFew, NonceFault, FileTooLong, BadAddress, Differs, OutOfMemory}
 use Rattle.ots_cli.specs.Ending.{Ending, makes, printing, prints}
 use Rattle.ots_cli.specs.Asking.{IsOffline, Outside}
-use Rattle.ots_cli.specs.Text.{asked_text, complete_status, complete_text}
+use Rattle.ots_cli.specs.Text.{asked_text, complete_status, complete_text, verdict_status}
 use Rattle.ots_upgrade.specs.Asked.{AskedAt}
 use Rattle.ots_cli.specs.Answer.{Answers, AnswersAs, Comes, are_hashed, one_refused, is_list, is_bad, WritesAsked, asked_too_long, asked_made, as_defined, not_read, PrintsVerdict, RefusesInput, no_file, refuses, is_given, is_refused, WithPerhapsTable, WithProof, WithTable, WithTarget, Writes, too_long, is_made, Merges, differ, joined, VerifiesBy, VerifiesProof, VerifiesTarget}
 use Rattle.ots_cli.specs.CarriedOut.{CarriesOut, Ends, carried_out, no_memory}
@@ -21,7 +21,7 @@ use Rattle.ots_tree.specs.declared.token.Token.{Token}
 use Rattle.ots_upgrade.specs.Stamped.{good_trees}
 use Rattle.ots_upgrade.specs.declared.target.Target.{Target}
 use Rattle.ots_cli.specs.ReadsBack.{IsDoneOrNo, IsOutput, IsOutputAsked, IsResultOf, Leaves, ReadsBack}
-use Rattle.ots_words.specs.Words.{Command, HeaderFile, info, canon, merge, prune, verify, stamp, upgrade}
+use Rattle.ots_words.specs.Words.{Command, HeaderFile, info, canon, merge, prune, verify, stamp, upgrade, sample}
 use Rattle.ots_cli.proofs.Outcome.{EndsWith, HasStamp, IsPlain, MakesOnly, carried_leaves, carried_status, done_making, get_inserted, is_plain, never, stamps_done}
 
 -- ---- an ending that was carried out with Done
@@ -98,6 +98,7 @@ module _ (writing lost : Type 0) (names : Names) (new : Option Names) (taken now
       → CarriesOut writing lost e.status e.acts (Some names) new taken now r → ReadsBack happens names c to new
   result happens o heard (info name) to e out a h = absurd out
   result happens o heard (verify v) to e out a h = absurd out
+  result happens o heard (sample n) to e out a h = absurd out
   result happens o heard (canon from w) to e out (is_refused a) h = absurd (not_refused from e a h)
   result happens o heard (canon from w) to e out (is_given p (b, at, is) (q, made, writes)) h =
       let x = written w q e writes h in back happens o heard (canon from w) to x.0 q (under_output w to x.0 out x.1) x.2 (b, at, (p, is, made))
@@ -203,6 +204,7 @@ IsStampAsked (Some (prune from to)) name = ⊥
 IsStampAsked (Some (verify v)) name = ⊥
 IsStampAsked (Some (stamp s)) name = IsOutput (stamp s) name
 IsStampAsked (Some (upgrade u)) name = ⊥
+IsStampAsked (Some (sample n)) name = ⊥
 
 none_stamped : (c : Option Command) → IsOffline c → (name : List ℕ) → IsStampAsked c name → ⊥
 none_stamped None offline name h = h
@@ -213,6 +215,7 @@ none_stamped (Some (prune from to)) offline name h = h
 none_stamped (Some (verify v)) offline name h = h
 none_stamped (Some (stamp s)) offline name h = offline
 none_stamped (Some (upgrade u)) offline name h = h
+none_stamped (Some (sample n)) offline name h = h
 
 -- the proofs of the files from the i-th on
 only_stamps : (P : List ℕ → Type 0) (targets : List Target) (trees : List (List Token)) (i : ℕ) (files : List (List ℕ))
@@ -235,6 +238,7 @@ makes_only o told (Some (verify v)) e a =
     only_table none none told v.bitcoin (VerifiesBy told v) e
     (λ b. only_perhaps none none told v.litecoin (VerifiesProof told v b) e
     (λ l. only_proof none none told v.proof (VerifiesTarget told v.target b l) e (λ p. only_target none none told v.target p.hash p b l e))) a
+makes_only o told (Some (sample n)) e a = only_text none none e (verdict_status a.0.verdict) _ a.2
 makes_only o told (Some (upgrade u)) e (is_bad place https bad f) = only_text (λ name. u.to ≡ name) none e (BadAddress place https) _ f
 makes_only o told (Some (upgrade u)) e (is_list calendars is a) =
     only_proof (λ name. u.to ≡ name) none told u.proof _ e (λ p made. only_asked (λ name. u.to ≡ name) none made.0 u.to made.1 e refl made.3) a

@@ -19,7 +19,7 @@ use Rattle.ots_cli.proofs.Outcome.{Failed, MayEnd, only_prints, outcome}
 use Rattle.ots_cli.specs.Found.{RefusesTarget, too_big, bad_proof, cut, too_many}
 use Rattle.ots_cli.specs.Taken.{IsProof, TakesProofs, proofs_read}
 use Rattle.ots_cli.specs.Text.{verdict_status}
-use Rattle.ots_words.specs.Words.{Command, HeaderFile, info, canon, merge, prune, verify, stamp, upgrade, Stamping}
+use Rattle.ots_words.specs.Words.{Command, HeaderFile, info, canon, merge, prune, verify, stamp, upgrade, sample, Stamping}
 
 -- the status of an ending is this one, of which it is said
 of_status : (names : Names) (proofs : List (List ℕ)) (s t : Status) → s ≡ t → TakesProofs names proofs t → TakesProofs names proofs s
@@ -136,6 +136,7 @@ module _ (names : Names) (e : Ending) (s : Status) (may : MayEnd e s) where
   takes o (stamp w) (is_bad place https is f) = of_text [] (BadAddress place https) _ f tt
   takes o (upgrade u) (is_list calendars is h) = of_proof u.proof [] _ (λ p completes. of_asked completes.0 u.to completes.1 completes.3) h
   takes o (upgrade u) (is_bad place https is f) = of_text (u.proof ∷ []) (BadAddress place https) _ f tt
+  takes o (sample n) h = of_text [] (verdict_status h.0.verdict) _ h.2 (of_verdict h.0.verdict)
   takes o (verify v) h =
       of_table v.bitcoin (v.proof ∷ []) (VerifiesBy (Some names) v)
       (λ b. of_perhaps_table v.litecoin (v.proof ∷ []) (VerifiesProof (Some names) v b)

@@ -26,13 +26,15 @@ use Rattle.ots_cli.specs.Ending.{Ending, makes, printing, prints, refused}
 use Rattle.ots_cli.specs.Refusal.{refusal_text}
 use Rattle.ots_cli.specs.Found.{AreHashed, IsUnder, HasUnder, IsHashOf, RefusesProof, RefusesTable, RefusesTarget}
 use Rattle.ots_info.specs.Listing.{IsInfoText}
-use Rattle.ots_cli.specs.Text.{verdict_status, verdict_text}
+use Rattle.ots_cli.specs.Text.{sample_text, verdict_status, verdict_text}
+use Rattle.ots_sample.specs.Sample.{IsSample}
+use Rattle.ots_sample.specs.declared.outcome.Sample.{Sample}
 use Rattle.ots_canon.specs.Join.{HaveOnePair, IsMergeOf}
 use Rattle.ots_cli.specs.Rewritten.{IsRewritten}
 use Rattle.ots_cli.specs.declared.rewriting.Rewriting.TheVariants.{Canon, Prune}
 use Rattle.ots_cli.specs.Stamping.{Stamps}
 use Rattle.ots_cli.specs.declared.inputs.Submission.{Submission}
-use Rattle.ots_words.specs.Words.{Command, HeaderFile, Stamping, Upgrading, Verification, info, canon, merge, prune, verify, stamp, upgrade, texts}
+use Rattle.ots_words.specs.Words.{Command, HeaderFile, Stamping, Upgrading, Verification, info, canon, merge, prune, verify, stamp, upgrade, sample, texts}
 
 -- ---- where nothing of the outside fails
 
@@ -103,9 +105,11 @@ pub data Merges (name : List ℕ) (first second : Detached) (e : Ending) : Type 
   joined : (r : Detached) → IsMergeOf first second r → Writes name r e → Merges name first second e
 
 -- The verdict is printed.
+abbrev pub TellsVerdict : Verdict → Ending → Type 0
+TellsVerdict v e = e ≡ printing (verdict_status v) (verdict_text v)
+
 abbrev pub PrintsVerdict : Detached → Table → Option Table → List ℕ → Ending → Type 0
-PrintsVerdict proof bitcoin litecoin digest e =
-    (v : Verdict) × IsVerdict proof digest bitcoin litecoin v × (e ≡ printing (verdict_status v) (verdict_text v))
+PrintsVerdict proof bitcoin litecoin digest e = (v : Verdict) × IsVerdict proof digest bitcoin litecoin v × TellsVerdict v e
 
 -- The headers of Bitcoin are read, those of Litecoin where they are given, then the proof, and the target is hashed by
 -- the hash of the proof.
@@ -164,6 +168,10 @@ pub data WithHashes (told : Option Names) (names : List (List ℕ)) (goes_on : L
 abbrev pub StampsFiles : Outside → Option Names → Stamping → Ending → Type 0
 StampsFiles o told s e = WithList s.calendars (λ calendars. WithHashes told s.files (Stamps o s.least s.files calendars)) e
 
+-- A proof of so many paths is made by the rule and verified, and what is told of it is printed.
+abbrev pub Samples : ℕ → Ending → Type 0
+Samples n e = (s : Sample) × IsSample n s × (e ≡ printing (verdict_status s.verdict) (sample_text s))
+
 -- Words of no command's form are refused. What an ending rests on besides the names is what happens outside.
 abbrev pub Answers : Outside → Option Names → Option Command → Ending → Type 0
 Answers o told None e = e ≡ refused [] Usage
@@ -174,6 +182,7 @@ Answers o told (Some (prune from to)) e = WithProof told from (λ p. WritesOf to
 Answers o told (Some (verify v)) e = Verifies told v e
 Answers o told (Some (stamp s)) e = StampsFiles o told s e
 Answers o told (Some (upgrade u)) e = Upgrades o told u e
+Answers o told (Some (sample n)) e = Samples n e
 
 -- The same, where it happened so outside.
 abbrev pub AnswersAs : (Outside → Type 0) → Option Names → Option Command → Ending → Type 0
@@ -191,9 +200,10 @@ abbrev pub Decides : Outside → Inputs → Ending → Type 0
 Decides o (inputs.Info proof) e = PrintsInfo proof e
 Decides o (inputs.Rewrite way proof to) e = WritesOf to.now (IsRewritten way proof) e
 Decides o (inputs.Merge first second to) e = Merges to.now first second e
-Decides o (inputs.Verify v) e = PrintsVerdict v.proof v.bitcoin v.litecoin v.digest e
+Decides o (inputs.Verify v) e = TellsVerdict v e
 Decides o (inputs.Stamp s) e = DecidesStamps o s e
 Decides o (inputs.Upgrade calendars proof to) e = Completes o calendars.items proof to.now e
+Decides o (inputs.Sample s) e = Samples s.paths e
 
 abbrev pub CompletesAs : (Outside → Type 0) → List AddressParts → Detached → List ℕ → Ending → Type 0
 CompletesAs happens calendars p to e = (o : Outside) × happens o × Completes o calendars p to e

@@ -15,7 +15,7 @@ use Rattle.ots_upgrade.specs.Stamped.{IsDepth, leaves}
 use Rattle.ots_upgrade.specs.Stamping.{to_stamp}
 use Rattle.ots_cli.specs.Drawing.{Draws, DrawsOrFails, DrawsSome}
 use Rattle.ots_cli.specs.Found.{AreHashed, HasUnder}
-use Rattle.ots_words.specs.Words.{Command, Stamping, Upgrading, info, canon, merge, prune, verify, stamp, upgrade}
+use Rattle.ots_words.specs.Words.{Command, Stamping, Upgrading, info, canon, merge, prune, verify, stamp, upgrade, sample}
 
 pub record Outside : Type 0 where
   -- the nonces that were drawn, in order, where drawing did not fail
@@ -50,6 +50,7 @@ IsOffline (Some (prune from to)) = Unit {0}
 IsOffline (Some (verify v)) = Unit {0}
 IsOffline (Some (stamp s)) = ⊥
 IsOffline (Some (upgrade u)) = ⊥
+IsOffline (Some (sample n)) = Unit {0}
 
 -- Of what the proof under a name asks these calendars, some was asked in order, the last of it perhaps in part.
 pub record AsksUpTo {D : Type 0} (told : D → DialerTold) (faults : D → ℕ) (names : Option Names) (u : Upgrading) (old new : D) : Type 0 where
@@ -84,6 +85,7 @@ DrawsFor left (Some (prune from to)) old new = new ≡ old
 DrawsFor left (Some (verify v)) old new = new ≡ old
 DrawsFor left (Some (stamp s)) old new = DrawsSome left (length s.files) old new
 DrawsFor left (Some (upgrade u)) old new = new ≡ old
+DrawsFor left (Some (sample n)) old new = new ≡ old
 
 -- What a command asks, whatever its status is: nothing, or some of what it is to ask.
 abbrev pub Asks : {D N : Type 0} → (D → DialerTold) → (D → ℕ) → (N → Option (List ℕ)) → Option Names → Option Command → D → D → N → N → Type 0
@@ -95,3 +97,4 @@ Asks told faults left names (Some (prune from to)) old new before now = new ≡ 
 Asks told faults left names (Some (verify v)) old new before now = new ≡ old
 Asks told faults left names (Some (stamp s)) old new before now = (new ≡ old) ⊎ StampsUpTo told faults left names s old new before now
 Asks told faults left names (Some (upgrade u)) old new before now = (new ≡ old) ⊎ AsksUpTo told faults names u old new
+Asks told faults left names (Some (sample n)) old new before now = new ≡ old

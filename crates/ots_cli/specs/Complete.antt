@@ -1,6 +1,6 @@
--- When `stamp` and `upgrade` do their work: where the files are there, the outputs are not, and calendars answer well enough,
--- no refusal comes, unless something of the outside failed or memory ran out.
-use Rattle.std.specs.Prelude.{◌≡◌, ◌≤◌, ℕ, List, length, slice_get, Some, None}
+-- When `stamp`, `upgrade` and `sample` do their work: where the files are there, the outputs are not, and calendars answer
+-- well enough, no refusal comes, unless something of the outside failed or memory ran out. A sample is always verified.
+use Rattle.std.specs.Prelude.{◌≡◌, ◌≤◌, ◌⊎◌, ℕ, List, length, slice_get, Some, None}
 use Rattle.std.specs.FinMap as map
 use Rattle.ots_address.specs.Address.{AddressParts}
 use Rattle.ots_address.specs.AddressList.{IsListOf}
@@ -50,3 +50,7 @@ IsDoneUnlessFailed WriteFault = Unit {0}
 IsDoneUnlessFailed NonceFault = Unit {0}
 IsDoneUnlessFailed OutOfMemory = Unit {0}
 IsDoneUnlessFailed other = ⊥
+
+-- The work was done; or the sink failed, of which `printing` says that it counted a fault; or memory ran out.
+abbrev pub IsDoneUnlessLost : Type 0 → Status → Type 0
+IsDoneUnlessLost printing s = (s ≡ Done) ⊎ (printing × (s ≡ WriteFault)) ⊎ (s ≡ OutOfMemory)

@@ -21,7 +21,7 @@ use Rattle.ots_cli.specs.declared.inputs.Submission.{Submission}
 use Rattle.ots_cli.specs.declared.status.Status.TheVariants.{Done, TooFew}
 use Rattle.ots_cli.specs.Stamping.{StampedFiles, calendars_text, proof_name, stamp_acts, wrote_text}
 use Rattle.ots_words.specs.Words.{texts}
-use Rattle.ots_cli.specs.Text.{asked_text, complete_text, verdict_text}
+use Rattle.ots_cli.specs.Text.{asked_text, complete_text, sample_text, verdict_text}
 
 -- a text, where a run ends with this status
 abbrev pub IsTextOf : Status → Text → List ℕ → Type 0
@@ -32,6 +32,7 @@ IsTextOf status (text.Asked asked) bytes = bytes ≡ asked_text asked
 IsTextOf status (text.Complete complete) bytes = bytes ≡ complete_text complete
 IsTextOf status (text.Calendars replies) bytes = bytes ≡ calendars_text replies.now.calendars.items replies.now.outcomes.items
 IsTextOf status (text.Wrote name) bytes = bytes ≡ wrote_text name.now
+IsTextOf status (text.Sample s) bytes = bytes ≡ sample_text s
 
 -- the proof of each file is made, and told
 abbrev pub acts_of_stamped : StampedFiles → List Act

@@ -18,6 +18,8 @@ use Rattle.ots_detached.specs.declared.reading.FileError.TheVariants as reading
 use Rattle.ots_bitcoin.specs.TableRead.{IsCut}
 use Rattle.ots_bitcoin.specs.declared.headers.HeadersError.{HeadersError}
 use Rattle.ots_bitcoin.specs.declared.headers.HeadersError.TheVariants as headers
+use Rattle.ots_verifier.specs.declared.source.SourceError.{SourceError}
+use Rattle.ots_verifier.specs.declared.source.SourceError.TheVariants as source
 use Rattle.ots_cli.specs.declared.status.Status.{Status}
 use Rattle.ots_cli.specs.declared.status.Status.TheVariants as status
 use Rattle.ots_cli.specs.declared.input.InputError.{InputError}
@@ -89,6 +91,11 @@ refused_proof reading.ReadFault = ReadFault
 refused_proof reading.TooBig = TooBig
 refused_proof (reading.BadProof f) = BadProof f
 refused_proof reading.OutOfMemory = OutOfMemory
+
+abbrev pub refused_source : SourceError → InputError
+refused_source source.ReadFault = ReadFault
+refused_source source.TooBig = TooBig
+refused_source (source.BadProof f) = BadProof f
 
 abbrev pub refused_headers : HeadersError → InputError
 refused_headers headers.ReadFault = ReadFault

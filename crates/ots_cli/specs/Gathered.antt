@@ -11,7 +11,7 @@ use Rattle.ots_upgrade.specs.Conversation.{ConverseUpTo}
 use Rattle.ots_upgrade.specs.declared.target.Target.{Target}
 use Rattle.ots_upgrade.specs.Stamped.{IsDepth, leaves}
 use Rattle.ots_upgrade.specs.Stamping.{to_stamp}
-use Rattle.ots_words.specs.Words.{Command, Stamping, Upgrading, info, canon, merge, prune, verify, stamp, upgrade, texts}
+use Rattle.ots_words.specs.Words.{Command, Stamping, Upgrading, info, canon, merge, prune, verify, stamp, upgrade, sample, texts}
 use Rattle.ots_cli.specs.Drawing.{Draws, DrawsSome}
 use Rattle.ots_cli.specs.declared.inputs.Submission.{Submission}
 use Rattle.ots_cli.specs.declared.inputs.Inputs.{Inputs}
@@ -126,6 +126,7 @@ AsksFor told faults left (inputs.Merge first second to) old new before now = new
 AsksFor told faults left (inputs.Verify v) old new before now = new ≡ old
 AsksFor told faults left (inputs.Stamp s) old new before now = (new ≡ old) ⊎ SubmitsUpTo told faults left s old new before now
 AsksFor told faults left (inputs.Upgrade calendars proof to) old new before now = UpgradesUpTo told faults calendars.items proof old new
+AsksFor told faults left (inputs.Sample s) old new before now = new ≡ old
 
 -- What is drawn for inputs: nothing, or a nonce for each file that is stamped, as far as it came.
 abbrev pub DrawsOf : {N : Type 0} → (N → Option (List ℕ)) → Inputs → N → N → Type 0
@@ -135,6 +136,7 @@ DrawsOf left (inputs.Merge first second to) old new = new ≡ old
 DrawsOf left (inputs.Verify v) old new = new ≡ old
 DrawsOf left (inputs.Stamp s) old new = DrawsSome left (length s.files.items) old new
 DrawsOf left (inputs.Upgrade calendars proof to) old new = new ≡ old
+DrawsOf left (inputs.Sample s) old new = new ≡ old
 
 -- Nobody is to be asked.
 abbrev pub AreOffline : Inputs → Type 0
@@ -144,6 +146,7 @@ AreOffline (inputs.Merge first second to) = Unit {0}
 AreOffline (inputs.Verify v) = Unit {0}
 AreOffline (inputs.Stamp s) = ⊥
 AreOffline (inputs.Upgrade calendars proof to) = ⊥
+AreOffline (inputs.Sample s) = Unit {0}
 
 -- The calendars of the list are to be asked for the proof under the name.
 abbrev pub SuitsUpgrade : Option Names → Upgrading → Inputs → Type 0
@@ -152,6 +155,7 @@ SuitsUpgrade told u (inputs.Rewrite way proof to) = ⊥
 SuitsUpgrade told u (inputs.Merge first second to) = ⊥
 SuitsUpgrade told u (inputs.Verify v) = ⊥
 SuitsUpgrade told u (inputs.Stamp s) = ⊥
+SuitsUpgrade told u (inputs.Sample s) = ⊥
 SuitsUpgrade told u (inputs.Upgrade calendars proof to) = IsListOf u.calendars calendars.items × HasUnder told u.proof (λ bytes. IsFileOf bytes proof)
 
 -- The calendars of the list are to be asked for the files under these names.
@@ -167,6 +171,7 @@ SuitsStamp told s (inputs.Merge first second to) = ⊥
 SuitsStamp told s (inputs.Verify v) = ⊥
 SuitsStamp told s (inputs.Stamp i) = IsSubmissionOf told s i
 SuitsStamp told s (inputs.Upgrade calendars proof to) = ⊥
+SuitsStamp told s (inputs.Sample i) = ⊥
 
 -- whom these inputs of a command are for
 abbrev pub Suits : Option Names → Command → Inputs → Type 0
@@ -177,3 +182,4 @@ Suits told (prune from to) i = AreOffline i
 Suits told (verify v) i = AreOffline i
 Suits told (stamp s) i = SuitsStamp told s i
 Suits told (upgrade u) i = SuitsUpgrade told u i
+Suits told (sample n) i = AreOffline i

@@ -16,3 +16,4 @@ pub mod Taken
 pub mod CarriedOut
 pub mod Complete
 pub mod Gathered
+pub mod Bounded

@@ -5,7 +5,7 @@ use Rattle.ots_base.specs.Cause.{Rose}
 use Rattle.ots_outside.specs.Shelf.{ShelfFaults}
 use Rattle.ots_cli.specs.declared.input.InputError.{InputError}
 use Rattle.ots_cli.specs.declared.input.InputError.TheVariants.{ReadFault}
-use Rattle.ots_words.specs.Words.{Command, HeaderFile, info, canon, merge, prune, verify, stamp, upgrade}
+use Rattle.ots_words.specs.Words.{Command, HeaderFile, info, canon, merge, prune, verify, stamp, upgrade, sample}
 
 -- the name of headers that may be given
 abbrev pub names_of : Option HeaderFile → List (List ℕ)
@@ -21,6 +21,7 @@ names_read (Some (merge first second to)) = first ∷ second ∷ []
 names_read (Some (prune from to)) = from ∷ []
 names_read (Some (stamp s)) = s.files
 names_read (Some (upgrade u)) = u.proof ∷ []
+names_read (Some (sample n)) = []
 names_read (Some (verify v)) = v.bitcoin.name ∷ names_of v.litecoin ++ v.proof ∷ v.target ∷ []
 
 -- These names were opened, in this order, as a shelf tells the names that were opened.

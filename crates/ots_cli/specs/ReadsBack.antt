@@ -18,7 +18,7 @@ use Rattle.ots_cli.specs.Found.{AreHashed, HasUnder}
 use Rattle.ots_cli.specs.Stamping.{AreAsked, IsStampAt, proof_name}
 use Rattle.ots_cli.specs.Rewritten.{IsRewritten}
 use Rattle.ots_cli.specs.declared.rewriting.Rewriting.TheVariants.{Canon, Prune}
-use Rattle.ots_words.specs.Words.{Command, Stamping, info, canon, merge, prune, verify, stamp, upgrade}
+use Rattle.ots_words.specs.Words.{Command, Stamping, info, canon, merge, prune, verify, stamp, upgrade, sample}
 
 -- the names that a command writes
 abbrev pub IsOutput : Command → List ℕ → Type 0
@@ -29,6 +29,7 @@ IsOutput (prune from to) name = to ≡ name
 IsOutput (verify v) name = ⊥
 IsOutput (stamp s) name = (i : ℕ) × (file : List ℕ) × (slice_get s.files i ≡ Some file) × (proof_name file ≡ name)
 IsOutput (upgrade u) name = u.to ≡ name
+IsOutput (sample n) name = ⊥
 
 abbrev pub IsOutputAsked : Option Command → List ℕ → Type 0
 IsOutputAsked None name = ⊥
@@ -62,6 +63,7 @@ IsResultOf o names (merge first second to) name r = HasUnder (Some names) first 
     × HasUnder (Some names) second (λ c. (q : Detached) × IsFileOf c q × IsMergeOf p q r))
 IsResultOf o names (prune from to) name r = HasUnder (Some names) from (λ bytes. (p : Detached) × IsFileOf bytes p × IsRewritten Prune p r)
 IsResultOf o names (verify v) name r = ⊥
+IsResultOf o names (sample n) name r = ⊥
 IsResultOf o names (stamp s) name r = IsStampedFile o names s name r
 IsResultOf o names (upgrade u) name r = HasUnder (Some names) u.proof (λ bytes. (p : Detached) × IsFileOf bytes p
     × (calendars : List AddressParts) × IsListOf u.calendars calendars × (asked : List AskedAt) × IsUpgradeOf o calendars p asked r)

@@ -12,7 +12,7 @@ use Rattle.ots_detached.specs.FileFault.{HasFault}
 use Rattle.ots_cli.specs.declared.status.Status.{Status}
 use Rattle.ots_cli.specs.declared.status.Status.TheVariants.{Done, No, BadProof, Exists, TooBig, FileTooLong, Differs}
 use Rattle.ots_cli.specs.Found.{HasUnder}
-use Rattle.ots_words.specs.Words.{Command, info, canon, merge, prune, verify, stamp, upgrade}
+use Rattle.ots_words.specs.Words.{Command, info, canon, merge, prune, verify, stamp, upgrade, sample}
 
 -- the names of the proofs that a command reads, in order
 abbrev pub proofs_read : Command → List (List ℕ)
@@ -23,6 +23,7 @@ proofs_read (prune from to) = from ∷ []
 proofs_read (verify v) = v.proof ∷ []
 proofs_read (stamp s) = []
 proofs_read (upgrade u) = u.proof ∷ []
+proofs_read (sample n) = []
 
 -- The bytes under the name spell a sound proof.
 abbrev pub IsProof : Names → List ℕ → Type 0

@@ -1,6 +1,7 @@
--- The line of a verdict, and what is printed of an upgraded proof; and the status that comes with each.
+-- The line of a verdict, and what is printed of an upgraded proof and of a sample; and the status that comes with each.
 use Rattle.std.specs.Prelude.{ℕ, Bool, true, false, List, ◌++◌, codes, decimal}
 use Rattle.std.specs.List.{flat_map}
+use Rattle.hex.specs.Hex.{encode_lower}
 use Rattle.ots_lines.specs.Lines.{asked_line}
 use Rattle.ots_upgrade.specs.Asked.{AskedAt}
 use Rattle.ots_eval.specs.declared.verdicts.Chain.{Chain}
@@ -8,6 +9,7 @@ use Rattle.ots_eval.specs.declared.verdicts.Chain.TheVariants as chain
 use Rattle.ots_eval.specs.declared.verdicts.Verdict.{Verdict}
 use Rattle.ots_eval.specs.declared.verdicts.Verdict.TheVariants.{Yes, NoDigest, NoPath}
 use Rattle.ots_info.specs.Listing.{line}
+use Rattle.ots_sample.specs.declared.outcome.Sample.{Sample}
 use Rattle.ots_cli.specs.declared.status.Status.{Status}
 use Rattle.ots_cli.specs.declared.status.Status.TheVariants.{Done, No}
 
@@ -24,6 +26,12 @@ abbrev pub verdict_status : Verdict → Status
 verdict_status (Yes c height time) = Done
 verdict_status NoDigest = No
 verdict_status NoPath = No
+
+-- a line for each number and for the digest of the canonical proof's file, and the line of the verdict
+abbrev pub sample_text : Sample → List ℕ
+sample_text s =
+    line (codes "paths " ++ decimal s.paths) ++ line (codes "bytes " ++ decimal s.length) ++ line (codes "digest " ++ encode_lower s.digest)
+    ++ verdict_text s.verdict
 
 -- a line for each pair that a proof asks for
 abbrev pub asked_text : List AskedAt → List ℕ

@@ -1,16 +1,17 @@
 //! The second step of a run: what the inputs of a command mean. Nothing is opened, made or printed
 //! here; calendars are asked, where a command is to ask them.
-ghost use Rattle.std.specs.Prelude.{◌≡◌, ◌<◌, ◌↔◌, IsTrue, length, IfOk};
+ghost use Rattle.std.specs.Prelude.{◌≡◌, ◌<◌, ◌↔◌, IsTrue, length, IfOk, IsOk};
 ghost use Rattle.ots_detached.specs.File.{file_of};
-ghost use Rattle.ots_cli.specs.Answer.{CompletesAs, DecidesAs, Merges, PrintsVerdict, Writes, WritesAsked};
+ghost use Rattle.ots_cli.specs.Answer.{CompletesAs, DecidesAs, Merges, Samples, Writes, WritesAsked};
 ghost use Rattle.ots_cli.specs.Asking.{Happens, Hears};
 ghost use Rattle.ots_cli.specs.Gathered.{AsksFor, DrawsOf};
 ghost use Rattle.ots_upgrade.specs.Upgrading.{UpgradesUpTo};
 ghost use Rattle.ots_cli.specs.Decided.{EndsAs};
+ghost use Rattle.ots_eval.specs.declared.verdicts.Verdict.{Verdict};
 ghost use Rattle.ots_cli.specs.declared.status.Status.TheVariants.{Differs};
 
 use crate::ending::{Acts, Ending, Text};
-use crate::inputs::{Evidence, Inputs};
+use crate::inputs::Inputs;
 use crate::rewriting::rewritten;
 use crate::stamping::stamped;
 use crate::status::Status;
@@ -19,11 +20,12 @@ use ots_address::Address;
 use ots_base::{MAX_PROOF_FILE, OutOfMemory};
 use ots_canon::MergeError;
 use ots_detached::{file_length, written_file};
-use ots_eval::verdict;
 use ots_outside::{Dialer, Nonces};
 use ots_pending::has_bitcoin;
+use ots_sample::sample;
 use ots_tree::Detached;
 use ots_upgrade::{AskedList, Upgraded, upgrade_with};
+use ots_words::Sampling;
 use std::alloc::Global;
 
 /// How the command ends that has these inputs.
@@ -36,6 +38,7 @@ pub fn decide<'a, D: Dialer, N: Nonces>(
     ensures decided { IfOk result (EndsAs (DecidesAs (Happens D.told D.faults N.left N.faults dialer.old dialer.new nonces.old nonces.new) inputs.entry)) }
     ensures asks { AsksFor D.told D.faults N.left inputs.entry dialer.old dialer.new nonces.old nonces.new }
     ensures draws { DrawsOf N.left inputs.entry nonces.old nonces.new }
+    ensures verdict { (v : Verdict) → inputs.entry ≡ Inputs.Verify v → IsOk result }
 {
     match inputs {
         Inputs::Info(proof) => Ok(Ending {
@@ -47,9 +50,13 @@ pub fn decide<'a, D: Dialer, N: Nonces>(
             Ok(written(to, made))
         }
         Inputs::Merge(first, second, to) => merged(alloc, &first, &second, to),
-        Inputs::Verify(evidence) => judged(alloc, &evidence),
+        Inputs::Verify(verdict) => Ok(Ending {
+            status: verdict_status(verdict),
+            acts: Acts::Print(Text::Verdict(verdict)),
+        }),
         Inputs::Stamp(submission) => stamped(alloc, submission, dialer, nonces),
         Inputs::Upgrade(calendars, proof, to) => upgraded(alloc, &calendars, &proof, to, dialer),
+        Inputs::Sample(sampling) => sampled(alloc, sampling),
     }
 }
 
@@ -102,20 +109,14 @@ fn differing(first: &Detached, second: &Detached) -> Status
     }
 }
 
-/// The verdict is printed.
-fn judged<'a>(alloc: Global, on: &Evidence) -> Result<Ending<'a>, OutOfMemory>
-    ensures { IfOk result (EndsAs (PrintsVerdict on.now.proof on.now.bitcoin on.now.litecoin on.now.digest)) }
+/// A sample is made, and what is told of it is printed.
+fn sampled<'a>(alloc: Global, sampling: Sampling) -> Result<Ending<'a>, OutOfMemory>
+    ensures { IfOk result (EndsAs (Samples sampling.paths)) }
 {
-    let verdict = verdict(
-        alloc,
-        &on.proof,
-        &on.digest,
-        &on.bitcoin,
-        on.litecoin.as_ref(),
-    )?;
+    let sample = sample(alloc, sampling.paths)?;
     Ok(Ending {
-        status: verdict_status(verdict),
-        acts: Acts::Print(Text::Verdict(verdict)),
+        status: verdict_status(sample.verdict),
+        acts: Acts::Print(Text::Sample(sample)),
     })
 }
 

@@ -5,6 +5,7 @@ ghost use Rattle.ots_cli.specs.Ending.{refused};
 use crate::replies::{Replies, Stamped};
 use crate::status::Status;
 use ots_eval::Verdict;
+use ots_sample::Sample;
 use ots_tree::Detached;
 use ots_upgrade::AskedList;
 
@@ -50,6 +51,8 @@ pub enum Text<'a> {
     Wrote(&'a str),
     /// Whether an upgraded proof has a path that ends in Bitcoin.
     Complete(bool),
+    /// What `sample` prints.
+    Sample(Sample),
 }
 
 impl<'a> Ending<'a> {

@@ -1,19 +1,22 @@
 //! The first step of a run: all that a command reads, in order.
 ghost use Rattle.std.specs.Prelude.{Some, IfOk};
 ghost use Rattle.std.specs.Option.{option_map};
-ghost use Rattle.ots_cli.specs.Answer.{Answers, Decides, DecidesStamps, HasPerhapsTable, PrintsVerdict, RefusesPerhapsTable, StampsFiles, Verifies};
+ghost use Rattle.ots_cli.specs.Answer.{Answers, Decides, DecidesStamps, HasPerhapsTable, RefusesPerhapsTable, StampsFiles, TellsVerdict, Verifies};
 ghost use Rattle.ots_cli.specs.Asking.{Outside};
+ghost use Rattle.ots_cli.specs.Bounded.{Bounds, RunsShort};
 ghost use Rattle.ots_cli.specs.Ending.{Ending};
-ghost use Rattle.ots_cli.specs.Gathered.{IsSubmissionOf, Reads, Suits};
+ghost use Rattle.ots_cli.specs.Gathered.{IsSubmissionOf, RanOut, Reads, Suits};
 ghost use Rattle.ots_cli.specs.Opened.{names_of, names_read};
 ghost use Rattle.ots_words.specs.Words.{read_as, read_header_file, read_stamping, read_verification, texts, verify};
 
 use crate::hashing::hash_targets;
-use crate::input::{Stop, hash_target, read_headers, read_list, read_proof};
-use crate::inputs::{Evidence, Inputs, Submission};
+use crate::input::{Stop, check_proof, hash_target, read_headers, read_list, read_proof};
+use crate::inputs::{Inputs, Submission};
 use crate::rewriting::Rewriting;
 use ots_bitcoin::Headers;
+use ots_eval::Verdict;
 use ots_outside::Shelf;
+use ots_verifier::Verifier;
 use ots_words::{Command, HeaderFile, Stamping, Verification};
 use std::alloc::Global;
 
@@ -26,6 +29,7 @@ pub fn gather<'a, S: Shelf>(
     ensures reads { (o : Outside) → Reads (names_read (Some (read_as command.entry))) (λ told inputs. (e : Ending) → Decides o inputs e → Answers o told (Some (read_as command.entry)) e)
         (λ told. Answers o told (Some (read_as command.entry))) (S.told shelf.old) (S.told shelf.new) (S.faults shelf.old) (S.faults shelf.new) result }
     ensures suits { IfOk result (Suits (S.told shelf.old).names (read_as command.entry)) }
+    ensures bounded { Bounds (read_as command.entry) (S.told shelf.old) (S.told shelf.new) result }
 {
     match command {
         Command::Info(name) => {
@@ -46,8 +50,8 @@ pub fn gather<'a, S: Shelf>(
             Ok(Inputs::Rewrite(Rewriting::Prune, proof, to))
         }
         Command::Verify(verification) => {
-            let evidence = gather_evidence(alloc, verification, shelf)?;
-            Ok(Inputs::Verify(evidence))
+            let verdict = gather_verdict(alloc, verification, shelf)?;
+            Ok(Inputs::Verify(verdict))
         }
         Command::Stamp(stamping) => {
             let submission = gather_submission(alloc, stamping, shelf)?;
@@ -58,6 +62,7 @@ pub fn gather<'a, S: Shelf>(
             let proof = read_proof(alloc, upgrading.proof, shelf)?;
             Ok(Inputs::Upgrade(calendars, proof, upgrading.to))
         }
+        Command::Sample(sampling) => Ok(Inputs::Sample(sampling)),
     }
 }
 
@@ -81,26 +86,24 @@ fn gather_submission<'a, S: Shelf>(
     })
 }
 
-/// All that a verdict rests on.
-fn gather_evidence<'a, S: Shelf>(
+/// The verdict on all that it rests on. The proof is verified as it is read, and memory is taken for that
+/// before it is opened: from then on only the shelf can run out of memory.
+fn gather_verdict<'a, S: Shelf>(
     alloc: Global,
     verification: Verification<'a>,
     shelf: &mut S,
-) -> Result<Evidence, Stop<'a>>
-    ensures { Reads (names_read (Some (verify (read_verification verification.entry))))
-        (λ told v. (e : Ending) → PrintsVerdict v.proof v.bitcoin v.litecoin v.digest e → Verifies told (read_verification verification.entry) e)
+) -> Result<Verdict, Stop<'a>>
+    ensures reads { Reads (names_read (Some (verify (read_verification verification.entry))))
+        (λ told v. (e : Ending) → TellsVerdict v e → Verifies told (read_verification verification.entry) e)
         (λ told. Verifies told (read_verification verification.entry)) (S.told shelf.old) (S.told shelf.new) (S.faults shelf.old) (S.faults shelf.new) result }
+    ensures bounded { RanOut result → RunsShort (read_verification verification.entry) (S.told shelf.old) (S.told shelf.new) }
 {
     let bitcoin = read_headers(alloc, verification.bitcoin, shelf)?;
     let litecoin = read_perhaps_headers(alloc, verification.litecoin, shelf)?;
-    let proof = read_proof(alloc, verification.proof, shelf)?;
-    let digest = hash_target(verification.target, proof.hash, shelf)?;
-    Ok(Evidence {
-        bitcoin,
-        litecoin,
-        proof,
-        digest,
-    })
+    let verifier = Verifier::begin(alloc, &bitcoin, litecoin.as_ref())?;
+    let checked = check_proof(verification.proof, verifier, shelf)?;
+    let digest = hash_target(verification.target, checked.hash, shelf)?;
+    Ok(checked.verdict(&digest))
 }
 
 /// The headers that may be given.

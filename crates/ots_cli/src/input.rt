@@ -1,20 +1,23 @@
 //! Reading an input by its name: the only code that opens one. And lists, which the words give themselves.
-ghost use Rattle.std.specs.Prelude.{◌≡◌, ◌≤◌, ◌-◌, ◌^◌, MatchResult};
+ghost use Rattle.std.specs.Prelude.{◌≡◌, ◌≤◌, ◌-◌, ◌^◌, [], IsErrOf, MatchResult};
+ghost use Rattle.ots_base.specs.Cause.{Rose};
 ghost use Rattle.ots_address.specs.AddressList.{IsListOf};
 ghost use Rattle.ots_detached.specs.File.{IsFileOf};
 ghost use Rattle.ots_bitcoin.specs.TableRead.{IsTableOf};
-ghost use Rattle.ots_cli.specs.Gathered.{IfBadList, ReadsName, ReadsUnder};
-ghost use Rattle.ots_cli.specs.Found.{IsHashOf, RefusesProof, RefusesTable, RefusesTarget, refused_headers, refused_open, refused_proof, refused_target, status_of};
+ghost use Rattle.ots_verifier.specs.Source.{IsChecked};
+ghost use Rattle.ots_cli.specs.Gathered.{IfBadList, RanOut, ReadsName, ReadsUnder};
+ghost use Rattle.ots_cli.specs.Found.{IsHashOf, RefusesProof, RefusesTable, RefusesTarget, refused_headers, refused_open, refused_proof, refused_source, refused_target, status_of};
 
 use crate::status::Status;
 use ots_address::{Address, AddressError, read_addresses};
-use ots_base::MAX_TARGET_FILE;
+use ots_base::{MAX_TARGET_FILE, OutOfMemory};
 use ots_bitcoin::{Headers, HeadersError};
 use ots_detached::{FileError, HashError, hash_source, read_file};
 use ots_ops::{Digest, HashOp};
 use ots_outside::{OpenError, Shelf, SlotSource};
 use ots_reader::Fault;
 use ots_tree::Detached;
+use ots_verifier::{Checked, SourceError, Verifier, check_source};
 use ots_words::HeaderFile;
 use std::alloc::{AllocError, AllocFailed, Global};
 
@@ -44,6 +47,19 @@ impl<'a, T: Drop> From<AllocFailed<T>> for Stop<'a> {
     ghost from_gives = { λ _ stop. stop.cause ≡ OutOfMemory };
 
     fn from(_: AllocFailed<T>) -> Self {
+        Stop {
+            name: "",
+            cause: InputError::OutOfMemory,
+        }
+    }
+}
+
+impl<'a> From<OutOfMemory> for Stop<'a> {
+    ghost use Rattle.ots_cli.specs.declared.input.InputError.TheVariants.{OutOfMemory};
+
+    ghost from_gives = { λ _ stop. stop.cause ≡ OutOfMemory };
+
+    fn from(_: OutOfMemory) -> Self {
         Stop {
             name: "",
             cause: InputError::OutOfMemory,
@@ -116,6 +132,18 @@ impl From<FileError> for InputError {
     }
 }
 
+impl From<SourceError> for InputError {
+    ghost from_gives = { λ e r. r ≡ refused_source e };
+
+    fn from(error: SourceError) -> Self {
+        match error {
+            SourceError::ReadFault => InputError::ReadFault,
+            SourceError::TooBig => InputError::TooBig,
+            SourceError::BadProof(fault) => InputError::BadProof(fault),
+        }
+    }
+}
+
 impl From<HeadersError> for InputError {
     ghost from_gives = { λ e r. r ≡ refused_headers e };
 
@@ -180,6 +208,41 @@ fn proof_under<S: Shelf>(alloc: Global, name: &str, shelf: &mut S) -> Result<Det
     Ok(read?)
 }
 
+/// What the proof confirms whose file a name's whole input is, by a verifier to which nothing was fed. Memory
+/// runs out only where the shelf has none to open the name. All that it tells of names and slots stays.
+pub fn check_proof<'a, S: Shelf>(
+    name: &'a str,
+    verifier: Verifier<'_>,
+    shelf: &mut S,
+) -> Result<Checked, Stop<'a>>
+    requires { verifier.bytes ≡ [] }
+    ensures reads { ReadsName (IsChecked verifier.entry.bitcoin verifier.entry.litecoin) RefusesProof name.entry.now
+        (S.told shelf.old) (S.told shelf.new) (S.faults shelf.old) (S.faults shelf.new) result }
+    ensures short { RanOut result → Rose (S.told shelf.old).short (S.told shelf.new).short }
+{
+    match checked_under(name, verifier, shelf) {
+        Ok(checked) => Ok(checked),
+        Err(cause) => Err(Stop { name, cause }),
+    }
+}
+
+/// The same, without the name.
+fn checked_under<S: Shelf>(
+    name: &str,
+    verifier: Verifier<'_>,
+    shelf: &mut S,
+) -> Result<Checked, InputError>
+    requires { verifier.bytes ≡ [] }
+    ensures reads { ReadsUnder (IsChecked verifier.entry.bitcoin verifier.entry.litecoin) RefusesProof name.now
+        (S.told shelf.old) (S.told shelf.new) (S.faults shelf.old) (S.faults shelf.new) result }
+    ensures short { IsErrOf result InputError.OutOfMemory → Rose (S.told shelf.old).short (S.told shelf.new).short }
+{
+    let slot = shelf.open(name)?;
+    let checked = check_source(verifier, &mut SlotSource::new(shelf, slot));
+    shelf.close(slot);
+    Ok(checked?)
+}
+
 /// The header table that a name's whole input is. All that the shelf tells of names and slots stays.
 pub fn read_headers<'a, S: Shelf>(
     alloc: Global,
@@ -214,14 +277,15 @@ fn headers_under<S: Shelf>(
     Ok(read?)
 }
 
-/// The digest that a hash makes of a name's whole input. All that the shelf tells of names and slots
-/// stays.
+/// The digest that a hash makes of a name's whole input. Memory runs out only where the shelf has none to
+/// open the name. All that it tells of names and slots stays.
 pub fn hash_target<'a, S: Shelf>(
     name: &'a str,
     hash: HashOp,
     shelf: &mut S,
 ) -> Result<Digest, Stop<'a>>
-    ensures { ReadsName (IsHashOf hash) RefusesTarget name.entry.now (S.told shelf.old) (S.told shelf.new) (S.faults shelf.old) (S.faults shelf.new) result }
+    ensures reads { ReadsName (IsHashOf hash) RefusesTarget name.entry.now (S.told shelf.old) (S.told shelf.new) (S.faults shelf.old) (S.faults shelf.new) result }
+    ensures short { RanOut result → Rose (S.told shelf.old).short (S.told shelf.new).short }
 {
     match digest_under(name, hash, shelf) {
         Ok(digest) => Ok(digest),
@@ -231,7 +295,8 @@ pub fn hash_target<'a, S: Shelf>(
 
 /// The same, without the name.
 fn digest_under<S: Shelf>(name: &str, hash: HashOp, shelf: &mut S) -> Result<Digest, InputError>
-    ensures { ReadsUnder (IsHashOf hash) RefusesTarget name.now (S.told shelf.old) (S.told shelf.new) (S.faults shelf.old) (S.faults shelf.new) result }
+    ensures reads { ReadsUnder (IsHashOf hash) RefusesTarget name.now (S.told shelf.old) (S.told shelf.new) (S.faults shelf.old) (S.faults shelf.new) result }
+    ensures short { IsErrOf result InputError.OutOfMemory → Rose (S.told shelf.old).short (S.told shelf.new).short }
 {
     let slot = shelf.open(name)?;
     let hashed = hash_source(&mut SlotSource::new(shelf, slot), hash, MAX_TARGET_FILE);

@@ -5,9 +5,10 @@ ghost use Rattle.ots_words.specs.declared.limits.TheConstants.{MAX_STAMPED};
 
 use crate::rewriting::Rewriting;
 use ots_address::Address;
-use ots_bitcoin::Headers;
+use ots_eval::Verdict;
 use ots_ops::Digest;
 use ots_tree::Detached;
+use ots_words::Sampling;
 
 /// The inputs of a command, and the name that its result is written under.
 #[derive(Drop)]
@@ -18,12 +19,14 @@ pub enum Inputs<'a> {
     Rewrite(Rewriting, Detached, &'a str),
     /// `merge`: both proofs.
     Merge(Detached, Detached, &'a str),
-    /// `verify`: all that a verdict rests on.
-    Verify(Evidence),
+    /// `verify`: the verdict on all that it reads.
+    Verify(Verdict),
     /// `stamp`: the files, and the calendars that are asked to timestamp them.
     Stamp(Submission<'a>),
     /// `upgrade`: the calendars that may be asked, and the proof.
     Upgrade(Vec<Address>, Detached, &'a str),
+    /// `sample`: how many paths the proof is to have.
+    Sample(Sampling),
 }
 
 /// Files that calendars are asked to timestamp.
@@ -41,16 +44,4 @@ pub struct Submission<'a> {
     pub ghost most: { length files.items ≤ MAX_STAMPED },
     pub ghost each: { length digests.items ≡ length files.items },
     pub ghost sha256: { All (λ digest. length digest ≡ 32) digests.items },
-}
-
-/// What a verdict rests on.
-#[derive(Drop)]
-pub struct Evidence {
-    /// The headers of Bitcoin.
-    pub bitcoin: Headers,
-    /// The headers of Litecoin, where they are given.
-    pub litecoin: Option<Headers>,
-    pub proof: Detached,
-    /// The digest of the target, by the hash of the proof.
-    pub digest: Digest,
 }

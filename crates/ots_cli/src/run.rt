@@ -4,13 +4,14 @@ ghost use Rattle.std.specs.declared.option.Option.{Option};
 ghost use Rattle.ots_base.specs.Cause.{Rose};
 ghost use Rattle.ots_cli.specs.Answer.{AnswersAs, Comes};
 ghost use Rattle.ots_cli.specs.Asking.{Asks, DrawsFor, Happens, IsOffline};
+ghost use Rattle.ots_cli.specs.Bounded.{BoundsEnd, RunsShort};
 ghost use Rattle.ots_cli.specs.CarriedOut.{Ends, EndsExactly};
-ghost use Rattle.ots_cli.specs.Complete.{CanStamp, CanUpgrade, IsDoneUnlessFailed};
+ghost use Rattle.ots_cli.specs.Complete.{CanStamp, CanUpgrade, IsDoneUnlessFailed, IsDoneUnlessLost};
 ghost use Rattle.ots_cli.specs.Gathered.{ComesToEnd};
 ghost use Rattle.ots_cli.specs.Opened.{OpensFront, StopsAt, names_read};
 ghost use Rattle.ots_cli.specs.ReadsBack.{IsDoneOrNo, IsOutput, IsOutputAsked, Leaves, ReadsBack};
 ghost use Rattle.ots_cli.specs.Taken.{TakesProofs, proofs_read};
-ghost use Rattle.ots_words.specs.Words.{Command as Asked, Stamping, Upgrading, Verification, asked, read_as, stamp, upgrade, verify};
+ghost use Rattle.ots_words.specs.Words.{Command as Asked, Stamping, Upgrading, Verification, asked, read_as, sample, stamp, upgrade, verify};
 ghost use Rattle.ots_cli.specs.Yes.{HasFiles, IsDoneExactlyWhere, SaysYes};
 ghost use Rattle.ots_bitcoin.specs.HeaderTable.{Table};
 ghost use Rattle.ots_tree.specs.declared.detached.Detached.{Detached};
@@ -23,6 +24,7 @@ use crate::gather::gather;
 use crate::status::Status;
 use ots_base::OutOfMemory;
 use ots_outside::{Dialer, Nonces, Shelf, Sink};
+use ots_sample::verdict_of_sample;
 use ots_words::{Command, WordsError, read_words};
 use std::alloc::Global;
 
@@ -55,6 +57,7 @@ pub fn run_client<S: Shelf, K: Sink, D: Dialer, N: Nonces>(
         (StopsAt (names_read (asked words.now)) (S.told shelf.old).opened (S.told shelf.new).opened (S.faults shelf.old) (S.faults shelf.new)))
         (Rose (S.faults shelf.old).writing (S.faults shelf.new).writing) (Rose (K.faults out.old) (K.faults out.new))
         (S.told shelf.old).names (S.told shelf.new).names (K.taken out.old) (K.taken out.new) result }
+    ensures bounded { (v : Verification) → asked words.now ≡ Some (verify v) → result ≡ Status.OutOfMemory → RunsShort v (S.told shelf.old) (S.told shelf.new) }
     ensures exact { (names : Names) → (S.told shelf.old).names ≡ Some names → IsOffline (asked words.now) → EndsExactly names (asked words.now) result }
     ensures leaves { (names : Names) → (S.told shelf.old).names ≡ Some names → Leaves names (IsOutputAsked (asked words.now)) (S.told shelf.new).names }
     ensures takes { (names : Names) (c : Asked) → (S.told shelf.old).names ≡ Some names → asked words.now ≡ Some c
@@ -66,9 +69,11 @@ pub fn run_client<S: Shelf, K: Sink, D: Dialer, N: Nonces>(
         → CanStamp (Happens D.told D.faults N.left N.faults dialer.old dialer.new nonces.old nonces.new) names s → IsDoneUnlessFailed result }
     ensures upgrades { (names : Names) (u : Upgrading) → (S.told shelf.old).names ≡ Some names → asked words.now ≡ Some (upgrade u)
         → CanUpgrade (Happens D.told D.faults N.left N.faults dialer.old dialer.new nonces.old nonces.new) names u → IsDoneUnlessFailed result }
+    ensures samples { (n : ℕ) → asked words.now ≡ Some (sample n) → IsDoneUnlessLost (Rose (K.faults out.old) (K.faults out.new)) result }
     ensures reads_back { (names : Names) (c : Asked) (to : List ℕ) → (S.told shelf.old).names ≡ Some names → asked words.now ≡ Some c
         → IsOutput c to → IsDoneOrNo result → ReadsBack (Happens D.told D.faults N.left N.faults dialer.old dialer.new nonces.old nonces.new) names c to (S.told shelf.new).names }
 {
+    verdict_of_sample();
     match come_to_end(alloc, words, shelf, dialer, nonces) {
         Ok(ending) => carry_out(alloc, &ending, shelf, out),
         Err(OutOfMemory) => Status::OutOfMemory,
@@ -85,6 +90,7 @@ fn come_to_end<'a, S: Shelf, D: Dialer, N: Nonces>(
 ) -> Result<Ending<'a>, OutOfMemory>
     ensures ends { ComesToEnd (λ told. AnswersAs (Happens D.told D.faults N.left N.faults dialer.old dialer.new nonces.old nonces.new) told (asked words.entry.now)) (names_read (asked words.entry.now))
         (S.told shelf.old) (S.told shelf.new) (S.faults shelf.old) (S.faults shelf.new) result }
+    ensures bounded { BoundsEnd (asked words.entry.now) (S.told shelf.old) (S.told shelf.new) result }
     ensures asks { Asks D.told D.faults N.left (S.told shelf.old).names (asked words.entry.now) dialer.old dialer.new nonces.old nonces.new }
     ensures nonces { DrawsFor N.left (asked words.entry.now) nonces.old nonces.new }
 {
@@ -105,6 +111,7 @@ fn end_of<'a, S: Shelf, D: Dialer, N: Nonces>(
 ) -> Result<Ending<'a>, OutOfMemory>
     ensures ends { ComesToEnd (λ told. AnswersAs (Happens D.told D.faults N.left N.faults dialer.old dialer.new nonces.old nonces.new) told (Some (read_as command.entry))) (names_read (Some (read_as command.entry)))
         (S.told shelf.old) (S.told shelf.new) (S.faults shelf.old) (S.faults shelf.new) result }
+    ensures bounded { BoundsEnd (Some (read_as command.entry)) (S.told shelf.old) (S.told shelf.new) result }
     ensures asks { Asks D.told D.faults N.left (S.told shelf.old).names (Some (read_as command.entry)) dialer.old dialer.new nonces.old nonces.new }
     ensures nonces { DrawsFor N.left (Some (read_as command.entry)) nonces.old nonces.new }
 {

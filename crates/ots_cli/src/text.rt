@@ -1,5 +1,6 @@
 //! The texts that are printed, piece after piece.
-ghost use Rattle.std.specs.Prelude.{◌≡◌, ◌++◌, ℕ, List, [], false, MatchResult};
+ghost use Rattle.std.specs.Prelude.{◌≡◌, ◌++◌, ℕ, List, [], codes, decimal, false, MatchResult};
+ghost use Rattle.hex.specs.Hex.{encode_lower};
 ghost use Rattle.ots_base.specs.Cause.{Rose};
 ghost use Rattle.ots_eval.specs.declared.verdicts.Verdict.TheVariants.{Yes};
 ghost use Rattle.ots_info.specs.Listing.{line};
@@ -9,7 +10,7 @@ ghost use Rattle.ots_cli.specs.CarriedOut.{SinkStays};
 ghost use Rattle.ots_cli.specs.Decided.{IsTextOf};
 ghost use Rattle.ots_cli.specs.Refusal.{bad_words, refusal_text};
 ghost use Rattle.ots_cli.specs.Stamping.{wrote_text};
-ghost use Rattle.ots_cli.specs.Text.{complete_status, complete_text, verdict_status, verdict_text, yes_words};
+ghost use Rattle.ots_cli.specs.Text.{complete_status, complete_text, sample_text, verdict_status, verdict_text, yes_words};
 ghost use Rattle.ots_cli.specs.declared.status.Status.TheVariants.{BadAddress, BadProof, Differs, TooFew};
 
 use crate::ending::Text;
@@ -21,6 +22,7 @@ use ots_ops::{Digest, HashOp};
 use ots_outside::{Failed, Sink};
 use ots_printer::Printer;
 use ots_reader::Fault;
+use ots_sample::Sample;
 
 /// Prints a text of a run that ends with this status, or a front of it where the sink fails.
 pub fn print_text<K: Sink>(text: &Text<'_>, status: &Status, sink: &mut K) -> Result<(), Failed>
@@ -64,6 +66,7 @@ fn put_text<K: Sink>(text: &Text<'_>, status: &Status, out: &mut Printer<'_, K>)
         Text::Complete(complete) => put_complete(*complete, out),
         Text::Calendars(replies) => put_calendars(&replies.calendars, &replies.outcomes, out),
         Text::Wrote(name) => put_wrote(name, out),
+        Text::Sample(sample) => put_sample(sample, out),
     }
 }
 
@@ -113,6 +116,34 @@ pub fn verdict_status(verdict: Verdict) -> Status
         Verdict::Yes { .. } => Status::Done,
         Verdict::NoDigest | Verdict::NoPath => Status::No,
     }
+}
+
+/// Puts what is told of a sample.
+fn put_sample<K: Sink>(sample: &Sample, out: &mut Printer<'_, K>)
+    ensures { Puts K.taken K.faults K.same (sample_text sample.now) out.old out.new }
+{
+    put_numbered("paths ", sample.paths as u64, out);
+    put_numbered("bytes ", sample.length, out);
+    put_digest(&sample.digest, out);
+    put_verdict(sample.verdict, out);
+}
+
+/// Puts a line of a word and a number.
+fn put_numbered<K: Sink>(word: &str, number: u64, out: &mut Printer<'_, K>)
+    ensures { Puts K.taken K.faults K.same (line (word.now ++ decimal number)) out.old out.new }
+{
+    out.word(word);
+    out.number(number);
+    out.word("\n");
+}
+
+/// Puts the line of a digest.
+fn put_digest<K: Sink>(digest: &[u8], out: &mut Printer<'_, K>)
+    ensures { Puts K.taken K.faults K.same (line (codes "digest " ++ encode_lower digest.now)) out.old out.new }
+{
+    out.word("digest ");
+    out.hex(digest);
+    out.word("\n");
 }
 
 /// Puts the line that tells whether an upgraded proof is complete.

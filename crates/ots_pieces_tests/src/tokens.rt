@@ -32,7 +32,7 @@ fn handed_out(alloc: Global, bytes: &[u8], size: usize) -> Option<Vec<Token>>
         let count = size.min(bytes.len() - came);
         match reader.next(&bytes[came..came + count]) {
             Ok(Some(next)) => {
-                tokens.push(reader.token().to_owned(alloc).ok()?).ok()?;
+                tokens.push(next.token.to_owned(alloc).ok()?).ok()?;
                 came += next.used;
                 if next.last {
                     return Some(tokens);
@@ -70,6 +70,7 @@ fn a_token_is_handed_out_of_two_pieces(rt: HostRuntime) -> Result<(), Fail> {
     let Ok(
         Some(
             Next {
+                token: TokenRef::Op(OpRef::Append(argument)),
                 used: 1,
                 last: false,
             },
@@ -78,14 +79,12 @@ fn a_token_is_handed_out_of_two_pieces(rt: HostRuntime) -> Result<(), Fail> {
     else {
         return Err(Fail::from("the second piece"));
     };
-    assert_eq!(rt; reader.place(), 4);
-    let TokenRef::Op(OpRef::Append(argument)) = reader.token() else {
-        return Err(Fail::from("the token"));
-    };
     assert!(rt; argument.bytes() == b"\xaa\xbb".as_slice());
+    assert_eq!(rt; reader.place(), 4);
     let Ok(
         Some(
             Next {
+                token: TokenRef::Fork,
                 used: 1,
                 last: false,
             },

@@ -1,13 +1,15 @@
 -- Before the first byte, what a tree stands below may be set anew.
-use Rattle.std.proofs.Common.{◌≡◌, ℕ, ◌≤◌, Bool, true, false, List, [], ◌∷◌, Option, Some, refl, sym, ap, subst, ◌∙◌, if◌then◌else◌}
+use Rattle.std.proofs.Common.{◌≡◌, Bool, true, false, List, [], ◌∷◌, Option, Some, refl, sym, ap, ◌∙◌, if◌then◌else◌}
 use Rattle.ots_ops.specs.declared.op.Op.{Op}
 use Rattle.ots_ops.specs.declared.op.Op.TheVariants as op
 use Rattle.ots_tree.specs.declared.shape.Shape.{Shape}
 use Rattle.ots_tree.specs.declared.token.Token.TheVariants as token
 use Rattle.ots_tree.specs.Walk.{Position, open_at, none_open, next}
 use Rattle.ots_tree.specs.Front.{Open, start, opened}
+use Rattle.ots_reader.specs.declared.arrived.Arrived.{Arrived}
 use Rattle.ots_reader.specs.declared.front.Front.{Front}
-use Rattle.ots_reader.specs.Front.{tokens_of, IsHeld}
+use Rattle.ots_reader.specs.Arrived.{tokens_of}
+use Rattle.ots_reader.specs.Front.{IsStanding}
 use Rattle.ots_reader.specs.OneAnswer.{IsShape}
 use Rattle.ots_reader.specs.Tokens.{Tokens, begun}
 
@@ -42,15 +44,12 @@ set_below f shape v = record {
   place = f.place;
   walk = v;
   whole = f.whole;
-  kept = f.kept;
-  at_hand = f.at_hand;
   came = f.came;
 }
 
-pub placed : (f : Front) (shape : Shape) (v : Position Shape) → IsHeld f → tokens_of f ≡ begun f.below → IsShape shape.length shape.depth → Leads f.walk shape v → v.room ≡ f.walk.room
-    → IsHeld (set_below f shape v)
-placed f shape v h none is leads room =
-    let came = ap (λ (z : Tokens). z.came) none in
+pub placed : (f : Front) (shape : Shape) (v : Position Shape) → IsStanding f → f.came.tokens ≡ [] → IsShape shape.length shape.depth → Leads f.walk shape v → v.room ≡ f.walk.room
+    → IsStanding (set_below f shape v)
+placed f shape v h came is leads room =
     let opens : Some (of_one f.below []) ≡ Some (if f.whole then none_open else open_at f.walk) =
     ap (opened (start f.below.length f.below.depth)) (sym came) ∙ h.opens in
     let root = at_root f.whole f.below f.walk opens in
@@ -59,10 +58,12 @@ placed f shape v h none is leads room =
       fits = h.fits;
       opens = ap (opened (start shape.length shape.depth)) came ∙ opens_there f.whole shape f.walk v root (leads (λ _ _. Some shape) op.Sha256 refl);
       place = h.place;
-      kept = h.kept;
-      bytes = h.bytes;
       nodes = rw room h.nodes;
     }
 
-pub placed_begun : (f : Front) (shape : Shape) (v : Position Shape) → tokens_of f ≡ begun f.below → tokens_of (set_below f shape v) ≡ begun shape
-placed_begun f shape v none = ap (λ (z : Tokens). record { shape = shape; came = z.came; kept = z.kept; last = z.last }) none
+-- the bytes that have arrived, before the first
+pub placed_begun : (a b : Arrived) (shape : Shape) → tokens_of a ≡ begun a.front.below → b.front.below ≡ shape → b.front.came.tokens ≡ [] → (tokens_of b).kept ≡ (tokens_of a).kept
+    → tokens_of b ≡ begun shape
+placed_begun a b shape none below came kept =
+    let empty : (tokens_of b).kept ≡ [] = kept ∙ ap (λ (z : Tokens). z.kept) none in
+    λ i. record { shape = below i; came = came i; kept = empty i }

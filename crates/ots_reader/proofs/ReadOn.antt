@@ -1,5 +1,5 @@
 -- Reading a token whose first bytes are kept.
-use Rattle.std.proofs.Common.{◌≡◌, ℕ, ◌+◌, ◌-◌, ◌<◌, ◌≤◌, List, ◌++◌, length, take, drop, Some, None, refl, sym, ap, subst, ◌∙◌, inl, inr, arith, append_assoc, length-append}
+use Rattle.std.proofs.Common.{◌≡◌, ℕ, ◌+◌, ◌-◌, ◌<◌, ◌≤◌, List, [], ◌++◌, length, take, drop, Some, None, refl, sym, ap, subst, ◌∙◌, inl, inr, arith, append_assoc, length-append}
 use Rattle.std.proofs.Math.Seq.{take-add}
 use Rattle.std.proofs.lemmas.Bool.{cases_lt}
 use Rattle.std.proofs.lemmas.List.{take-append-drop, take-append-le, drop-append-le, take_at, length-take-le}
@@ -10,10 +10,9 @@ use Rattle.ots_reader.specs.TokenFault.{token_fault}
 use Rattle.ots_reader.specs.TokenRead.{IsTokenAt}
 use Rattle.ots_reader.proofs.NoTokenFault.{token_ok}
 use Rattle.ots_reader.proofs.Stays.{token_stays}
+use Rattle.ots_reader.proofs.Walk.{spell-len}
 use Rattle.ots_reader.specs.declared.fault.Reason.{Reason}
-use Rattle.std.specs.Prelude.{Option, Ok}
-use Rattle.ots_reader.specs.Cut.{IsCut, IsSettled, IsSpelling, IsJoinedAt, ReadsWhole}
-use Rattle.ots_reader.proofs.CutLength.{token_size, cut_size}
+use Rattle.ots_reader.specs.Cut.{IsCut, IsSettled, IsSpelling, IsJoinedAt}
 
 -- so many bytes of the piece are kept behind the old ones
 pub record IsGrown (old piece kept : List ℕ) (end : ℕ) : Type 0 where
@@ -25,15 +24,6 @@ pub record Joins (old piece kept : List ℕ) (end least room : ℕ) : Type 0 whe
   pub cut : IsCut kept
   pub grown : IsGrown old piece kept end
   pub roomy : least ≤ room
-
--- how many bytes of the piece are kept
-abbrev pub count_in : Option ℕ → List ℕ → ℕ
-count_in (Some used) piece = used
-count_in None piece = length piece
-
-pub few_kept : (piece : List ℕ) (found : Option ℕ) → ReadsWhole piece (Ok found) → count_in found piece ≤ 8203
-few_kept piece (Some used) r = omega (arith, r.1.len, token_size r.0 r.1.fits)
-few_kept piece None r = omega (arith, cut_size piece r)
 
 pub grown_more : (old piece kept longer : List ℕ) (end count : ℕ) → IsGrown old piece kept end → count ≤ length piece - end
     → longer ≡ kept ++ take (end + count - end) (drop end piece) → IsGrown old piece longer (end + count)
@@ -51,7 +41,7 @@ settles old piece kept end r g s = (ap token_fault (whole_piece old piece kept e
 
 -- ---- the token is whole
 
-token_within : (bytes : List ℕ) (x : Token) (used : ℕ) → IsTokenAt bytes x used → used ≤ length bytes
+pub token_within : (bytes : List ℕ) (x : Token) (used : ℕ) → IsTokenAt bytes x used → used ≤ length bytes
 token_within bytes x used t = omega (arith, t.len, ap length t.front, length-append (spell x) (drop used bytes))
 
 token_more : (bytes more : List ℕ) (x : Token) (used : ℕ) → IsTokenAt bytes x used → IsTokenAt (bytes ++ more) x used
@@ -87,6 +77,10 @@ joined_at old piece kept end size x g cut t =
       some = omega arith;
       within = omega (arith, token_within kept x size t, ap length g.are, length-append old (take end piece), length-take-le end piece within);
     }
+
+-- a token of which no byte came before the piece
+pub joined_here : (old piece : List ℕ) (x : Token) (used : ℕ) → old ≡ [] → IsTokenAt piece x used → IsJoinedAt old piece x used
+joined_here old piece x used none t = let zero : 0 + used ≡ used = omega arith in rw none (record { token = rw zero t; some = omega (arith, t.len, spell-len x); within = token_within piece x used t })
 
 -- its spelling is what is left of the kept bytes
 pub spelling_at : (kept bytes : List ℕ) (size : ℕ) (x : Token) → IsTokenAt kept x size → bytes ≡ take size kept → IsSpelling bytes x

@@ -1,12 +1,13 @@
 -- Reading the next token of a tree.
 use Rattle.std.proofs.Common.{◌≡◌, ℕ, ◌+◌, ◌<◌, ◌≤◌, Bool, true, false, List, [], ◌∷◌, ◌++◌, length, take, drop, Some, refl, sym, ap, subst, ◌∙◌, arith, append_assoc, length-append}
 use Rattle.std.specs.Prelude.{◌≢◌, not, if◌then◌else◌}
-use Rattle.std.proofs.lemmas.List.{append-nil, drop_at, take_at, drop-drop, take-append-drop, length-take-le, reverse-append}
+use Rattle.std.proofs.lemmas.List.{append-nil, drop_at, take_at, drop-drop, take-append-drop, length-take-le}
 use Rattle.std.proofs.Math.Seq.{take-append-add}
 use Rattle.ots_base.specs.Table.{line, first_line}
 use Rattle.ots_tree.specs.declared.shape.Shape.{Shape}
 use Rattle.ots_tree.specs.declared.token.Token.{Token}
 use Rattle.ots_tree.specs.declared.token.Token.TheVariants as token
+use Rattle.ots_tree.specs.TokenRef.{token_of}
 use Rattle.ots_tree.specs.Wire.{spell, spelled}
 use Rattle.ots_tree.specs.Walk.{Position, open_at, none_open}
 use Rattle.ots_tree.specs.Front.{Open, start, next_at, opened}
@@ -14,16 +15,18 @@ use Rattle.ots_tree.proofs.Closing.{front_room}
 use Rattle.ots_reader.specs.declared.fault.Reason.{Reason}
 use Rattle.ots_reader.specs.declared.fault.Reason.TheVariants.{Truncated, TooDeep, ResultTooLong}
 use Rattle.ots_reader.specs.declared.fault.Fault.{Fault}
+use Rattle.ots_reader.specs.declared.arrived.Arrived.{Arrived}
 use Rattle.ots_reader.specs.declared.front.Front.{Front}
 use Rattle.ots_reader.specs.declared.next.Next.{Next}
 use Rattle.ots_reader.specs.TokenFault.{token_fault}
 use Rattle.ots_reader.specs.TokenRead.{IsTokenAt}
 use Rattle.ots_reader.specs.TreeFault.{place_fault, HasTreeFault}
 use Rattle.ots_reader.specs.Cut.{IsCut, IsSettled, IsSpelling, IsJoinedAt}
-use Rattle.ots_reader.specs.Front.{tokens_of, last_of, IsHeld, IsAway, IsTaken}
+use Rattle.ots_reader.specs.Arrived.{tokens_of, IsHeld}
+use Rattle.ots_reader.specs.Front.{IsStanding}
 use Rattle.ots_reader.specs.Progress.{ends_at}
 use Rattle.ots_reader.specs.OneAnswer.{IsShape}
-use Rattle.ots_reader.specs.Tokens.{Tokens, begun, so_far, IsReading, Stands, Brings, Stops}
+use Rattle.ots_reader.specs.Tokens.{Tokens, begun, with_token, with_bytes, so_far, IsReading, Stands, Brings, Stops}
 use Rattle.ots_reader.proofs.Places.{IsMessage, opened_messages}
 use Rattle.ots_reader.proofs.Walk.{IsWalk, walk_read, fits_more, opens_more, spelled_more, token_stops, place_stops}
 
@@ -96,45 +99,38 @@ spelled_joined old piece x used j =
 drop_behind : (fed piece : List ℕ) (used : ℕ) → drop (length fed + used) (fed ++ piece) ≡ drop used piece
 drop_behind fed piece used = sym (drop-drop used (length fed) (fed ++ piece)) ∙ ap (drop used) (drop_at fed piece (length fed) refl)
 
--- what the new reader holds shows how the tree stands then
-stands : (old : Tokens) (piece : List ℕ) (used : ℕ) (f : Front) (whole : Bool) → IsHeld f → f.whole ≡ whole → f.below ≡ old.shape → (tokens_of f).kept ≡ []
-    → used ≤ length piece → 1 ≤ used → spelled f.came.tokens ≡ so_far old ++ take used piece → Stands whole old piece used (tokens_of f)
-stands old piece used f true h is below kept within some fed =
+-- the tokens behind the new one show how the tree stands then
+stands : (old : Tokens) (piece : List ℕ) (x : Token) (used : ℕ) (f : Front) (whole : Bool) → IsJoinedAt old.kept piece x used → IsStanding f → f.below ≡ old.shape
+    → f.came.tokens ≡ old.came ++ x ∷ [] → f.whole ≡ whole → Stands whole old piece used (with_token old x)
+stands old piece x used f true j h below came is =
     let n = f.below.length in
     let k = f.below.depth in
     let input = so_far old ++ piece in
     let place = length (so_far old) + used in
+    let fed : spelled f.came.tokens ≡ so_far old ++ take used piece = ap spelled came ∙ spelled_joined old piece x used j in
     let rest : drop place input ≡ drop used piece = drop_behind (so_far old) piece used in
-    let len : place ≡ length (spelled f.came.tokens) = omega (arith, ap length fed, length-append (so_far old) (take used piece), length-take-le used piece within) in
+    let len : place ≡ length (spelled f.came.tokens) = omega (arith, ap length fed, length-append (so_far old) (take used piece), length-take-le used piece j.within) in
     let all : input ≡ spelled f.came.tokens ++ drop place input = rw (rest, fed, append_assoc (so_far old) (take used piece) (drop used piece), take-append-drop used piece) refl in
     let opens : opened (start n k) f.came.tokens ≡ Some none_open = rw is at h.opens in
     let at = walk_read n k input f.came.tokens none_open place h.shape.depth (record { opens = opens; fits = h.fits; whole = all; len = len }) refl in
-    record { is_tree = rw (← below) at; some = some; within = within }
-stands old piece used f false h is below kept within some fed = record {
-  shape = h.shape;
+    record { is_tree = rw (← below, ← came) at; some = j.some; within = j.within }
+stands old piece x used f false j h below came is = record {
+  shape = rw (← below) h.shape;
   at = f.walk.last;
   others = f.walk.others;
   forked = f.walk.forked;
-  is_front = record { fits = h.fits; opens = rw is at h.opens };
-  cut = subst IsCut (sym kept) none_cut;
+  is_front = rw (← below, ← came) (record { fits = h.fits; opens = rw is at h.opens });
+  cut = none_cut;
 }
 
-last_taken : (ts : List Token) (x : Token) → last_of (ts ++ x ∷ []) ≡ Some x
-last_taken ts x = rw (reverse-append ts (x ∷ [])) refl
-
-brings : (old f : Front) (piece : List ℕ) (x : Token) (used : ℕ) (next : Next) → IsJoinedAt (tokens_of old).kept piece x used → IsHeld f → f.below ≡ old.below
-    → IsTaken old x used next f → Brings (tokens_of old) piece x next (tokens_of f)
-brings old f piece x used next j h below t =
-    let joined : IsJoinedAt (tokens_of old).kept piece x next.used = rw t.used j in
-    let none : (tokens_of f).kept ≡ [] = rw t.at_hand refl in
-    let fed = ap spelled t.tokens ∙ spelled_joined (tokens_of old) piece x next.used joined in
+pub brings : (old : Tokens) (piece : List ℕ) (next : Next) (f : Front) → IsJoinedAt old.kept piece (token_of next.token) next.used → IsStanding f → f.below ≡ old.shape
+    → f.came.tokens ≡ old.came ++ token_of next.token ∷ [] → f.whole ≡ next.last → Brings old piece next
+brings old piece next f j h below came is =
+    let x = token_of next.token in
     record {
-      joined = joined;
-      came = t.tokens;
-      kept = none;
-      last = rw (t.at_hand, t.tokens) (last_taken old.came.tokens x);
-      fed = ap (λ (z : List ℕ). spelled f.came.tokens ++ z) none ∙ append-nil (spelled f.came.tokens) ∙ fed;
-      stands = stands (tokens_of old) piece next.used f next.last h (sym t.last) below none joined.within joined.some fed;
+      joined = j;
+      fed = append-nil (spelled (old.came ++ x ∷ [])) ∙ spelled_joined old piece x next.used j;
+      stands = stands old piece x next.used f next.last j h below came is;
     }
 
 -- ---- what is held
@@ -147,15 +143,15 @@ open_if true w at others forked e =
     let clash : [] ≡ at ∷ others = ap (λ (s : Open). s.nodes) same in absurd cc
 open_if false w at others forked e = refl
 
-pub held_at : (f : Front) → IsHeld f → IsReading (tokens_of f) → (f.whole ≡ false) × IsAt (tokens_of f) f.walk f.place
-held_at f h r =
-    let w = open_if f.whole f.walk r.at r.others r.forked (sym h.opens ∙ r.is_front.opens) in
-    (w, record { reading = r; opens = rw w at h.opens; len = h.place })
+pub held_at : (a : Arrived) → IsHeld a → IsReading (tokens_of a) → (a.front.whole ≡ false) × IsAt (tokens_of a) a.front.walk a.front.place
+held_at a h r =
+    let w = open_if a.front.whole a.front.walk r.at r.others r.forked (sym h.stands.opens ∙ r.is_front.opens) in
+    (w, record { reading = r; opens = rw w at h.stands.opens; len = h.stands.place })
 
--- ---- the token that is kept takes its turn
+-- ---- one more token takes its turn
 
 -- a fork has room
-pub has_room : (f : Front) → IsHeld f → f.whole ≡ false → f.walk.forked ≡ false → length f.walk.others < f.walk.room
+pub has_room : (f : Front) → IsStanding f → f.whole ≡ false → f.walk.forked ≡ false → length f.walk.others < f.walk.room
 has_room f h still plain =
     let n = f.below.length in
     let k = f.below.depth in
@@ -165,20 +161,18 @@ has_room f h still plain =
     let nodes = h.nodes in
     omega (arith, front_room n k (f.came.tokens ++ token.Fork ∷ []) _ h.shape.depth more)
 
-pub node_message : (f : Front) → IsHeld f → f.whole ≡ false → IsMessage f.walk.last.length
+pub node_message : (f : Front) → IsStanding f → f.whole ≡ false → IsMessage f.walk.last.length
 node_message f h still =
     let n = f.below.length in
     let k = f.below.depth in
     let opens : opened (start n k) f.came.tokens ≡ Some (open_at f.walk) = rw still at h.opens in
     (opened_messages (start n k) f.came.tokens (open_at f.walk) (record { least = h.shape.least; greatest = h.shape.greatest }, tt) opens).0
 
--- the token is behind the others then, and its spelling is kept
-pub record IsBehind (f g : Front) (x : Token) (more : Bool) : Type 0 where
+-- the token is behind the others then
+pub record IsBehind (f g : Front) (x : Token) (spelling : List ℕ) (more : Bool) : Type 0 where
   pub below : g.below ≡ f.below
   pub tokens : g.came.tokens ≡ f.came.tokens ++ x ∷ []
-  pub place : g.place ≡ f.place + length f.kept.items
-  pub kept : g.kept ≡ f.kept
-  pub at_hand : g.at_hand ≡ true
+  pub place : g.place ≡ f.place + length spelling
   pub whole : g.whole ≡ not more
   pub room : f.walk.room ≤ g.walk.room
   pub moves : next_at f.walk.last f.walk.others f.walk.forked x ≡ Some (if more then open_at g.walk else none_open)
@@ -187,8 +181,8 @@ if_not : (more : Bool) (a b : Open) → (if more then a else b) ≡ (if not more
 if_not true a b = refl
 if_not false a b = refl
 
-pub behind_held : (f g : Front) (x : Token) (more : Bool) → IsHeld f → f.whole ≡ false → IsSpelling f.kept.items x → IsBehind f g x more → IsHeld g
-behind_held f g x more h still s b =
+pub stands_behind : (f g : Front) (x : Token) (spelling : List ℕ) (more : Bool) → IsStanding f → f.whole ≡ false → IsSpelling spelling x → IsBehind f g x spelling more → IsStanding g
+stands_behind f g x spelling more h still s b =
     let n = f.below.length in
     let k = f.below.depth in
     let opens : opened (start n k) f.came.tokens ≡ Some (open_at f.walk) = rw still at h.opens in
@@ -200,8 +194,6 @@ behind_held f g x more h still s b =
       fits = rw b.tokens (fits_more f.came.tokens x h.fits s.fits);
       opens = rw (b.below, b.tokens, b.whole) (behind ∙ ap Some (if_not more (open_at g.walk) none_open));
       place = rw b.tokens (omega (arith, b.place, h.place, ap length s.is, ap length (spelled_more f.came.tokens x), length-append (spelled f.came.tokens) (spell x)));
-      kept = rw (b.at_hand, b.tokens, b.kept) (x, last_taken f.came.tokens x, s);
-      bytes = rw b.kept h.bytes;
       nodes = omega arith;
     }
 
@@ -210,24 +202,37 @@ behind_held f g x more h still s b =
 pub begun_reads : (s : Shape) → IsShape s.length s.depth → IsReading (begun s)
 begun_reads s h = record { shape = h; at = s; others = []; forked = false; is_front = record { fits = tt; opens = refl }; cut = none_cut }
 
+-- the first bytes of the next token, where those of the last one aren't kept
+pub kept_now : (a : Arrived) → a.spent ≡ false → (tokens_of a).kept ≡ a.kept.items
+kept_now a e = rw e refl
+
+pub not_read : (a : Arrived) (piece : List ℕ) (reason : Reason) → IsHeld a → IsReading (tokens_of a) → a.spent ≡ false → IsSettled (a.kept.items ++ piece) reason
+    → Stops (tokens_of a) piece (record { place = a.front.place; reason = reason })
+not_read a piece reason h r away s = token_faults (tokens_of a) a.front.walk a.front.place piece reason (held_at a h r).1 (rw (kept_now a away) s)
+
 stops_at : (r : Tokens) (piece : List ℕ) (place : ℕ) (f : Fault) → f.place ≡ place → Stops r piece (record { place = place; reason = f.reason }) → Stops r piece f
 stops_at r piece place f e s = subst (Stops r piece) (ap (λ (z : ℕ). record { place = z; reason = f.reason }) (sym e)) s
 
-pub unread : (old f : Front) (piece : List ℕ) (reason : Reason) → IsHeld old → IsReading (tokens_of old) → IsAway old f (tokens_of old).kept → IsSettled (f.kept.items ++ piece) reason
-    → Stops (tokens_of old) piece (record { place = f.place; reason = reason })
-unread old f piece reason h r a s = rw a.place (token_faults (tokens_of old) old.walk old.place piece reason (held_at old h r).1 (rw a.kept at s))
+pub not_placed : (a : Arrived) (piece : List ℕ) (x : Token) (used : ℕ) (f : Fault) → IsHeld a → IsReading (tokens_of a) → a.spent ≡ false → IsJoinedAt a.kept.items piece x used
+    → (f.place ≡ a.front.place) × (place_fault a.front.walk.last a.front.walk.forked x ≡ Some f.reason) → Stops (tokens_of a) piece f
+not_placed a piece x used f h r away j (place, fault) =
+    stops_at (tokens_of a) piece a.front.place f place
+    (turn_faults (tokens_of a) a.front.walk a.front.place piece x used f.reason (held_at a h r).1 (rw (kept_now a away) j) fault)
 
-pub refused_there : (old f : Front) (piece : List ℕ) (x : Token) (used : ℕ) (e : Fault) → IsHeld old → IsReading (tokens_of old) → IsAway old f (tokens_of old).kept
-    → IsJoinedAt f.kept.items piece x used → (e.place ≡ f.place) × (place_fault f.walk.last f.walk.forked x ≡ Some e.reason) → Stops (tokens_of old) piece e
-refused_there old f piece x used e h r a j (place, fault) =
-    stops_at (tokens_of old) piece old.place e (place ∙ a.place)
-    (turn_faults (tokens_of old) old.walk old.place piece x used e.reason (held_at old h r).1 (rw a.kept at j) (rw a.walk at fault))
+-- what is held then
+pub with_new : (a b : Arrived) (x : Token) → b.front.below ≡ a.front.below → b.front.came.tokens ≡ a.front.came.tokens ++ x ∷ [] → (tokens_of b).kept ≡ []
+    → tokens_of b ≡ with_token (tokens_of a) x
+with_new a b x below came kept = λ i. record { shape = below i; came = came i; kept = kept i }
 
-pub brought : (old f g new : Front) (piece : List ℕ) (x : Token) (used : ℕ) (next : Next) → IsAway old f (tokens_of old).kept → IsJoinedAt f.kept.items piece x used
-    → IsHeld new → new.below ≡ f.below → g.came.tokens ≡ f.came.tokens → IsTaken g x used next new → Brings (tokens_of old) piece x next (tokens_of new)
-brought old f g new piece x used next a j h below same t =
-    brings old new piece x used next (rw a.kept at j) h (below ∙ a.below)
-    (record { tokens = t.tokens ∙ ap (λ (z : List Token). z ++ x ∷ []) (same ∙ a.tokens); at_hand = t.at_hand; used = t.used; last = t.last })
+pub with_more : (a b : Arrived) (piece : List ℕ) → a.spent ≡ false → b.spent ≡ false → b.front.below ≡ a.front.below → b.front.came.tokens ≡ a.front.came.tokens
+    → b.kept.items ≡ a.kept.items ++ piece → tokens_of b ≡ with_bytes (tokens_of a) piece
+with_more a b piece away new below came kept =
+    let same : (tokens_of b).kept ≡ (tokens_of a).kept ++ piece = rw (kept_now a away, kept_now b new) kept in
+    λ i. record { shape = below i; came = came i; kept = same i }
+
+pub still_reading : (a : Arrived) (piece : List ℕ) → IsReading (tokens_of a) → a.spent ≡ false → IsCut (a.kept.items ++ piece) → IsReading (with_bytes (tokens_of a) piece)
+still_reading a piece r away cut =
+    record { shape = r.shape; at = r.at; others = r.others; forked = r.forked; is_front = r.is_front; cut = rw (kept_now a away) cut }
 
 -- ---- where the bytes end
 

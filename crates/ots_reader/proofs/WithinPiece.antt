@@ -1,16 +1,17 @@
 -- Reading the tokens of a piece.
 use Rattle.std.proofs.Common.{◌≡◌, ℕ, ◌+◌, ◌-◌, ◌<◌, ◌≤◌, ◌^◌, List, [], ◌∷◌, ◌++◌, length, take, drop, refl, sym, ap, ◌∙◌, arith, append_assoc, length-append, length-drop}
-use Rattle.std.specs.Prelude.{Bool, true, false, Option, Some}
+use Rattle.std.specs.Prelude.{Bool, true, false}
 use Rattle.std.proofs.Math.Seq.{take-add}
 use Rattle.std.proofs.lemmas.List.{take_all, take-append-drop, length-take-le}
 use Rattle.ots_tree.specs.declared.token.Token.{Token}
+use Rattle.ots_tree.specs.TokenRef.{token_of}
 use Rattle.ots_tree.specs.Wire.{spelled}
 use Rattle.ots_reader.specs.declared.fault.Fault.{Fault}
 use Rattle.ots_reader.specs.declared.fault.ReadError.TheVariants as error
 use Rattle.ots_reader.specs.declared.next.Next.{Next}
 use Rattle.ots_reader.specs.Held.{IsReadTo}
 use Rattle.ots_reader.specs.Progress.{EndsIn, IsRefusal}
-use Rattle.ots_reader.specs.Tokens.{Tokens, so_far, IsReading, Stands, Brings, Keeps, Stops}
+use Rattle.ots_reader.specs.Tokens.{Tokens, with_token, with_bytes, so_far, IsReading, Stands, Brings, Stops}
 
 -- so many bytes of the piece have come, and their tokens are kept
 pub record IsReadUpTo (old : Tokens) (piece : List ℕ) (now : Tokens) (kept : List Token) (at : ℕ) : Type 0 where
@@ -47,37 +48,36 @@ within_more at used piece within few = omega (arith, ap length (slice_is at piec
 still : (last : Bool) (old : Tokens) (piece : List ℕ) (used : ℕ) (new : Tokens) → last ≡ false → Stands last old piece used new → IsReading new
 still last old piece used new e s = rw e at s
 
-pub read_more : (old now new : Tokens) (piece : List ℕ) (tokens more : List Token) (x : Token) (at : ℕ) (next : Next) → IsReadUpTo old piece now tokens at
-    → Brings now (slice_from at piece) x next new → new.shape ≡ now.shape → next.last ≡ false → more ≡ tokens ++ x ∷ [] → IsReadUpTo old piece new more (at + next.used)
-read_more old now new piece tokens more x at next r b shape going e = record {
-  read = record { shape = shape ∙ r.read.shape; reading = still next.last now (slice_from at piece) next.used new going b.stands; fed = fed_more old now new piece tokens at next.used r b.fed };
-  tokens = e ∙ ap (λ (z : List Token). z ++ x ∷ []) r.tokens ∙ sym b.came;
-  within = within_more at next.used piece r.within b.joined.within;
-}
+pub read_more : (old now new : Tokens) (piece : List ℕ) (tokens more : List Token) (at : ℕ) (next : Next) → IsReadUpTo old piece now tokens at → Brings now (slice_from at piece) next
+    → new ≡ with_token now (token_of next.token) → next.last ≡ false → more ≡ tokens ++ token_of next.token ∷ [] → IsReadUpTo old piece new more (at + next.used)
+read_more old now new piece tokens more at next r b is going e =
+    let behind = with_token now (token_of next.token) in
+    rw is (record {
+      read = record { shape = r.read.shape; reading = still next.last now (slice_from at piece) next.used behind going b.stands; fed = fed_more old now behind piece tokens at next.used r b.fed };
+      tokens = e ∙ ap (λ (z : List Token). z ++ token_of next.token ∷ []) r.tokens;
+      within = within_more at next.used piece r.within b.joined.within;
+    })
 
 -- ---- the piece ends
 
-pub read_whole : (old now new : Tokens) (piece : List ℕ) (tokens : List Token) (at : ℕ) → IsReadUpTo old piece now tokens at → Keeps now (slice_from at piece) new → new.shape ≡ now.shape
-    → IsReadTo old piece new × (tokens ≡ new.came)
-read_whole old now new piece tokens at r k shape = (
-  record {
-    shape = shape ∙ r.read.shape;
-    reading = k.reading;
-    fed = rw (k.came, k.kept) (sym (append_assoc (spelled now.came) now.kept (slice_from at piece))) ∙ all_bytes old now piece tokens at r;
-  },
-  r.tokens ∙ sym k.came,
-)
+pub read_whole : (old now new : Tokens) (piece : List ℕ) (tokens : List Token) (at : ℕ) → IsReadUpTo old piece now tokens at → IsReading (with_bytes now (slice_from at piece))
+    → new ≡ with_bytes now (slice_from at piece) → IsReadTo old piece new × (tokens ≡ new.came)
+read_whole old now new piece tokens at r k is =
+    rw is (
+      record { shape = r.read.shape; reading = k; fed = sym (append_assoc (spelled now.came) now.kept (slice_from at piece)) ∙ all_bytes old now piece tokens at r },
+      r.tokens,
+    )
 
 -- ---- the tree ends
 
 ended : (last : Bool) (old : Tokens) (piece : List ℕ) (used : ℕ) (new : Tokens) → last ≡ true → Stands last old piece used new → EndsIn old.shape (so_far old) piece new.came used
 ended last old piece used new e s = rw e at s
 
-pub read_ended : (old now new : Tokens) (piece : List ℕ) (tokens more : List Token) (x : Token) (at : ℕ) (next : Next) → IsReadUpTo old piece now tokens at
-    → Brings now (slice_from at piece) x next new → next.last ≡ true → more ≡ tokens ++ x ∷ [] → EndsIn old.shape (so_far old) piece more (at + next.used)
-read_ended old now new piece tokens more x at next r b whole e =
-    let end = ended next.last now (slice_from at piece) next.used new whole b.stands in
-    let same : more ≡ new.came = e ∙ ap (λ (z : List Token). z ++ x ∷ []) r.tokens ∙ sym b.came in
+pub read_ended : (old now : Tokens) (piece : List ℕ) (tokens more : List Token) (at : ℕ) (next : Next) → IsReadUpTo old piece now tokens at → Brings now (slice_from at piece) next
+    → next.last ≡ true → more ≡ tokens ++ token_of next.token ∷ [] → EndsIn old.shape (so_far old) piece more (at + next.used)
+read_ended old now piece tokens more at next r b whole e =
+    let end = ended next.last now (slice_from at piece) next.used (with_token now (token_of next.token)) whole b.stands in
+    let same : more ≡ now.came ++ token_of next.token ∷ [] = e ∙ ap (λ (z : List Token). z ++ token_of next.token ∷ []) r.tokens in
     let size : length (so_far now) + next.used ≡ length (so_far old) + (at + next.used) =
     omega (arith, ap length r.read.fed, length-append (so_far old) (take at piece), length-take-le at piece r.within) in
     let some = b.joined.some in
@@ -93,7 +93,7 @@ pub read_refused : (old now : Tokens) (piece : List ℕ) (tokens : List Token) (
     → IsRefusal old.shape (so_far old ++ piece) (error.Fault f)
 read_refused old now piece tokens at f r s = (rw (← all_bytes old now piece tokens at r, ← r.read.shape) s.fault, s.other)
 
--- ---- the token that is at hand is kept
+-- ---- the new token is kept
 
-pub kept_token : (last : Option Token) (tokens more : List Token) (x y z : Token) → last ≡ Some x → last ≡ Some y → z ≡ y → more ≡ tokens ++ z ∷ [] → more ≡ tokens ++ x ∷ []
-kept_token last tokens more x y z a b e is = let one : Some x ≡ Some y = sym a ∙ b in let same : z ≡ x = cc in is ∙ ap (λ (t : Token). tokens ++ t ∷ []) same
+pub pushed : (tokens more : List Token) (x y : Token) → more ≡ tokens ++ y ∷ [] → y ≡ x → more ≡ tokens ++ x ∷ []
+pushed tokens more x y is same = is ∙ ap (λ (z : Token). tokens ++ z ∷ []) same

@@ -1,6 +1,8 @@
 -- A token of which the first bytes have come. These words serve the code that keeps them.
 use Rattle.std.specs.Prelude.{◌≡◌, ◌≢◌, ℕ, ◌+◌, ◌≤◌, List, ◌++◌, length, Option, Some, None, Result, Ok, Err}
 use Rattle.ots_tree.specs.declared.token.Token.{Token}
+use Rattle.ots_tree.specs.declared.token_ref.TokenRef.{TokenRef}
+use Rattle.ots_tree.specs.TokenRef.{token_of}
 use Rattle.ots_tree.specs.Wire.{spell, IsToken}
 use Rattle.ots_reader.specs.declared.fault.Reason.{Reason}
 use Rattle.ots_reader.specs.declared.fault.Reason.TheVariants.{Truncated}
@@ -25,6 +27,12 @@ abbrev pub ReadsWhole : List ℕ → Result (Option ℕ) Reason → Type 0
 ReadsWhole bytes (Ok (Some used)) = (x : Token) × IsTokenAt bytes x used
 ReadsWhole bytes (Ok None) = IsCut bytes
 ReadsWhole bytes (Err r) = IsSettled bytes r
+
+-- The same, with the token.
+abbrev pub FindsWhole : List ℕ → Result (Option (TokenRef × ℕ)) Reason → Type 0
+FindsWhole bytes (Ok (Some (x, used))) = IsTokenAt bytes (token_of x) used
+FindsWhole bytes (Ok None) = IsCut bytes
+FindsWhole bytes (Err r) = IsSettled bytes r
 
 -- The token ends within the piece, of which it takes so many bytes, and it began with the old ones.
 pub record IsJoinedAt (old piece : List ℕ) (x : Token) (used : ℕ) : Type 0 where

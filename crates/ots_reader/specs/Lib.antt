@@ -9,5 +9,7 @@ pub mod Cut
 pub mod Progress
 pub mod Tokens
 pub mod Front
+pub mod Arrived
+pub mod Resting
 pub mod Held
 pub mod Run

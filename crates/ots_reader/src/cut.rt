@@ -1,8 +1,8 @@
 //! Tokens that are cut between two pieces.
-ghost use Rattle.std.specs.Prelude.{◌≡◌, ◌≤◌, ◌+◌, [], ◌++◌, length, vec_capacity};
+ghost use Rattle.std.specs.Prelude.{◌≡◌, ◌≤◌, ◌+◌, ◌++◌, length, vec_capacity};
 ghost use Rattle.ots_tree.specs.declared.token.Token.{Token};
 ghost use Rattle.ots_tree.specs.TokenRef.{token_of};
-ghost use Rattle.ots_reader.specs.Cut.{IsCut, IsSpelling, ReadsOn, ReadsWhole};
+ghost use Rattle.ots_reader.specs.Cut.{FindsWhole, IsCut, IsSpelling, ReadsOn, ReadsWhole};
 
 use crate::fault::Reason;
 use crate::token::read_token;
@@ -18,39 +18,11 @@ pub(crate) const MAX_KEPT: usize = MAX_SPELLED_ATTESTATION + KEPT_AT_ONCE;
 /// How many bytes of the piece belong to the token whose first bytes are kept, where it ends within the
 /// piece. Its spelling is kept then. Where it ends later, the piece is kept behind its first bytes. It
 /// takes no memory.
+///
+/// The piece is kept a few bytes at a time until the token is whole, so no more is kept than one token and
+/// less than `KEPT_AT_ONCE` bytes behind it. That a token goes on shows in its first bytes and its length,
+/// so its others aren't read again and again.
 pub(crate) fn read_on(kept: &mut Vec<u8>, piece: &[u8]) -> Result<Option<usize>, Reason>
-    requires cut { IsCut kept.old.items }
-    requires room { MAX_KEPT ≤ vec_capacity kept.old }
-    ensures read { ReadsOn kept.old.items piece.now kept.new.items result }
-    ensures room { vec_capacity kept.old ≤ vec_capacity kept.new }
-{
-    if kept.is_empty() {
-        return read_first(kept, piece);
-    }
-    read_joined(kept, piece)
-}
-
-/// The same of a token that begins with the piece.
-fn read_first(kept: &mut Vec<u8>, piece: &[u8]) -> Result<Option<usize>, Reason>
-    requires none { kept.old.items ≡ [] }
-    requires room { MAX_KEPT ≤ vec_capacity kept.old }
-    ensures read { ReadsOn [] piece.now kept.new.items result }
-    ensures room { vec_capacity kept.old ≤ vec_capacity kept.new }
-{
-    let found = token_length(piece)?;
-    let count = match found {
-        Some(used) => used,
-        None => piece.len(),
-    };
-    keep(kept, &piece[..count]);
-    Ok(found)
-}
-
-/// The same of a token whose first bytes are kept. The piece is kept behind them a few bytes at a time
-/// until it is whole, so no more is kept than one token and less than `KEPT_AT_ONCE` bytes behind it.
-/// That a token goes on shows in its first bytes and its length, so its others aren't read again and
-/// again.
-fn read_joined(kept: &mut Vec<u8>, piece: &[u8]) -> Result<Option<usize>, Reason>
     requires cut { IsCut kept.old.items }
     requires room { MAX_KEPT ≤ vec_capacity kept.old }
     ensures read { ReadsOn kept.old.items piece.now kept.new.items result }
@@ -71,7 +43,7 @@ fn read_joined(kept: &mut Vec<u8>, piece: &[u8]) -> Result<Option<usize>, Reason
 }
 
 /// Keeps these bytes behind the others, where there is room for them.
-fn keep(kept: &mut Vec<u8>, bytes: &[u8])
+pub(crate) fn keep(kept: &mut Vec<u8>, bytes: &[u8])
     requires { length kept.old.items + length bytes.now ≤ vec_capacity kept.old }
     ensures items { kept.new.items ≡ kept.old.items ++ bytes.now }
     ensures room { vec_capacity kept.old ≤ vec_capacity kept.new }
@@ -83,8 +55,18 @@ fn keep(kept: &mut Vec<u8>, bytes: &[u8])
 fn token_length(bytes: &[u8]) -> Result<Option<usize>, Reason>
     ensures { ReadsWhole bytes.now result }
 {
+    match whole_token(bytes)? {
+        Some((_, length)) => Ok(Some(length)),
+        None => Ok(None),
+    }
+}
+
+/// The token at the front of the bytes, where it is whole, and how many of them spell it.
+pub(crate) fn whole_token(bytes: &[u8]) -> Result<Option<(TokenRef<'_>, usize)>, Reason>
+    ensures { FindsWhole bytes.now result }
+{
     match read_token(bytes) {
-        Ok((_, length)) => Ok(Some(length)),
+        Ok(found) => Ok(Some(found)),
         Err(Reason::Truncated) => Ok(None),
         Err(reason) => Err(reason),
     }

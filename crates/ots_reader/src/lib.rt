@@ -5,6 +5,7 @@
 //! (`opentimestamps/core/timestamp.py`), here with one spelling a tree.
 #![tactic(auto)]
 
+mod arrived;
 mod came;
 mod cut;
 mod fault;

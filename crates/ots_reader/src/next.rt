@@ -1,8 +1,12 @@
 //! A token that has come.
 
-/// How a token has come with a piece.
-#[derive(Clone, Copy, Debug, PartialEq, Eq)]
-pub struct Next {
+use ots_tree::TokenRef;
+
+/// A token that has come with a piece.
+#[derive(Clone, Copy, Debug)]
+pub struct Next<'a> {
+    /// The token, where its parts stand: in the piece, or with the reader where it was cut between pieces.
+    pub token: TokenRef<'a>,
     /// How many bytes of the piece belong to it, at least one.
     pub used: usize,
     /// Whether it is the tree's last one.

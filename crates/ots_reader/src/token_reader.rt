@@ -1,15 +1,17 @@
 //! Reading the tokens of a tree that comes in pieces.
-ghost use Rattle.std.specs.Prelude.{◌≡◌, ◌<◌, ◌≤◌, ◌+◌, ◌^◌, Some, length, IfOk, IsSome};
-ghost use Rattle.ots_tree.specs.TokenRef.{token_of};
+ghost use Rattle.std.specs.Prelude.{◌≡◌, ◌<◌, ◌≤◌, ◌+◌, ◌^◌, length, IfOk};
+ghost use Rattle.std.specs.Borrow.{sem};
 ghost use Rattle.ots_tree.specs.Wire.{spelled};
-ghost use Rattle.ots_reader.specs.Tokens.{begun, so_far, IsReading, Nexts, IsExactNext};
+ghost use Rattle.ots_reader.specs.Resting.{Rests};
+ghost use Rattle.ots_reader.specs.Tokens.{begun, so_far, IsReading, Leaves, Nexts, IsExactNext};
 
-use crate::cut::{MAX_KEPT, token_in};
+use crate::arrived::{Arrived, read_next};
+use crate::cut::MAX_KEPT;
 use crate::fault::Fault;
-use crate::front::{Front, MAX_OTHERS, place_below, read_next};
+use crate::front::MAX_OTHERS;
 use crate::next::Next;
 use ots_base::{MAX_MESSAGE, MAX_OPERATIONS, OutOfMemory};
-use ots_tree::{Shape, TokenRef};
+use ots_tree::Shape;
 use std::alloc::Global;
 use std::marker::Model;
 
@@ -23,11 +25,11 @@ pub const TOKEN_READER_BYTES: usize = MAX_KEPT + 8 * MAX_OTHERS;
 /// them, and for the 256 nodes that may be open besides the last one. However the bytes are cut, the
 /// time is that of reading each of them a few times.
 ///
-/// Contracts see what the tree is read below, the tokens that have come, the first bytes of the next
-/// one, and the token that came last while it is at hand.
+/// Contracts see what the tree is read below, the tokens that have come, and the first bytes of the next
+/// one.
 #[derive(Drop)]
 pub struct TokenReader {
-    front: Front,
+    arrived: Arrived,
 }
 
 impl Model for TokenReader {
@@ -35,11 +37,11 @@ impl Model for TokenReader {
 
     ghost Value = { Tokens };
 
-    ghost use Rattle.ots_reader.specs.Front.{tokens_of, IsHeld};
+    ghost use Rattle.ots_reader.specs.Arrived.{tokens_of, IsHeld};
 
-    ghost view = { λ r. tokens_of r.front };
+    ghost view = { λ r. tokens_of r.arrived };
 
-    ghost invariant = { λ r. IsHeld r.front };
+    ghost invariant = { λ r. IsHeld r.arrived };
 }
 
 impl TokenReader {
@@ -53,7 +55,7 @@ impl TokenReader {
         ensures reading { IfOk result (λ r. IsReading r) }
     {
         Ok(TokenReader {
-            front: Front::begin(alloc, shape)?,
+            arrived: Arrived::begin(alloc, shape)?,
         })
     }
 
@@ -67,37 +69,29 @@ impl TokenReader {
         ensures begun { self.new ≡ begun shape }
         ensures reading { IsReading self.new }
     {
-        place_below(&mut self.front, shape);
+        self.arrived.place_below(shape);
     }
 
-    /// The next token, where it ends within the piece: it is at hand then, until the next call. The
-    /// next piece begins behind the bytes that belong to it. Where the token goes on behind the piece
-    /// there is none, and all of the piece has been taken. Otherwise the token is none or can't stand
-    /// where it is, for another reason than that the bytes end. It takes no memory.
+    /// The next token, where it ends within the piece, and whether it is the last one. The next piece
+    /// begins behind the bytes that belong to it. Where the token goes on behind the piece there is none,
+    /// and all of the piece has been taken. Otherwise the token is none or can't stand where it is, for
+    /// another reason than that the bytes end. It takes no memory.
     ///
     /// Nothing is read behind the tree's last token or behind a fault, and fewer than 2^64 bytes in all.
-    pub fn next(&mut self, piece: &[u8]) -> Result<Option<Next>, Fault>
+    pub fn next<'a>(&'a mut self, piece: &'a [u8]) -> Result<Option<Next<'a>>, Fault>
         requires reading { IsReading self.old }
         requires few { length (so_far self.old) + length piece.now < 2 ^ 64 }
-        ensures shape { self.new.shape ≡ self.old.shape }
-        ensures next { Nexts self.old piece.now self.new result }
+        ensures next { Nexts self.old piece.now result }
         ensures exact { IsExactNext self.old piece.now result }
+        ensures* rests { sem 𝓛 (Rests self.entry (Leaves self.old piece.now result)) }
     {
-        read_next(&mut self.front, piece)
-    }
-
-    /// The token that came last, while it is at hand. It takes no memory.
-    pub fn token(&self) -> TokenRef<'_>
-        requires { IsSome self.now.last }
-        ensures { self.now.last ≡ Some (token_of result) }
-    {
-        token_in(&self.front.kept)
+        read_next(&mut self.arrived, piece)
     }
 
     /// How many bytes the tokens take that have come.
     pub fn place(&self) -> u64
         ensures { result ≡ length (spelled self.now.came) }
     {
-        self.front.place
+        self.arrived.front.place
     }
 }

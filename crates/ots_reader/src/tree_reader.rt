@@ -134,7 +134,7 @@ fn read_piece(
         let Some(next) = reader.next(&piece[at..])? else {
             return Ok(Fed::More);
         };
-        tokens.push(reader.token().to_owned(alloc)?)?;
+        tokens.push(next.token.to_owned(alloc)?)?;
         at += next.used;
         if next.last {
             return Ok(Fed::Done(at));

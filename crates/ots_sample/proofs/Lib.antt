@@ -1,3 +1,5 @@
 pub mod Items
 pub mod Lengths
+pub mod OneSample
 pub mod Values
+pub mod Yes

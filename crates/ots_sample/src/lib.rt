@@ -3,11 +3,13 @@
 #![tactic(auto)]
 
 mod headers;
+mod laws;
 mod memory;
 mod outcome;
 mod proof;
 mod sampling;
 mod tokens;
 
+pub use laws::{one_sample, verdict_of_sample};
 pub use outcome::Sample;
 pub use sampling::{MAX_SAMPLE, sample};

@@ -10,13 +10,13 @@ use Rattle.ots_detached.specs.FileFault.{header_fault}
 use Rattle.ots_reader.specs.declared.fault.Fault.{Fault}
 use Rattle.ots_verifier.specs.declared.progress.Progress.{Progress}
 use Rattle.ots_verifier.specs.declared.progress.State.TheVariants.{Header, Behind}
-use Rattle.ots_verifier.specs.Progress.{IsFresh, IsGathering, IsIn, HasCome}
+use Rattle.ots_verifier.specs.Progress.{IsGathering, IsIn, HasCome}
 use Rattle.ots_detached.proofs.Headers.{header_length}
 use Rattle.ots_bitcoin.specs.HeaderTable.{Table}
 use Rattle.ots_verifier.specs.declared.following.Following.{Following}
 use Rattle.ots_verifier.specs.declared.stage.Stage.{Stage}
 use Rattle.ots_verifier.specs.declared.stage.Stage.TheVariants.{Tree}
-use Rattle.ots_verifier.specs.Following.{Follows}
+use Rattle.ots_verifier.specs.Following.{Follows, IsFresh}
 use Rattle.ots_verifier.specs.Stage.{IsAt, Stands}
 use Rattle.ots_verifier.proofs.OnePiece.{header_fits}
 

@@ -5,3 +5,5 @@ pub mod NoSize
 pub mod OneToken
 pub mod OnePiece
 pub mod Valued
+pub mod Outcomes
+pub mod Sourced

@@ -6,13 +6,14 @@ use Rattle.ots_ops.specs.declared.op.Op.{Op}
 use Rattle.ots_tree.specs.declared.shape.Shape.{Shape}
 use Rattle.ots_tree.specs.declared.token.Token.{Token}
 use Rattle.ots_tree.specs.declared.token.Token.TheVariants as token
-use Rattle.ots_tree.specs.Walk.{Open, begun, next, opened, IsClosed, Met, Position, open_at, none_open}
+use Rattle.ots_tree.specs.TokenRef.{token_of}
+use Rattle.ots_tree.specs.Walk.{Open, begun, next, opened, IsClosed, Met, Position, open_at, none_open, IsStep}
 use Rattle.ots_tree.specs.Front.{shape_after, start}
 use Rattle.ots_tree.proofs.Closing.{front_law}
 use Rattle.ots_tree.proofs.Walks.{at, map_open, opened_along}
 use Rattle.ots_reader.specs.declared.next.Next.{Next}
 use Rattle.ots_reader.proofs.WithinPiece.{IsReadUpTo, read_more, read_whole, read_ended}
-use Rattle.ots_reader.specs.Tokens.{Tokens, IsReading, Stands, Brings, Keeps}
+use Rattle.ots_reader.specs.Tokens.{Tokens, with_token, with_bytes, IsReading, Stands, Brings}
 use Rattle.ots_bitcoin.specs.HeaderTable.{Table}
 use Rattle.ots_eval.specs.declared.best.Best.{Best}
 use Rattle.ots_eval.specs.Walked.{messages_by, messages, noted, walked, nothing}
@@ -69,17 +70,19 @@ stands_open true old piece used new n is same s =
     let sound = subst (λ (z : Shape). IsClosed (opened shape_after (start z.length z.depth) new.came)) is ((front_law old.shape.length old.shape.depth new.came (rw is (omega arith))).1 s.is_tree.sound) in
     some_open (opened shape_after (start n 0) new.came) sound
 
-next_brought : (digest : List ℕ) (now new : Tokens) (m : Position (List ℕ)) (x : Token) (after : Open (List ℕ)) → opened apply (begun digest) now.came ≡ Some (open_at m)
-    → new.came ≡ now.came ++ x ∷ [] → opened apply (begun digest) new.came ≡ Some after → next apply x (open_at m) ≡ Some after
-next_brought digest now new m x after opens came is = next_of apply (begun digest) (open_at m) after now.came x opens (ap (opened apply (begun digest)) (sym came) ∙ is)
+next_brought : (digest : List ℕ) (now : Tokens) (m : Position (List ℕ)) (x : Token) (after : Open (List ℕ)) → opened apply (begun digest) now.came ≡ Some (open_at m)
+    → opened apply (begun digest) (now.came ++ x ∷ []) ≡ Some after → next apply x (open_at m) ≡ Some after
+next_brought digest now m x after opens is = next_of apply (begun digest) (open_at m) after now.came x opens is
 
-pub may_come : (bitcoin : Table) (litecoin : Option Table) (digest : List ℕ) (now new : Tokens) (m : Position (List ℕ)) (best : Best) (piece : List ℕ) (x : Token) (n : Next)
-    → Follows bitcoin litecoin digest now m best → Brings now piece x n new → new.shape ≡ now.shape → MayCome x m
-may_come bitcoin litecoin digest now new m best piece x n f b shape =
-    let o = stands_open n.last now piece n.used new (length digest) f.shape shape b.stands in
-    let v = valued digest new.came o.0 o.1 in
-    let is = next_brought digest now new m x v.after f.opens b.came v.is in
-    may_at x m m.forked v.after refl is (rows_for digest new.came o.0 o.1 v)
+pub may_come : (bitcoin : Table) (litecoin : Option Table) (digest : List ℕ) (now : Tokens) (m : Position (List ℕ)) (best : Best) (piece : List ℕ) (n : Next)
+    → Follows bitcoin litecoin digest now m best → Brings now piece n → MayCome (token_of n.token) m
+may_come bitcoin litecoin digest now m best piece n f b =
+    let x = token_of n.token in
+    let came = now.came ++ x ∷ [] in
+    let o = stands_open n.last now piece n.used (with_token now x) (length digest) f.shape refl b.stands in
+    let v = valued digest came o.0 o.1 in
+    let is = next_brought digest now m x v.after f.opens v.is in
+    may_at x m m.forked v.after refl is (rows_for digest came o.0 o.1 v)
 
 -- ---- the tree goes on
 
@@ -87,29 +90,30 @@ where_going : (going : Bool) (after : Open (List ℕ)) (m : Position (List ℕ))
 where_going true after m k is some = is
 where_going false after m k is some = let none = ap (λ (w : Open (List ℕ)). length w.nodes) is in absurd (omega arith)
 
-best_after : (bitcoin : Table) (litecoin : Option Table) (digest : List ℕ) (now new : Tokens) (m after : Position (List ℕ)) (best better : Best) (x : Token)
-    → Follows bitcoin litecoin digest now m best → new.came ≡ now.came ++ x ∷ [] → Takes bitcoin litecoin x m best after better → better ≡ best_in bitcoin litecoin digest new.came
-best_after bitcoin litecoin digest now new m after best better x f came t =
-    t.is_noted ∙ ap (noted bitcoin litecoin x (Some m.last)) f.is_best ∙ sym (noted_last bitcoin litecoin digest now.came x m f.opens) ∙ ap (best_in bitcoin litecoin digest) (sym came)
+best_after : (bitcoin : Table) (litecoin : Option Table) (digest : List ℕ) (now : Tokens) (m after : Position (List ℕ)) (best better : Best) (x : Token)
+    → Follows bitcoin litecoin digest now m best → Takes bitcoin litecoin x m best after better → better ≡ best_in bitcoin litecoin digest (now.came ++ x ∷ [])
+best_after bitcoin litecoin digest now m after best better x f t =
+    t.is_noted ∙ ap (noted bitcoin litecoin x (Some m.last)) f.is_best ∙ sym (noted_last bitcoin litecoin digest now.came x m f.opens)
 
 reading_of : (last : Bool) (old : Tokens) (piece : List ℕ) (used : ℕ) (new : Tokens) → last ≡ false → Stands last old piece used new → IsReading new
 reading_of last old piece used new e s = rw e at s
 
-follow_on : (bitcoin : Table) (litecoin : Option Table) (digest : List ℕ) (now new : Tokens) (m after : Position (List ℕ)) (best better : Best) (piece : List ℕ) (x : Token) (n : Next)
-    → Follows bitcoin litecoin digest now m best → Brings now piece x n new → new.shape ≡ now.shape → n.last ≡ false → Takes bitcoin litecoin x m best after better
-    → Follows bitcoin litecoin digest new after better
-follow_on bitcoin litecoin digest now new m after best better piece x n f b shape going t =
-    let here = shape ∙ f.shape in
-    let reading = reading_of n.last now piece n.used new going b.stands in
+follow_on : (bitcoin : Table) (litecoin : Option Table) (digest : List ℕ) (now : Tokens) (m after : Position (List ℕ)) (best better : Best) (piece : List ℕ) (n : Next)
+    → Follows bitcoin litecoin digest now m best → Brings now piece n → n.last ≡ false → Takes bitcoin litecoin (token_of n.token) m best after better
+    → Follows bitcoin litecoin digest (with_token now (token_of n.token)) after better
+follow_on bitcoin litecoin digest now m after best better piece n f b going t =
+    let x = token_of n.token in
+    let came = now.came ++ x ∷ [] in
+    let reading = reading_of n.last now piece n.used (with_token now x) going b.stands in
     let u : Open Shape = record { nodes = reading.at ∷ reading.others; forked = reading.forked } in
-    let opens : opened shape_after (start (length digest) 0) new.came ≡ Some u = subst (λ (z : Shape). opened shape_after (start z.length z.depth) new.came ≡ Some u) here reading.is_front.opens in
-    let v = valued digest new.came u opens in
-    let is = next_brought digest now new m x v.after f.opens b.came v.is in
+    let opens : opened shape_after (start (length digest) 0) came ≡ Some u = subst (λ (z : Shape). opened shape_after (start z.length z.depth) came ≡ Some u) f.shape reading.is_front.opens in
+    let v = valued digest came u opens in
+    let is = next_brought digest now m x v.after f.opens v.is in
     record {
-      shape = here;
+      shape = f.shape;
       reading = reading;
       opens = v.is ∙ ap Some (where_going t.going v.after after (length reading.others) (t.step v.after is) v.count);
-      is_best = best_after bitcoin litecoin digest now new m after best better x f b.came t;
+      is_best = best_after bitcoin litecoin digest now m after best better x f t;
     }
 
 -- ---- within a piece
@@ -122,31 +126,37 @@ pub record IsFollowed (bitcoin : Table) (litecoin : Option Table) (digest : List
 abbrev pub rest_of : ℕ → List ℕ → List ℕ
 rest_of place piece = take (length piece - place) (drop place piece)
 
-pub followed_more : (bitcoin : Table) (litecoin : Option Table) (digest : List ℕ) (old now new : Tokens) (m after : Position (List ℕ)) (best better : Best) (piece : List ℕ) (place : ℕ) (x : Token) (n : Next)
-    → IsFollowed bitcoin litecoin digest old piece now m best place → Brings now (rest_of place piece) x n new → new.shape ≡ now.shape → n.last ≡ false → Takes bitcoin litecoin x m best after better
-    → IsFollowed bitcoin litecoin digest old piece new after better (place + n.used)
-followed_more bitcoin litecoin digest old now new m after best better piece place x n i b shape going t = record {
-  read = read_more old now new piece now.came new.came x place n i.read b shape going b.came;
-  follows = follow_on bitcoin litecoin digest now new m after best better (rest_of place piece) x n i.follows b shape going t;
-}
+pub followed_more : (bitcoin : Table) (litecoin : Option Table) (digest : List ℕ) (old now new : Tokens) (m after : Position (List ℕ)) (best better : Best) (piece : List ℕ) (place : ℕ) (n : Next)
+    → IsFollowed bitcoin litecoin digest old piece now m best place → Brings now (rest_of place piece) n → new ≡ with_token now (token_of n.token) → n.last ≡ false
+    → Takes bitcoin litecoin (token_of n.token) m best after better → IsFollowed bitcoin litecoin digest old piece new after better (place + n.used)
+followed_more bitcoin litecoin digest old now new m after best better piece place n i b is going t =
+    let behind = with_token now (token_of n.token) in
+    rw is (record {
+      read = read_more old now behind piece now.came behind.came place n i.read b refl going refl;
+      follows = follow_on bitcoin litecoin digest now m after best better (rest_of place piece) n i.follows b going t;
+    })
 
-pub followed_whole : (bitcoin : Table) (litecoin : Option Table) (digest : List ℕ) (old now new : Tokens) (m after : Position (List ℕ)) (best better : Best) (piece : List ℕ) (place : ℕ) (x : Token) (n : Next)
-    → IsFollowed bitcoin litecoin digest old piece now m best place → Brings now (rest_of place piece) x n new → n.last ≡ true → Takes bitcoin litecoin x m best after better
+pub followed_whole : (bitcoin : Table) (litecoin : Option Table) (digest : List ℕ) (old now : Tokens) (m after : Position (List ℕ)) (best better : Best) (piece : List ℕ) (place : ℕ) (n : Next)
+    → IsFollowed bitcoin litecoin digest old piece now m best place → Brings now (rest_of place piece) n → n.last ≡ true → Takes bitcoin litecoin (token_of n.token) m best after better
     → FollowsWhole bitcoin litecoin digest old piece (place + n.used) better
-followed_whole bitcoin litecoin digest old now new m after best better piece place x n i b whole t = record {
-  tokens = new.came;
-  ends = read_ended old now new piece now.came new.came x place n i.read b whole b.came;
-  is_best = best_after bitcoin litecoin digest now new m after best better x i.follows b.came t;
-}
+followed_whole bitcoin litecoin digest old now m after best better piece place n i b whole t =
+    let came = now.came ++ token_of n.token ∷ [] in
+    record {
+      tokens = came;
+      ends = read_ended old now piece now.came came place n i.read b whole refl;
+      is_best = best_after bitcoin litecoin digest now m after best better (token_of n.token) i.follows t;
+    }
 
 pub followed_piece : (bitcoin : Table) (litecoin : Option Table) (digest : List ℕ) (old now new : Tokens) (m : Position (List ℕ)) (best : Best) (piece : List ℕ) (place : ℕ)
-    → IsFollowed bitcoin litecoin digest old piece now m best place → Keeps now (rest_of place piece) new → new.shape ≡ now.shape → FollowsTo bitcoin litecoin digest old piece new m best
-followed_piece bitcoin litecoin digest old now new m best piece place i k shape = record {
-  read = (read_whole old now new piece now.came place i.read k shape).0;
-  follows = record {
-    shape = shape ∙ i.follows.shape;
-    reading = k.reading;
-    opens = rw k.came i.follows.opens;
-    is_best = rw k.came i.follows.is_best;
-  };
-}
+    → IsFollowed bitcoin litecoin digest old piece now m best place → IsReading (with_bytes now (rest_of place piece)) → new ≡ with_bytes now (rest_of place piece)
+    → FollowsTo bitcoin litecoin digest old piece new m best
+followed_piece bitcoin litecoin digest old now new m best piece place i k is =
+    rw is (record {
+      read = (read_whole old now (with_bytes now (rest_of place piece)) piece now.came place i.read k refl).0;
+      follows = record { shape = i.follows.shape; reading = k; opens = i.follows.opens; is_best = i.follows.is_best };
+    })
+
+-- what is done with the token
+pub taken : (bitcoin : Table) (litecoin : Option Table) (x : Token) (m : Position (List ℕ)) (best : Best) (after : Position (List ℕ)) (better : Best) (message : List ℕ) (going : Bool)
+    → IsStep apply x m after going → message ≡ m.last → better ≡ noted bitcoin litecoin x (Some message) best → Takes bitcoin litecoin x m best after better
+taken bitcoin litecoin x m best after better message going step is note = record { going = going; step = step; is_noted = rw (← is) note }

@@ -1,5 +1,5 @@
 -- Where the lengths of messages go on, the messages do.
-use Rattle.std.proofs.Common.{◌≡◌, ℕ, ◌+◌, ◌≤◌, Bool, true, false, cond, List, [], ◌∷◌, ◌++◌, map, length, Option, Some, None, refl, sym, ap, ◌∙◌, arith, append_assoc}
+use Rattle.std.proofs.Common.{◌≡◌, ℕ, ◌≤◌, Bool, true, false, cond, List, [], ◌∷◌, ◌++◌, map, length, Option, Some, None, refl, sym, ap, ◌∙◌, arith, append_assoc}
 use Rattle.std.specs.Prelude.{unwrap_or, option_and_then, option_map, nat_le, ◌&&◌}
 use Rattle.std.proofs.lemmas.List.{append-nil, length-map}
 use Rattle.ots_base.specs.declared.limits.TheConstants.{MAX_MESSAGE}

@@ -10,11 +10,12 @@ use Rattle.ots_reader.specs.declared.fed.Fed.{Fed}
 use Rattle.ots_reader.specs.declared.fed.Fed.TheVariants.{More, Done}
 use Rattle.ots_reader.specs.Held.{IsReadTo}
 use Rattle.ots_reader.specs.Progress.{EndsIn}
-use Rattle.ots_reader.specs.Tokens.{Tokens, so_far, IsReading}
+use Rattle.ots_reader.specs.Tokens.{Tokens, begun as before_any, so_far, IsReading}
 use Rattle.ots_reader.specs.TreeFault.{HasTreeFault}
 use Rattle.ots_bitcoin.specs.HeaderTable.{Table}
 use Rattle.ots_eval.specs.declared.best.Best.{Best}
 use Rattle.ots_eval.specs.Walked.{messages, noted, walked, nothing}
+use Rattle.ots_verifier.specs.declared.following.Following.{Following}
 use Rattle.ots_verifier.specs.declared.messages.TheConstants.{ROWS}
 
 -- There is a row for what a token leads to, and a message.
@@ -34,6 +35,11 @@ pub record Follows (bitcoin : Table) (litecoin : Option Table) (digest : List �
   pub reading : IsReading r
   pub opens : opened apply (begun digest) r.came ≡ Some (open_at m)
   pub is_best : best ≡ best_in bitcoin litecoin digest r.came
+
+-- no byte has come of the tree
+pub record IsFresh (f : Following) : Type 0 where
+  pub reader : f.reader ≡ before_any f.reader.shape
+  pub none : f.best ≡ nothing
 
 -- the messages and the least heights, behind one more token
 pub record Takes (bitcoin : Table) (litecoin : Option Table) (x : Token) (m : Position (List ℕ)) (best : Best) (after : Position (List ℕ)) (better : Best) : Type 0 where

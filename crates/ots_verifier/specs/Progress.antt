@@ -1,21 +1,14 @@
 -- How far a proof file has come.
 use Rattle.std.specs.Prelude.{◌≡◌, ◌<◌, ◌≤◌, ℕ, List, length, take, min, Option, IsSome}
 use Rattle.ots_base.specs.declared.limits.TheConstants.{MAX_PROOF_FILE}
-use Rattle.ots_reader.specs.Tokens.{begun}
 use Rattle.ots_detached.specs.FileFault.{header_fault}
 use Rattle.ots_bitcoin.specs.HeaderTable.{Table}
-use Rattle.ots_eval.specs.Walked.{nothing}
-use Rattle.ots_verifier.specs.declared.following.Following.{Following}
 use Rattle.ots_verifier.specs.declared.progress.TheConstants.{MAX_HEADER}
 use Rattle.ots_verifier.specs.declared.progress.Progress.{Progress}
 use Rattle.ots_verifier.specs.declared.progress.State.{State}
 use Rattle.ots_verifier.specs.declared.progress.State.TheVariants.{Header, Behind, TooBig}
+use Rattle.ots_verifier.specs.Following.{IsFresh}
 use Rattle.ots_verifier.specs.Stage.{Stands}
-
--- no byte has come of the tree
-pub record IsFresh (f : Following) : Type 0 where
-  pub reader : f.reader ≡ begun f.reader.shape
-  pub none : f.best ≡ nothing
 
 -- The header has not come whole, or is none: its first bytes are kept.
 pub record IsGathering (bytes : List ℕ) (p : Progress) : Type 0 where

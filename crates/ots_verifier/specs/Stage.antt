@@ -1,5 +1,6 @@
 -- How far a proof file has come behind its header.
-use Rattle.std.specs.Prelude.{◌≡◌, ◌≢◌, ℕ, ◌+◌, List, length, drop, Option}
+use Rattle.std.specs.Prelude.{◌≡◌, ◌≢◌, ◌≤◌, ℕ, ◌+◌, List, length, drop, Option}
+use Rattle.ots_base.specs.declared.limits.TheConstants.{MAX_PROOF_FILE}
 use Rattle.ots_ops.specs.declared.hash_op.HashOp.{HashOp}
 use Rattle.ots_tree.specs.declared.token.Token.{Token}
 use Rattle.ots_reader.specs.declared.fault.Fault.{Fault}
@@ -50,3 +51,8 @@ IsAt bitcoin litecoin bytes (Refused fault) f = IsRefused bytes fault
 pub record Stands (bitcoin : Table) (litecoin : Option Table) (bytes : List ℕ) (count : ℕ) (s : Stage) (f : Following) : Type 0 where
   pub counted : count ≡ length bytes
   pub is_at : IsAt bitcoin litecoin bytes s f
+
+-- The same, of no more than a proof file may have.
+pub record IsWithin (bitcoin : Table) (litecoin : Option Table) (bytes : List ℕ) (s : Stage) (f : Following) : Type 0 where
+  pub size : length bytes ≤ MAX_PROOF_FILE
+  pub within : IsAt bitcoin litecoin bytes s f

@@ -1,18 +1,19 @@
 //! What the tokens of a tree confirm, as they come.
-ghost use Rattle.std.specs.Prelude.{◌≡◌, ◌+◌, ◌^◌, ◌<◌, Bool, List, ℕ, Some, IsSome, length};
+ghost use Rattle.std.specs.Prelude.{◌≡◌, ◌+◌, ◌^◌, ◌<◌, List, ℕ, Some, IfOk, length};
 ghost use Rattle.std.specs.Option.{option_copied};
-ghost use Rattle.ots_tree.specs.declared.token.Token.{Token};
 ghost use Rattle.ots_tree.specs.TokenRef.{token_of};
 ghost use Rattle.ots_reader.specs.Tokens.{so_far};
 ghost use Rattle.ots_eval.specs.Walked.{noted};
-ghost use Rattle.ots_verifier.specs.Following.{Finds, Follows, MayCome, Takes};
+ghost use Rattle.ots_verifier.specs.Following.{Finds, Follows, IsFresh};
 
 use crate::messages::Messages;
 use ots_attest::AttestationRef;
+use ots_base::OutOfMemory;
 use ots_bitcoin::Headers;
 use ots_eval::{Best, Chain};
 use ots_reader::{Fault, Fed, TokenReader};
-use ots_tree::TokenRef;
+use ots_tree::{Shape, TokenRef};
+use std::alloc::Global;
 
 /// A tree that comes in pieces, the messages of its open nodes, and what its attestations confirm.
 #[derive(Drop)]
@@ -20,6 +21,23 @@ pub(crate) struct Following {
     pub reader: TokenReader,
     pub messages: Messages,
     pub best: Best,
+}
+
+impl Following {
+    /// No token yet. It takes the memory for all that comes.
+    pub fn begin(alloc: Global) -> Result<Following, OutOfMemory>
+        ensures { IfOk result (λ following. IsFresh following) }
+    {
+        let shape = Shape {
+            length: 32,
+            depth: 0,
+        };
+        Ok(Following {
+            reader: TokenReader::begin(alloc, shape)?,
+            messages: Messages::begin(alloc)?,
+            best: Best::nothing(),
+        })
+    }
 }
 
 /// Follows the tokens that end within the piece, up to the tree's last one. It takes no memory.
@@ -39,26 +57,14 @@ pub(crate) fn follow_piece(
         let Some(next) = following.reader.next(&piece[at..])? else {
             return Ok(Fed::More);
         };
-        take_token(following, bitcoin, litecoin);
+        let message = following.messages.last();
+        following.best = noted(next.token, message, following.best, bitcoin, litecoin);
+        let _open = following.messages.follow(next.token);
         at += next.used;
         if next.last {
             return Ok(Fed::Done(at));
         }
     }
-}
-
-/// Follows the token that came last.
-fn take_token(following: &mut Following, bitcoin: &Headers, litecoin: Option<&Headers>)
-    requires at_hand { IsSome following.old.reader.last }
-    requires may_come { (x : Token) → following.old.reader.last ≡ Some x → MayCome x following.old.messages }
-    ensures reader { following.new.reader ≡ following.old.reader }
-    ensures takes { (x : Token) → following.old.reader.last ≡ Some x
-        → Takes bitcoin.now (option_copied litecoin.entry) x following.old.messages following.old.best following.new.messages following.new.best }
-{
-    let token = following.reader.token();
-    let message = following.messages.last();
-    following.best = noted(token, message, following.best, bitcoin, litecoin);
-    let _open = following.messages.follow(token);
 }
 
 /// The least heights, with what a token behind this message adds.

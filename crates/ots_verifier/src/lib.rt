@@ -4,9 +4,17 @@
 //! (`opentimestamps/core/timestamp.py`, `DetachedTimestampFile`).
 #![tactic(auto)]
 
+mod checked;
 mod fed;
 mod following;
 mod messages;
+mod outcome;
 mod progress;
 mod rows;
+mod source;
 mod stage;
+mod verifier;
+
+pub use checked::{CheckError, Checked};
+pub use source::{SourceError, check_source};
+pub use verifier::{VERIFIER_BYTES, Verifier};

@@ -3,19 +3,16 @@ ghost use Rattle.std.specs.Prelude.{◌≡◌, ◌+◌, ◌<◌, ◌≤◌, ◌+
 ghost use Rattle.std.specs.Option.{option_copied};
 ghost use Rattle.ots_bitcoin.specs.HeaderTable.{Table};
 ghost use Rattle.ots_detached.specs.File.{IsHeader};
-ghost use Rattle.ots_verifier.specs.Following.{Follows};
-ghost use Rattle.ots_verifier.specs.Progress.{HasCome, IsFresh, IsGathering};
+ghost use Rattle.ots_verifier.specs.Following.{Follows, IsFresh};
+ghost use Rattle.ots_verifier.specs.Progress.{HasCome, IsGathering};
 ghost use Rattle.ots_verifier.specs.Stage.{IsAt, Stands};
 
 use crate::following::Following;
-use crate::messages::Messages;
 use crate::stage::{Stage, read_behind};
 use ots_base::{MAX_PROOF_FILE, OutOfMemory};
 use ots_bitcoin::Headers;
 use ots_detached::{FileHeader, read_header};
-use ots_eval::Best;
 use ots_ops::Digest;
-use ots_reader::TokenReader;
 use ots_tree::Shape;
 use std::alloc::Global;
 
@@ -33,6 +30,20 @@ pub(crate) struct Progress {
     pub count: usize,
     /// What has become of them.
     pub state: State,
+}
+
+impl Progress {
+    /// No byte yet. It takes the memory for all that comes.
+    pub fn begin(alloc: Global) -> Result<Progress, OutOfMemory>
+        ensures { IfOk result (λ p. (bitcoin : Table) (litecoin : Option Table) → HasCome bitcoin litecoin [] p) }
+    {
+        Ok(Progress {
+            following: Following::begin(alloc)?,
+            header: [0; MAX_HEADER],
+            count: 0,
+            state: State::Header,
+        })
+    }
 }
 
 /// What has become of the bytes that have come.

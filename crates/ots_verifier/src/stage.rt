@@ -87,7 +87,7 @@ fn trailing(place: usize) -> Fault
 }
 
 /// The fault of a tree as one of the file, which begins with this header.
-fn moved(header: FileHeader, fault: Fault) -> Fault
+pub(crate) fn moved(header: FileHeader, fault: Fault) -> Fault
     requires { 33 + length header.digest + fault.place < 2 ^ 64 }
     ensures { result ≡ moved (33 + length header.digest) fault }
 {

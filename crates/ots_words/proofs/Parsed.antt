@@ -13,7 +13,7 @@ use Rattle.clap.proofs.WalkLemmas.{both}
 use Rattle.ots_words.specs.declared.arguments.Argument.{Argument}
 use Rattle.ots_words.specs.Words.{Command, Described, argument, arguments_of, command_in, described, is_taken, read_form, simple, with_arguments, word_of}
 use Rattle.ots_words.specs.declared.words.Form.{Form}
-use Rattle.ots_words.specs.declared.words.Form.TheVariants.{Info, Canon, Merge, Prune, Verify, Stamp, Upgrade}
+use Rattle.ots_words.specs.declared.words.Form.TheVariants.{Info, Canon, Merge, Prune, Verify, Stamp, Upgrade, Sample}
 
 pub none_added : (app : App) (name : Text) (arguments : List Argument) → app ≡ new_app name → with_arguments app (map described (drop 0 arguments)) ≡ simple name (map described arguments)
 unfolding simple
@@ -65,6 +65,7 @@ are_simple Prune = refl
 are_simple Verify = refl
 are_simple Stamp = refl
 are_simple Upgrade = refl
+are_simple Sample = refl
 
 -- what was taken, and not
 pub form_taken : (form : Form) (word : Text) (arguments : List Described) (words : List Text) (rows : List Row) (c : Option Command) → word ≡ word_of form → arguments ≡ arguments_of form

@@ -14,14 +14,15 @@ use Rattle.clap.specs.declared.builder.action.ArgAction.TheVariants.{Append, Set
 use Rattle.ots_words.specs.declared.command.Command.{Command as Read}
 use Rattle.ots_words.specs.declared.command.Command.TheVariants as read
 use Rattle.ots_words.specs.declared.words.Form.{Form}
-use Rattle.ots_words.specs.declared.words.Form.TheVariants.{Info, Canon, Merge, Prune, Verify, Stamp, Upgrade}
+use Rattle.ots_words.specs.declared.words.Form.TheVariants.{Info, Canon, Merge, Prune, Verify, Stamp, Upgrade, Sample}
 use Rattle.ots_words.specs.declared.arguments.Argument.{Argument}
 use Rattle.ots_words.specs.declared.arguments.Kind.{Kind}
 use Rattle.ots_words.specs.declared.arguments.Kind.TheVariants.{Positional, Required, Optional, Several}
 use Rattle.ots_words.specs.declared.command.HeaderFile.{HeaderFile as ReadHeaderFile}
 use Rattle.ots_words.specs.declared.command.Stamping.{Stamping as ReadStamping}
 use Rattle.ots_words.specs.declared.command.Upgrading.{Upgrading as ReadUpgrading}
-use Rattle.ots_words.specs.declared.limits.TheConstants.{MAX_STAMPED, MAX_WANTED}
+use Rattle.ots_words.specs.declared.command.Sampling.{Sampling}
+use Rattle.ots_words.specs.declared.limits.TheConstants.{MAX_PATHS, MAX_STAMPED, MAX_WANTED}
 use Rattle.ots_words.specs.declared.command.Verification.{Verification as ReadVerification}
 
 -- a file of headers, and the height of its first one
@@ -64,6 +65,8 @@ pub data Command : Type 0 where
   stamp : Stamping → Command
   -- ask calendars to complete the proof
   upgrade : Upgrading → Command
+  -- make a proof of so many paths by a rule, and verify it
+  sample : ℕ → Command
 
 -- ---- the words as clap reads them
 
@@ -103,10 +106,11 @@ word_of Prune = codes "prune"
 word_of Verify = codes "verify"
 word_of Stamp = codes "stamp"
 word_of Upgrade = codes "upgrade"
+word_of Sample = codes "sample"
 
 -- info PROOF; canon IN OUT; merge A B OUT; prune IN OUT;
 -- verify FILE PROOF HEADERS --from N, and perhaps --litecoin FILE --litecoin-from M;
--- stamp --calendars LIST --min M FILE..; upgrade --calendars LIST IN OUT
+-- stamp --calendars LIST --min M FILE..; upgrade --calendars LIST IN OUT; sample N
 abbrev pub arguments_of : Form → List Described
 arguments_of Info = (codes "proof", Positional) ∷ []
 arguments_of Canon = (codes "in", Positional) ∷ (codes "out", Positional) ∷ []
@@ -116,6 +120,7 @@ arguments_of Verify = (codes "file", Positional) ∷ (codes "proof", Positional)
     ∷ (codes "from", Required) ∷ (codes "litecoin", Optional) ∷ (codes "litecoin-from", Optional) ∷ []
 arguments_of Stamp = (codes "calendars", Required) ∷ (codes "min", Required) ∷ (codes "files", Several) ∷ []
 arguments_of Upgrade = (codes "in", Positional) ∷ (codes "out", Positional) ∷ (codes "calendars", Required) ∷ []
+arguments_of Sample = (codes "paths", Positional) ∷ []
 
 abbrev pub form_of : List ℕ → Option Form
 form_of word =
@@ -126,6 +131,7 @@ form_of word =
     else if bytes_eq word (word_of Verify) then Some Verify
     else if bytes_eq word (word_of Stamp) then Some Stamp
     else if bytes_eq word (word_of Upgrade) then Some Upgrade
+    else if bytes_eq word (word_of Sample) then Some Sample
     else None
 
 -- a file's name is not empty
@@ -175,6 +181,10 @@ verification_in rows =
 abbrev pub wanted : List ℕ → Option ℕ
 wanted word = option_and_then (λ n. if nat_lt 0 n && not (nat_lt MAX_WANTED n) then Some n else None) (number word)
 
+-- how many paths a sample has: a number from 1 on
+abbrev pub paths : List ℕ → Option ℕ
+paths word = option_and_then (λ n. if nat_lt 0 n && not (nat_lt MAX_PATHS n) then Some n else None) (number word)
+
 -- the texts behind references
 abbrev pub texts : List (Bor (List ℕ)) → List (List ℕ)
 texts = map (λ s. s.now)
@@ -214,6 +224,7 @@ command_in Prune rows = with_two prune (name_in rows (codes "in")) (name_in rows
 command_in Verify rows = option_map verify (verification_in rows)
 command_in Stamp rows = option_map stamp (stamping_in rows)
 command_in Upgrade rows = option_map upgrade (upgrading_in rows)
+command_in Sample rows = option_map sample (option_and_then paths (first_of (codes "paths") rows))
 
 unfoldable pub read_form : Form → List (List ℕ) → Option Command
 read_form form words =
@@ -243,6 +254,9 @@ read_stamping s = record { calendars = s.calendars.now; least = s.least; files =
 abbrev pub read_upgrading : ReadUpgrading → Upgrading
 read_upgrading u = record { calendars = u.calendars.now; proof = u.proof.now; to = u.to.now }
 
+abbrev pub read_sampling : Sampling → ℕ
+read_sampling s = s.paths
+
 abbrev pub read_as : Read → Command
 read_as (read.Info proof) = info proof.now
 read_as (read.Canon from to) = canon from.now to.now
@@ -251,6 +265,7 @@ read_as (read.Prune from to) = prune from.now to.now
 read_as (read.Verify v) = verify (read_verification v)
 read_as (read.Stamp s) = stamp (read_stamping s)
 read_as (read.Upgrade u) = upgrade (read_upgrading u)
+read_as (read.Sample s) = sample (read_sampling s)
 
 -- what these words ask for, each seen as its bytes
 abbrev pub asked : List (String Global) → Option Command

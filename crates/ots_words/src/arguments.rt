@@ -2,10 +2,10 @@
 ghost use Rattle.std.specs.Prelude.{◌≡◌, ◌≢◌, None, Some, false, true, map, string_bytes, IfErr, IfOk};
 ghost use Rattle.std.specs.Option.{option_map};
 ghost use Rattle.clap.specs.Words.{first_of, found_of, is_simple_and_free, matches_of, rows_of, rule_of};
-ghost use Rattle.ots_words.specs.Words.{argument, described, header_file, is_taken, name_in, names_in, nonempty, number, some_names, texts, wanted, perhaps_header_file_of, read_header_file, simple};
+ghost use Rattle.ots_words.specs.Words.{argument, described, header_file, is_taken, name_in, names_in, nonempty, number, paths, read_sampling, some_names, texts, wanted, perhaps_header_file_of, read_header_file, simple};
 
-use crate::command::HeaderFile;
-use crate::limits::{MAX_STAMPED, MAX_WANTED};
+use crate::command::{HeaderFile, Sampling};
+use crate::limits::{MAX_PATHS, MAX_STAMPED, MAX_WANTED};
 use crate::words::WordsError;
 use clap::error::ErrorKind;
 use clap::{Arg, ArgAction, ArgMatches};
@@ -114,6 +114,19 @@ pub fn wanted(word: &str) -> Option<u32>
         return None;
     }
     Some(wanted as u32)
+}
+
+/// How many paths a sample is to have, by a word: 1 to [`MAX_PATHS`].
+pub fn sampling(word: &str) -> Option<Sampling>
+    ensures { option_map read_sampling result ≡ paths word.now }
+{
+    let paths = number(word)?;
+    if paths == 0 || paths > u64::from(MAX_PATHS) {
+        return None;
+    }
+    Some(Sampling {
+        paths: paths as u32,
+    })
 }
 
 /// The name of a file that an argument gives, where it isn't empty.

@@ -1,6 +1,6 @@
 //! The commands.
 ghost use Rattle.std.specs.Prelude.{◌-◌, ◌^◌, ◌≤◌, length};
-ghost use Rattle.ots_words.specs.declared.limits.TheConstants.{MAX_STAMPED};
+ghost use Rattle.ots_words.specs.declared.limits.TheConstants.{MAX_PATHS, MAX_STAMPED};
 
 /// What the words ask for.
 #[derive(Drop)]
@@ -21,6 +21,8 @@ pub enum Command<'a> {
     /// `upgrade --calendars LIST IN OUT`: ask calendars to complete the proof under the first name,
     /// and write that as the second.
     Upgrade(Upgrading<'a>),
+    /// `sample N`: make a proof of N paths by a rule, verify it, and print what it comes to.
+    Sample(Sampling),
 }
 
 /// What `stamp` is to do.
@@ -46,6 +48,15 @@ pub struct Upgrading<'a> {
     pub proof: &'a str,
     /// The name under which the completed proof is written.
     pub to: &'a str,
+}
+
+/// What `sample` is to make.
+#[derive(Clone, Copy)]
+pub struct Sampling {
+    /// How many paths the proof has, 1 to [`MAX_PATHS`](crate::MAX_PATHS).
+    pub paths: u32,
+    pub ghost some: { 1 ≤ paths },
+    pub ghost most: { paths ≤ MAX_PATHS },
 }
 
 /// What `verify` is to check.

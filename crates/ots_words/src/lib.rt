@@ -6,6 +6,6 @@ mod command;
 mod limits;
 mod words;
 
-pub use command::{Command, HeaderFile, Stamping, Upgrading, Verification};
-pub use limits::{MAX_STAMPED, MAX_WANTED};
+pub use command::{Command, HeaderFile, Sampling, Stamping, Upgrading, Verification};
+pub use limits::{MAX_PATHS, MAX_STAMPED, MAX_WANTED};
 pub use words::{WordsError, read_words};

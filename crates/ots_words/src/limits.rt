@@ -6,3 +6,6 @@ pub const MAX_STAMPED: usize = 1024;
 /// The greatest number of calendars that may be wanted, which is that of a list of addresses. The
 /// limit is this project's own.
 pub const MAX_WANTED: u64 = 16;
+
+/// The most paths that a sample may have. The limit is this project's own.
+pub const MAX_PATHS: u32 = 100_000;

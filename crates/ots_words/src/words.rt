@@ -5,8 +5,8 @@ ghost use Rattle.clap.specs.Words.{found_of, rows_of};
 ghost use Rattle.ots_words.specs.Words.{arguments_of, command_in, command_of, described, form_of, read_as, read_form, read_stamping, read_upgrading, read_verification, stamping_in, upgrading_in, verification_in, wanted_calendars_in, word_of};
 
 use crate::arguments::{
-    Argument, Kind, file_name, file_names, header_file, litecoin_file, read_arguments, value,
-    wanted,
+    Argument, Kind, file_name, file_names, header_file, litecoin_file, read_arguments, sampling,
+    value, wanted,
 };
 use crate::command::{Command, Stamping, Upgrading, Verification};
 use clap::ArgMatches;
@@ -22,6 +22,7 @@ enum Form {
     Verify,
     Stamp,
     Upgrade,
+    Sample,
 }
 
 /// Why words ask for nothing.
@@ -134,6 +135,9 @@ static UPGRADE: [Argument; 3] = [
     Argument("calendars", Kind::Required),
 ];
 
+/// The arguments of `sample`.
+static SAMPLE: [Argument; 1] = [Argument("paths", Kind::Positional)];
+
 impl Form {
     /// The command with this word.
     fn of(word: &str) -> Option<Form>
@@ -147,6 +151,7 @@ impl Form {
             "verify" => Some(Form::Verify),
             "stamp" => Some(Form::Stamp),
             "upgrade" => Some(Form::Upgrade),
+            "sample" => Some(Form::Sample),
             _ => None,
         }
     }
@@ -163,6 +168,7 @@ impl Form {
             Form::Verify => "verify",
             Form::Stamp => "stamp",
             Form::Upgrade => "upgrade",
+            Form::Sample => "sample",
         }
     }
 
@@ -177,6 +183,7 @@ impl Form {
             Form::Verify => VERIFY.as_slice(),
             Form::Stamp => STAMP.as_slice(),
             Form::Upgrade => UPGRADE.as_slice(),
+            Form::Sample => SAMPLE.as_slice(),
         }
     }
 
@@ -196,6 +203,7 @@ impl Form {
             Form::Verify => Ok(verification(matches).map(Command::Verify)),
             Form::Stamp => Ok(stamping(alloc, matches)?.map(Command::Stamp)),
             Form::Upgrade => Ok(upgrading(matches).map(Command::Upgrade)),
+            Form::Sample => Ok(sample(matches)),
         }
     }
 }
@@ -230,6 +238,13 @@ fn prune<'a>(matches: &ArgMatches<'a>) -> Option<Command<'a>>
     ensures { option_map read_as result ≡ command_in Form.Prune (rows_of (found_of matches.now)) }
 {
     Some(Command::Prune(file_name(matches, "in")?, file_name(matches, "out")?))
+}
+
+/// `sample` with the value of its argument.
+fn sample<'a>(matches: &ArgMatches<'a>) -> Option<Command<'a>>
+    ensures { option_map read_as result ≡ command_in Form.Sample (rows_of (found_of matches.now)) }
+{
+    Some(Command::Sample(sampling(value(matches, "paths")?)?))
 }
 
 /// What the words ask for, where they are of a command's form.

@@ -1,9 +1,10 @@
 use Rattle.std.proofs.Common.{[], ap}
 use Rattle.ots_cli.specs.Answer.{Completes, Merges, PrintsInfo, WithProof, WritesOf, is_given, is_list, is_refused}
-use Rattle.ots_words.specs.Words.{read_as}
+use Rattle.ots_words.specs.Words.{read_as, read_verification}
 use Rattle.ots_cli.specs.Rewritten.{IsRewritten}
 use Rattle.ots_cli.specs.declared.rewriting.Rewriting.TheVariants.{Canon, Prune}
 use Rattle.ots_cli.proofs.Gathering.{handed_on, list_refused, of_command, reads_as, reads_none, stop_as, stops_reading, then_reads}
+use Rattle.ots_cli.proofs.Short.{gathers_stop}
 use Rattle.ots_cli.proofs.gather.gather.Goals as goal
 
 pub returns-in_err-proof-in-Info-clause-reads : goal.returns-in_err-proof-in-Info-clause-reads
@@ -44,12 +45,12 @@ returns-in_ok-second-in-Merge-clause-reads g c = λ o. of_command o (ap read_as 
     (then_reads {part = λ told. WithProof told c.in-Merge.second.now (Merges c.in-Merge.to.now c.in_ok-first-in-Merge.first)} (λ e h. is_given c.in_ok-first-in-Merge.first c.in_ok-first-in-Merge.ensures.given h) c.in_ok-first-in-Merge.ensures
     (then_reads {part = λ told. Merges c.in-Merge.to.now c.in_ok-first-in-Merge.first c.in_ok-second-in-Merge.second} (λ e h. is_given c.in_ok-second-in-Merge.second c.in_ok-second-in-Merge.ensures.given h) c.in_ok-second-in-Merge.ensures (reads_none (λ e h. h))))
 
-pub returns-in_ok-evidence-in-Verify-clause-reads : goal.returns-in_ok-evidence-in-Verify-clause-reads
-returns-in_ok-evidence-in-Verify-clause-reads g c = λ o. of_command o (ap read_as c.in-Verify.is) (reads_as (λ h. h) c.in_ok-evidence-in-Verify.ensures)
+pub returns-in_ok-verdict-in-Verify-clause-reads : goal.returns-in_ok-verdict-in-Verify-clause-reads
+returns-in_ok-verdict-in-Verify-clause-reads g c = λ o. of_command o (ap read_as c.in-Verify.is) (reads_as (λ h. h) c.in_ok-verdict-in-Verify.ensures.reads)
 
-pub returns-in_err-evidence-in-Verify-clause-reads : goal.returns-in_err-evidence-in-Verify-clause-reads
-returns-in_err-evidence-in-Verify-clause-reads g c = λ o. of_command o (ap read_as c.in-Verify.is)
-    (handed_on _ c.from_residual-in_err-evidence-in-Verify.ensures.1 (stop_as c.in_err-evidence-in-Verify.ensures))
+pub returns-in_err-verdict-in-Verify-clause-reads : goal.returns-in_err-verdict-in-Verify-clause-reads
+returns-in_err-verdict-in-Verify-clause-reads g c = λ o. of_command o (ap read_as c.in-Verify.is)
+    (handed_on _ c.from_residual-in_err-verdict-in-Verify.ensures.1 (stop_as c.in_err-verdict-in-Verify.ensures.reads))
 
 pub returns-in_err-calendars-in-Upgrade-clause-reads : goal.returns-in_err-calendars-in-Upgrade-clause-reads
 returns-in_err-calendars-in-Upgrade-clause-reads g c = λ o. of_command o (ap read_as c.in-Upgrade.is)
@@ -72,3 +73,10 @@ returns-in_ok-submission-in-Stamp-clause-reads g c = λ o. of_command o (ap read
 pub returns-in_err-submission-in-Stamp-clause-reads : goal.returns-in_err-submission-in-Stamp-clause-reads
 returns-in_err-submission-in-Stamp-clause-reads g c = λ o. of_command o (ap read_as c.in-Stamp.is)
     (handed_on _ c.from_residual-in_err-submission-in-Stamp.ensures.1 (stop_as (c.in_err-submission-in-Stamp.ensures.reads o)))
+
+pub returns-in_err-verdict-in-Verify-clause-bounded : goal.returns-in_err-verdict-in-Verify-clause-bounded
+returns-in_err-verdict-in-Verify-clause-bounded g c =
+    rw c.in-Verify.is (gathers_stop (read_verification c.in-Verify.verification) (g.S.Shelf.told c.args.shelf.now) (g.S.Shelf.told c.gather_verdict.new.shelf) c.from_residual-in_err-verdict-in-Verify.result _ c.from_residual-in_err-verdict-in-Verify.ensures.1 c.in_err-verdict-in-Verify.ensures.bounded)
+
+pub returns-in-Sample-clause-reads : goal.returns-in-Sample-clause-reads
+returns-in-Sample-clause-reads g c = λ o. of_command o (ap read_as c.in-Sample.is) (reads_none (λ e h. h))

@@ -11,15 +11,15 @@ loop-name-init g c = rw c.in_ok-digests.ensures.items (reads_none tt)
 
 pub returns-in_err-hash_target-clause-reads : goal.returns-in_err-hash_target-clause-reads
 returns-in_err-hash_target-clause-reads g c = rw (all_texts c.args.names.now c.loop-name.name-index (record { ref_ptr = (0, 0); now = [] }) c.loop-name-test.true)
-    (handed_on _ c.from_residual-in_err-hash_target.ensures.1 (hashes_stop (texts (drop (c.loop-name.name-index + 1) c.args.names.now)) c.loop-name.invariant c.in_err-hash_target.ensures))
+    (handed_on _ c.from_residual-in_err-hash_target.ensures.1 (hashes_stop (texts (drop (c.loop-name.name-index + 1) c.args.names.now)) c.loop-name.invariant c.in_err-hash_target.ensures.reads))
 
 pub returns-in_err-push-clause-reads : goal.returns-in_err-push-clause-reads
 returns-in_err-push-clause-reads g c = rw (all_texts c.args.names.now c.loop-name.name-index (record { ref_ptr = (0, 0); now = [] }) c.loop-name-test.true)
-    (hashes_short (texts (drop (c.loop-name.name-index + 1) c.args.names.now)) _ c.from_residual-in_err-push.ensures.1 c.loop-name.invariant c.in_ok-hash_target.ensures)
+    (hashes_short (texts (drop (c.loop-name.name-index + 1) c.args.names.now)) _ c.from_residual-in_err-push.ensures.1 c.loop-name.invariant c.in_ok-hash_target.ensures.reads)
 
 pub loop-name-preserved : goal.loop-name-preserved
 loop-name-preserved g c = rw (c.in_ok-push.ensures.items, first_texts c.args.names.now c.loop-name.name-index (record { ref_ptr = (0, 0); now = [] }) c.loop-name-test.true)
-    (hashes_next c.loop-name.invariant c.in_ok-hash_target.ensures)
+    (hashes_next c.loop-name.invariant c.in_ok-hash_target.ensures.reads)
 
 pub returns-clause-reads : goal.returns-clause-reads
 returns-clause-reads g c = reads_as (λ h. h)

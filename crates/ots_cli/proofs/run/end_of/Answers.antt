@@ -2,6 +2,7 @@ use Rattle.std.proofs.Common.{Some, sym, ◌∙◌}
 use Rattle.ots_cli.specs.Asking.{alone}
 use Rattle.ots_cli.proofs.Asked.{asks_none, asks_of, draws_none, draws_of, nothing}
 use Rattle.ots_cli.proofs.Gathering.{decided_ends, ran_out, refusal_ends, refused_alone}
+use Rattle.ots_cli.proofs.Short.{bounds_decided, bounds_refused, bounds_stopped, no_status}
 use Rattle.ots_words.specs.Words.{read_as}
 use Rattle.ots_cli.proofs.run.end_of.Goals as goal
 
@@ -32,3 +33,12 @@ returns-in-Some-clause-nonces g c = draws_none g.N.Nonces.left (Some (read_as c.
 
 pub returns-in-None-clause-nonces : goal.returns-in-None-clause-nonces
 returns-in-None-clause-nonces g c = draws_none g.N.Nonces.left (Some (read_as c.args.command)) c.args.nonces.now
+
+pub returns-in-Ok-clause-bounded : goal.returns-in-Ok-clause-bounded
+returns-in-Ok-clause-bounded g c = bounds_decided (read_as c.args.command) _ _ c.in-Ok.inputs c.decide.result c.in-Ok.ensures.bounded c.decide.ensures.verdict
+
+pub returns-in-Some-clause-bounded : goal.returns-in-Some-clause-bounded
+returns-in-Some-clause-bounded g c = bounds_refused (Some (read_as c.args.command)) _ _ c.refused.result
+
+pub returns-in-None-clause-bounded : goal.returns-in-None-clause-bounded
+returns-in-None-clause-bounded g c = bounds_stopped (read_as c.args.command) _ _ c.in-Err.stop _ c.in-Err.ensures.bounded (no_status _ (sym c.status.ensures ∙ c.in-None.is))

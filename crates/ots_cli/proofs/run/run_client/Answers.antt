@@ -1,9 +1,11 @@
-use Rattle.std.proofs.Common.{◌∙◌, refl}
+use Rattle.std.proofs.Common.{◌∙◌, inr, refl}
 use Rattle.ots_cli.proofs.Carrying.{run_ends, run_faults}
 use Rattle.ots_cli.proofs.OneAnswer as one
 use Rattle.ots_cli.proofs.Completeness.{stamp_completes, upgrade_completes}
 use Rattle.ots_cli.proofs.ReadsBack.{leaves_others, reads_back}
+use Rattle.ots_cli.proofs.Sampled.{is_sampled}
 use Rattle.ots_cli.proofs.Taken.{are_taken}
+use Rattle.ots_cli.proofs.Short.{bounded_end, verdict_told}
 use Rattle.ots_cli.proofs.Yes.{done_exactly}
 use Rattle.ots_cli.proofs.run.run_client.Goals as goal
 
@@ -43,3 +45,18 @@ returns-in-Ok-clause-stamps g c = λ names s told asks can.
 pub returns-in-Ok-clause-upgrades : goal.returns-in-Ok-clause-upgrades
 returns-in-Ok-clause-upgrades g c = λ names u told asks can.
     upgrade_completes _ names _ _ _ _ _ _ _ u can _ _ told asks (run_ends _ _ _ _ _ _ _ _ _ _ _ _ _ c.in-Ok.ensures.ends c.carry_out.ensures.ending)
+
+pub returns-in-Ok-clause-bounded : goal.returns-in-Ok-clause-bounded
+returns-in-Ok-clause-bounded g c = λ v asks ran.
+    let out = c.carry_out.ensures.ending in
+    absurd (verdict_told _ _ _ _ v out.ending _ _ _ _ _ _ _ asks (c.in-Ok.ensures.ends.ending out.ending out.is) out.out ran)
+
+pub returns-in-Err-clause-bounded : goal.returns-in-Err-clause-bounded
+returns-in-Err-clause-bounded g c = λ v asks ran. bounded_end _ v _ _ _ asks c.in-Err.ensures.bounded
+
+pub returns-in-Ok-clause-samples : goal.returns-in-Ok-clause-samples
+returns-in-Ok-clause-samples g c = λ n asks.
+    is_sampled _ c.verdict_of_sample.ensures _ n _ _ _ _ _ _ _ _ _ _ _ _ asks (run_ends _ _ _ _ _ _ _ _ _ _ _ _ _ c.in-Ok.ensures.ends c.carry_out.ensures.ending)
+
+pub returns-in-Err-clause-samples : goal.returns-in-Err-clause-samples
+returns-in-Err-clause-samples g c = λ n asks. inr (inr refl)

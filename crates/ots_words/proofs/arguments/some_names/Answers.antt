@@ -1,4 +1,4 @@
-use Rattle.std.proofs.Common.{◌∙◌, sym, rules, arith}
+use Rattle.std.proofs.Common.{◌∙◌, sym, arith}
 use Rattle.ots_words.proofs.Names.{all_named, named_next, not_named}
 use Rattle.ots_words.proofs.arguments.some_names.Goals as goal
 

@@ -1,4 +1,4 @@
-use Rattle.std.proofs.Common.{sym, subst, ap, ◌∙◌}
+use Rattle.std.proofs.Common.{sym, subst}
 use Rattle.ots_reader.specs.Tokens.{IsReading}
 use Rattle.ots_reader.proofs.Steps.{begun_reads}
 use Rattle.ots_reader.proofs.token_reader.TokenReader.place_below.Goals as goal

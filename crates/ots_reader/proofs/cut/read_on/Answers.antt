@@ -2,7 +2,7 @@ use Rattle.std.proofs.Common.{◌≡◌, length, arith}
 use Rattle.std.proofs.lemmas.Result.{err_from_is_err_and}
 use Rattle.ots_reader.proofs.CutLength.{cut_size}
 use Rattle.ots_reader.proofs.ReadOn.{grown_more, settles, ends_behind, joined_at, spelling_at}
-use Rattle.ots_reader.proofs.cut.read_joined.Goals as goal
+use Rattle.ots_reader.proofs.cut.read_on.Goals as goal
 
 pub keep-requires : goal.keep-requires
 keep-requires c =

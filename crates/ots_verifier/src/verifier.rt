@@ -1,0 +1,95 @@
+//! Verifying a proof file that comes in pieces.
+ghost use Rattle.std.specs.Prelude.{◌≡◌, ◌≤◌, ◌++◌, [], IfOk};
+ghost use Rattle.std.specs.Option.{option_copied};
+ghost use Rattle.ots_verifier.specs.Checked.{Checks, IsExactCheck};
+
+use crate::checked::{CheckError, Checked};
+use crate::fed::Fed;
+use crate::messages::ROWS;
+use crate::outcome::found;
+use crate::progress::{MAX_HEADER, Progress, advance};
+use ots_base::{MAX_MESSAGE, OutOfMemory};
+use ots_bitcoin::Headers;
+use ots_reader::TOKEN_READER_BYTES;
+use std::alloc::Global;
+use std::marker::Model;
+
+/// How many bytes the buffers of a verifier have, all of them taken when it is begun: 256 rows of 4096
+/// bytes for the messages of open nodes, with two bytes for the length of each; a reader of tokens; and the
+/// 65 bytes of the longest header.
+pub const VERIFIER_BYTES: usize = ROWS * (MAX_MESSAGE + 2) + TOKEN_READER_BYTES + MAX_HEADER;
+
+/// A proof file that comes in pieces, and what it confirms by given headers.
+///
+/// It keeps no tree: of the bytes those of one token, and the message of each open node, of which at most
+/// 256 are open. No call but `begin` takes memory. Each operation of the tree is applied once, as it comes.
+///
+/// Contracts see the headers, and the bytes so far.
+#[derive(Drop)]
+pub struct Verifier<'a> {
+    bitcoin: &'a Headers,
+    litecoin: Option<&'a Headers>,
+    progress: Progress,
+    fed: Fed,
+}
+
+impl<'a> Model for Verifier<'a> {
+    ghost use Rattle.std.specs.Option.{option_copied};
+    ghost use Rattle.ots_verifier.specs.Checked.{Pieces};
+    ghost use Rattle.ots_verifier.specs.Progress.{HasCome};
+
+    ghost Value = { Pieces };
+
+    ghost view = { λ v. record { bitcoin = v.bitcoin.now; litecoin = option_copied v.litecoin; bytes = v.fed.bytes } };
+
+    ghost invariant = { λ v. HasCome v.bitcoin.now (option_copied v.litecoin) v.fed.bytes v.progress };
+}
+
+impl<'a> Verifier<'a> {
+    /// No byte yet, by the headers of Bitcoin, and those of Litecoin where they are given. All memory is
+    /// taken.
+    pub fn begin(
+        alloc: Global,
+        bitcoin: &'a Headers,
+        litecoin: Option<&'a Headers>,
+    ) -> Result<Verifier<'a>, OutOfMemory>
+        ensures { IfOk result (λ v. v ≡ record { bitcoin = bitcoin.entry.now; litecoin = option_copied litecoin.entry; bytes = [] }) }
+    {
+        Ok(Verifier {
+            bitcoin,
+            litecoin,
+            progress: Progress::begin(alloc)?,
+            fed: Fed::nothing(),
+        })
+    }
+
+    /// Takes the next piece. It takes no memory.
+    pub fn feed(&mut self, piece: &[u8])
+        ensures bitcoin { self.new.bitcoin ≡ self.old.bitcoin }
+        ensures litecoin { self.new.litecoin ≡ self.old.litecoin }
+        ensures bytes { self.new.bytes ≡ self.old.bytes ++ piece.now }
+    {
+        advance(&mut self.progress, piece, self.bitcoin, self.litecoin);
+        self.fed = self.fed.and(piece);
+    }
+
+    /// What the proof confirms whose file the pieces joined are, or why they are none: `TooBig` exactly where
+    /// they have more than 4,194,304 bytes, whatever they are, and `BadProof` with the one fault that they
+    /// have. It takes no memory.
+    pub fn finish(self) -> Result<Checked, CheckError>
+        ensures checks { Checks self.entry.bitcoin self.entry.litecoin self.entry.bytes result }
+        ensures exact { IsExactCheck self.entry.bitcoin self.entry.litecoin self.entry.bytes result }
+    {
+        let Verifier { progress, .. } = self;
+        found(&progress)
+    }
+
+    /// How many bytes of memory its buffers have: the same from `begin` on, for every file, and at most
+    /// 1,060,000.
+    pub fn reserved(&self) -> u64
+        ensures is { result ≡ VERIFIER_BYTES }
+        ensures at_most { result ≤ 1060000 }
+    {
+        VERIFIER_BYTES as u64
+    }
+}
