@@ -77,6 +77,7 @@ fn read_owned(alloc: Global, kind: [u8; 8], payload: &[u8]) -> Result<Attestatio
 /// It is answered exactly where there is one, and otherwise the first fault, as by `from_payload`,
 /// but never `OutOfMemory`.
 #[tactic(auto, using(crate::proofs::PayloadOrFault::not_kind), unfolding(crate::specs::PayloadFault::payload_fault))]
+#[inline(always)]
 pub fn read_payload<'a>(
     kind: [u8; 8],
     payload: &'a [u8],
@@ -144,6 +145,7 @@ fn uri_behind<'a>(payload: &'a [u8], length: u64, used: usize) -> Result<UriRef<
 }
 
 /// The height, which is the whole payload.
+#[inline(always)]
 fn read_height(payload: &[u8]) -> Result<u64, PayloadError>
     ensures { HeightGives payload.now (reading payload.now) result }
 {

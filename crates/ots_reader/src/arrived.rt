@@ -54,6 +54,7 @@ impl Arrived {
 }
 
 /// The next token, where it ends within the piece.
+#[inline(always)]
 pub(crate) fn read_next<'a>(
     arrived: &'a mut Arrived,
     piece: &'a [u8],
@@ -72,6 +73,7 @@ pub(crate) fn read_next<'a>(
 }
 
 /// The bytes of the token that came last are no longer kept.
+#[inline(always)]
 fn put_away(arrived: &mut Arrived)
     requires { IsHeld arrived.old }
     ensures held { IsHeld arrived.new }
@@ -84,6 +86,7 @@ fn put_away(arrived: &mut Arrived)
 }
 
 /// The next token, of which no byte is kept. It stays where it is where it ends within the piece.
+#[inline(always)]
 fn read_here<'a>(arrived: &mut Arrived, piece: &'a [u8]) -> Result<Option<Next<'a>>, Fault>
     requires held { IsHeld arrived.old }
     requires reading { IsReading (tokens_of arrived.old) }

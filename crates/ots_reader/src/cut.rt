@@ -62,6 +62,7 @@ fn token_length(bytes: &[u8]) -> Result<Option<usize>, Reason>
 }
 
 /// The token at the front of the bytes, where it is whole, and how many of them spell it.
+#[inline(always)]
 pub(crate) fn whole_token(bytes: &[u8]) -> Result<Option<(TokenRef<'_>, usize)>, Reason>
     ensures { FindsWhole bytes.now result }
 {

@@ -74,6 +74,7 @@ pub(crate) fn place_below(front: &mut Front, shape: Shape)
 
 /// One more token, with the bytes that spell it, stands at the last open node, where it can. Whether it
 /// is the tree's last one. It takes no memory.
+#[inline(always)]
 pub(crate) fn take(front: &mut Front, token: TokenRef<'_>, spelling: &[u8]) -> Result<bool, Fault>
     requires stands { IsStanding front.old }
     requires open { front.old.whole ≡ false }

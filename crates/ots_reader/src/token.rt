@@ -17,6 +17,7 @@ use ots_varint::{VaruintRead, read_varuint};
 /// The token at the front of the bytes, where its parts stand, and how many of them spell it; or what
 /// is wrong with the bytes. It takes no memory.
 #[tactic(auto, unfolding(crate::specs::TokenFault::token_fault))]
+#[inline(always)]
 pub fn read_token(bytes: &[u8]) -> Result<(TokenRef<'_>, usize), Reason>
     ensures ok { IfOk result (λ r. IsTokenAt bytes.now (token_of r.0) r.1) }
     ensures err { IfErr result (λ reason. token_fault bytes.now ≡ Some reason) }
@@ -29,6 +30,7 @@ pub fn read_token(bytes: &[u8]) -> Result<(TokenRef<'_>, usize), Reason>
 
 /// The token with this tag.
 #[tactic(auto, unfolding(crate::specs::TokenFault::token_fault))]
+#[inline(always)]
 fn token_behind(tag: u8, after: &[u8]) -> Result<(TokenRef<'_>, usize), Reason>
     ensures ok { IfOk result (λ r. IsTokenAt (tag ∷ after.now) (token_of r.0) r.1) }
     ensures err { IfErr result (λ reason. token_fault (tag ∷ after.now) ≡ Some reason) }
@@ -58,6 +60,7 @@ fn token_behind(tag: u8, after: &[u8]) -> Result<(TokenRef<'_>, usize), Reason>
 }
 
 /// The argument at the front of the bytes, behind its length, and how many bytes both take.
+#[inline(always)]
 fn read_argument(bytes: &[u8]) -> Result<(ArgRef<'_>, usize), Reason>
     ensures ok { IfOk result (λ r. IsArgAt bytes.now r.0.bytes.now r.1) }
     ensures err { IfErr result (λ reason. argument_fault (reading bytes.now) bytes.now ≡ Some reason) }
@@ -67,6 +70,7 @@ fn read_argument(bytes: &[u8]) -> Result<(ArgRef<'_>, usize), Reason>
 }
 
 /// The length at the front of the bytes, and how many of them spell it.
+#[inline(always)]
 fn read_length(bytes: &[u8]) -> Result<(u64, usize), Reason>
     ensures value { IfOk result (λ r. reading bytes.now ≡ Value r.0 r.1) }
     ensures spelled { IfOk result (λ r. IsSpelledAt bytes.now r.0 r.1) }
@@ -81,6 +85,7 @@ fn read_length(bytes: &[u8]) -> Result<(u64, usize), Reason>
 }
 
 /// The argument of this length, behind the `used` bytes that spell the length.
+#[inline(always)]
 fn argument_behind(bytes: &[u8], length: u64, used: usize) -> Result<(ArgRef<'_>, usize), Reason>
     requires { IsSpelledAt bytes.now length used }
     ensures ok { IfOk result (λ r. IsArgAt bytes.now r.0.bytes.now r.1) }
@@ -103,6 +108,7 @@ fn argument_behind(bytes: &[u8], length: u64, used: usize) -> Result<(ArgRef<'_>
 }
 
 /// The attestation at the front of the bytes, behind its tag, and how many bytes it takes.
+#[inline(always)]
 fn read_attestation(bytes: &[u8]) -> Result<(AttestationRef<'_>, usize), Reason>
     ensures ok { IfOk result (λ r. IsAttestationAt bytes.now (attestation_of r.0) r.1) }
     ensures err { IfErr result (λ reason. attestation_fault bytes.now ≡ Some reason) }
@@ -116,6 +122,7 @@ fn read_attestation(bytes: &[u8]) -> Result<(AttestationRef<'_>, usize), Reason>
 
 /// The attestation of this kind whose payload stands at the front of the bytes, behind its length,
 /// and how many bytes both take.
+#[inline(always)]
 fn read_body(kind: [u8; 8], bytes: &[u8]) -> Result<(AttestationRef<'_>, usize), Reason>
     ensures ok { IfOk result (λ r. IsBodyAt kind bytes.now (attestation_of r.0) r.1) }
     ensures err { IfErr result (λ reason. body_fault kind (reading bytes.now) bytes.now ≡ Some reason) }
@@ -125,6 +132,7 @@ fn read_body(kind: [u8; 8], bytes: &[u8]) -> Result<(AttestationRef<'_>, usize),
 }
 
 /// The attestation whose payload has this length, behind the `used` bytes that spell the length.
+#[inline(always)]
 fn body_behind(
     kind: [u8; 8],
     bytes: &[u8],

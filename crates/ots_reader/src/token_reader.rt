@@ -78,6 +78,7 @@ impl TokenReader {
     /// another reason than that the bytes end. It takes no memory.
     ///
     /// Nothing is read behind the tree's last token or behind a fault, and fewer than 2^64 bytes in all.
+    #[inline(always)]
     pub fn next<'a>(&'a mut self, piece: &'a [u8]) -> Result<Option<Next<'a>>, Fault>
         requires reading { IsReading self.old }
         requires few { length (so_far self.old) + length piece.now < 2 ^ 64 }

@@ -117,6 +117,7 @@ impl TreeReader {
 }
 
 /// Reads the tokens that end within the piece, up to the tree's last one, and puts them behind these.
+#[inline(always)]
 fn read_piece(
     reader: &mut TokenReader,
     tokens: &mut Vec<Token>,

@@ -11,6 +11,7 @@ use ots_tree::{Shape, TokenRef, Walk};
 
 /// Whether a node is open behind one more token. Where the token can't stand there, the walk stays as
 /// it is. It takes no memory.
+#[inline(always)]
 pub(crate) fn take_turn(walk: &mut Walk<Shape>, token: TokenRef<'_>) -> Result<bool, Reason>
     requires least { 1 ≤ walk.old.last.length }
     requires greatest { walk.old.last.length ≤ MAX_MESSAGE }
@@ -36,6 +37,7 @@ pub(crate) fn take_turn(walk: &mut Walk<Shape>, token: TokenRef<'_>) -> Result<b
 }
 
 /// The node of the operation's result.
+#[inline(always)]
 fn node_behind(at: Shape, op: OpRef<'_>) -> Result<Shape, Reason>
     requires least { 1 ≤ at.length }
     requires greatest { at.length ≤ MAX_MESSAGE }

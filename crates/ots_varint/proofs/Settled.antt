@@ -1,6 +1,7 @@
 -- A number is read where the bytes so far settle it.
 use Rattle.std.proofs.Common.{◌≡◌, ℕ, suc, ◌+◌, ◌-◌, ◌<◌, ◌≤◌, Bool, true, false, cond, ltb, eqb, List, [], ◌∷◌, ◌++◌, length, take, drop, get_or, refl, sym, ap, ◌∙◌, arith, inl, inr}
 use Rattle.std.specs.Prelude.{◌&&◌}
+use Rattle.std.proofs.lemmas.Bool.{lt-ltb}
 use Rattle.std.proofs.lemmas.List.{take-append-drop, length-take-le, take_more, take_all}
 use Rattle.ots_varint.specs.declared.reading.VaruintRead.{VaruintRead}
 use Rattle.ots_varint.specs.declared.reading.VaruintRead.TheVariants.{Value, Short, NonMinimal, TooLarge}
@@ -103,3 +104,8 @@ all_open fed bytes i h at = sym h.short ∙ ap reading (h.front ∙ take_all i b
 pub reading_nothing : (fed : List ℕ) → fed ≡ [] → reading fed ≡ Short
 unfolding reading
 reading_nothing fed e = ap (reading_from 0) e
+
+-- a number below 128 ends with its first byte
+pub at_once : (b : ℕ) (rest : List ℕ) → b < 128 → reading (b ∷ rest) ≡ Value b 1
+unfolding reading
+at_once b rest low = rw (lt-ltb b 128 low) refl

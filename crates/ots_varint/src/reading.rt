@@ -19,7 +19,19 @@ pub enum VaruintRead {
 
 /// The number at the front of the bytes, and how many of them it takes. What follows doesn't
 /// matter.
+#[inline(always)]
 pub fn read_varuint(bytes: &[u8]) -> VaruintRead
+    ensures table { result ≡ reading bytes.now }
+    ensures value { (n used : ℕ) → (result ≡ VaruintRead.Value n used) ↔ IsSpelledAt bytes.now n used }
+{
+    match bytes.split_first() {
+        Some((byte, _)) if *byte < 128 => VaruintRead::Value(u64::from(*byte), 1),
+        _ => read_byte_by_byte(bytes),
+    }
+}
+
+/// The same, where the number may take more than one byte.
+fn read_byte_by_byte(bytes: &[u8]) -> VaruintRead
     ensures table { result ≡ reading bytes.now }
     ensures value { (n used : ℕ) → (result ≡ VaruintRead.Value n used) ↔ IsSpelledAt bytes.now n used }
 {
