@@ -11,7 +11,7 @@ use crate::fault::{Fault, ReadError, Reason};
 use crate::fed::Fed;
 use crate::token_reader::TokenReader;
 use ots_base::{MAX_MESSAGE, MAX_OPERATIONS, OutOfMemory};
-use ots_tree::{Shape, Token, Tree, from_tokens};
+use ots_tree::{Shape, Tree, TreeBuilder};
 use std::alloc::Global;
 use std::marker::Model;
 
@@ -25,7 +25,7 @@ use std::marker::Model;
 #[derive(Drop)]
 pub struct TreeReader {
     reader: TokenReader,
-    tokens: Vec<Token>,
+    tokens: TreeBuilder,
     state: State,
 }
 
@@ -47,9 +47,9 @@ impl Model for TreeReader {
 
     ghost use Rattle.ots_reader.specs.Held.{progress_of, Holds};
 
-    ghost view = { λ r. record { shape = r.reader.shape; progress = progress_of r.state r.reader r.tokens.items } };
+    ghost view = { λ r. record { shape = r.reader.shape; progress = progress_of r.state r.reader r.tokens } };
 
-    ghost invariant = { λ r. Holds r.state r.reader r.tokens.items };
+    ghost invariant = { λ r. Holds r.state r.reader r.tokens };
 }
 
 impl TreeReader {
@@ -63,7 +63,7 @@ impl TreeReader {
     {
         Ok(TreeReader {
             reader: TokenReader::begin(alloc, shape)?,
-            tokens: Vec::new(alloc),
+            tokens: TreeBuilder::new(alloc),
             state: State::Reading,
         })
     }
@@ -107,10 +107,7 @@ impl TreeReader {
                 place: reader.place(),
                 reason: Reason::Truncated,
             })),
-            State::Whole => {
-                let alloc = *tokens.allocator();
-                Ok(from_tokens(alloc, tokens)?)
-            }
+            State::Whole => Ok(tokens.build()),
             State::Refused(error) => Err(error),
         }
     }
@@ -120,16 +117,16 @@ impl TreeReader {
 #[inline(always)]
 fn read_piece(
     reader: &mut TokenReader,
-    tokens: &mut Vec<Token>,
+    tokens: &mut TreeBuilder,
     piece: &[u8],
 ) -> Result<Fed, ReadError>
     requires reading { IsReading reader.old }
-    requires tokens { tokens.old.items ≡ reader.old.came }
+    requires tokens { tokens.old ≡ reader.old.came }
     requires few { length (so_far reader.old) + length piece.now < 2 ^ 64 }
     ensures shape { reader.new.shape ≡ reader.old.shape }
-    ensures read { Reads reader.old piece.now reader.new tokens.new.items result }
+    ensures read { Reads reader.old piece.now reader.new tokens.new result }
 {
-    let alloc = *tokens.allocator();
+    let alloc = tokens.allocator();
     let mut at = 0;
     loop {
         let Some(next) = reader.next(&piece[at..])? else {

@@ -6,16 +6,11 @@ use Rattle.ots_tree.specs.declared.token.Token.{Token}
 use Rattle.ots_tree.specs.Wire.{Node, Item, last, more, attested, step, IsPre, IsToken}
 use Rattle.ots_tree.specs.Listed.{listed, listed_item}
 use Rattle.ots_tree.specs.Kept.{depth_of, IsKept}
-use Rattle.ots_tree.specs.Walk.{Open, Met, met, Position, begun, open_at, IsStep}
+use Rattle.ots_tree.specs.Walk.{Open, Met, Position, begun, open_at, IsStep}
 use Rattle.ots_tree.specs.OpenDepths.{counted, one_more}
-use Rattle.ots_tree.proofs.Walks.{met_in, met_along, tree_met, Ends, tree_ends, moves_at}
-
-abbrev carried : Met ℕ → ℕ
-carried m = m.carried
-
--- the number before each token
-abbrev pub before : Open ℕ → List Token → List ℕ
-before s ts = map carried (met one_more s ts)
+use Rattle.ots_tree.specs.Built.{carried, before, Left, IsBuilt}
+use Rattle.ots_tree.proofs.Closing.{all-append}
+use Rattle.ots_tree.proofs.Walks.{met_in, met_along, tree_met, tree_ends, moves_at}
 
 abbrev cap : ℕ → ℕ
 cap k = min k (2 ^ 32 - 1)
@@ -35,11 +30,6 @@ mutual
   item_counts : (i : Item) (k : ℕ) → map carried (met_along counted (cap k) i) ≡ map depth_of (listed_item k i)
   item_counts (attested a) k = refl
   item_counts (step o t) k = ap (λ (z : ℕ). cap k ∷ map carried (met_in counted z t)) (cap-suc k) ∙ ap (λ (z : List ℕ). cap k ∷ z) (node_counts t (suc k))
-
--- the numbers before these tokens are those that are not noted yet
-pub record Left (all noted : List ℕ) (s : Open ℕ) (ts : List Token) : Type 0 where
-  pub numbers : noted ++ before s ts ≡ all
-  pub ends : Ends one_more s ts
 
 pub nothing_noted : (noted : List ℕ) (s : Open ℕ) (ts : List Token) → noted ≡ [] → s ≡ begun 0 → IsPre ts → Left (before (begun 0) ts) noted s ts
 nothing_noted noted s ts none is tree = record { numbers = rw (none, is) refl; ends = tree_ends counted 0 s ts is tree }
@@ -71,3 +61,26 @@ walk_kept tokens depths (t, is) walk limits = record {
   depths_are = sym (node_counts t 0) ∙ sym (ap (map carried) (tree_met counted t 0)) ∙ ap (before (begun 0)) is ∙ walk;
   limits = limits;
 }
+
+-- ---- a tree whose tokens come
+
+pub none_built : (tokens : List Token) (depths : List ℕ) (s : Open ℕ) → tokens ≡ [] → depths ≡ [] → s ≡ begun 0 → IsBuilt tokens depths s
+none_built tokens depths s none empty is = record {
+  left = λ more tree. rw none (nothing_noted depths s more empty is (rw none at tree));
+  limits = rw none tt;
+}
+
+pub one_built : (tokens longer : List Token) (depths deeper : List ℕ) (x : Token) (d : ℕ) (w v : Position ℕ) (going : Bool) → IsBuilt tokens depths (open_at w) → IsToken x
+    → longer ≡ tokens ++ x ∷ [] → deeper ≡ depths ++ d ∷ [] → d ≡ w.last → IsStep one_more x w v going → IsBuilt longer deeper (open_at v)
+one_built tokens longer depths deeper x d w v going b limit is noted last_is on = record {
+  left = λ more tree.
+      let along : longer ++ more ≡ tokens ++ x ∷ more = rw is (append_assoc tokens (x ∷ []) more) in
+      rw along (one_noted (before (begun 0) (tokens ++ x ∷ more)) depths deeper d w v going (x ∷ more) 0 x (omega arith) refl (b.left (x ∷ more) (rw along at tree)) noted last_is on);
+  limits = rw is (all-append IsToken tokens (x ∷ []) b.limits (limit, tt));
+}
+
+pub built_kept : (tokens : List Token) (depths : List ℕ) (s : Open ℕ) → IsBuilt tokens depths s → IsPre tokens → IsKept tokens depths
+built_kept tokens depths s b tree =
+    let whole : tokens ++ [] ≡ tokens = append-nil tokens in
+    let left = b.left [] (rw whole tree) in
+    walk_kept tokens depths tree (all_noted (before (begun 0) tokens) depths s [] 0 (omega arith) (rw whole at left)) b.limits

@@ -7,7 +7,7 @@ use Rattle.ots_ops.specs.declared.op.Op.{Op}
 use Rattle.ots_tree.specs.declared.token.Token.{Token}
 use Rattle.ots_tree.specs.declared.token.Token.TheVariants as token
 use Rattle.ots_tree.specs.Wire.{Node, Item, last, more, attested, step, pre, pre_item, IsPre}
-use Rattle.ots_tree.specs.Walk.{Open, begun, next_in, next, opened, IsClosed, Met, met, Position, open_at, none_open, IsStep, always}
+use Rattle.ots_tree.specs.Walk.{Open, begun, next_in, next, opened, IsClosed, Met, met, Position, open_at, none_open, IsStep, always, Ends}
 
 abbrev pub By : Type 0 → Type 0
 By S = Op → S → Option S
@@ -301,10 +301,6 @@ pub tree_met : {S : Type 0} (f : Op → S → S) (t : Node) (s : S) → met (alw
 tree_met f t s = ap (met (always f) (begun s)) (sym (append-nil (pre t))) ∙ node_met f t s [] [] ∙ append-nil (met_in f s t)
 
 -- ---- one token, where those that are left close all nodes
-
-abbrev pub Ends : {S : Type 0} → By S → Open S → List Token → Type 0
-Ends by s [] = Unit {0}
-Ends by s (x ∷ xs) = IsClosed (opened by s (x ∷ xs))
 
 ends : {S : Type 0} (by : By S) (s : Open S) (ts : List Token) → IsClosed (opened by s ts) → Ends by s ts
 ends by s [] h = tt

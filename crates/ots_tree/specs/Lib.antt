@@ -5,6 +5,7 @@ pub mod Front
 pub mod Listed
 pub mod Kept
 pub mod OpenDepths
+pub mod Built
 pub mod Passed
 pub mod Made
 pub mod LastItem

@@ -79,3 +79,8 @@ IsStep {S = S} by x from to going = (s : Open S) → next by x (open_at from) �
 -- a walk to which each operation has a result
 abbrev pub always : {S : Type 0} → (Op → S → S) → Op → S → Option S
 always f o s = Some (f o s)
+
+-- what closes all nodes, where tokens are left
+abbrev pub Ends : {S : Type 0} → (Op → S → Option S) → Open S → List Token → Type 0
+Ends by s [] = Unit {0}
+Ends by s (x ∷ xs) = IsClosed (opened by s (x ∷ xs))

@@ -2,6 +2,7 @@
 //! trees are sound for a message.
 #![tactic(auto)]
 
+mod builder;
 mod detached;
 mod laws;
 mod length;
@@ -16,6 +17,7 @@ mod token_ref;
 mod tree;
 mod walk;
 
+pub use builder::TreeBuilder;
 pub use detached::Detached;
 pub use laws::{
     fronts, limits_of_detached, one_listing, one_spelling, one_token, one_tree,

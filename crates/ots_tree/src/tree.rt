@@ -1,5 +1,5 @@
 //! A tree, kept as its tokens.
-ghost use Rattle.std.specs.Prelude.{◌≡◌, ◌<◌, IfOk, length, slice_index};
+ghost use Rattle.std.specs.Prelude.{◌≡◌, ◌<◌, IfOk, IfErr, length, slice_index};
 ghost use Rattle.std.specs.List.{AllByRecursion};
 ghost use Rattle.ots_tree.specs.Wire.{IsPre, IsToken};
 ghost use Rattle.ots_tree.specs.Kept.{IsKept, beside};
@@ -7,7 +7,7 @@ ghost use Rattle.ots_tree.specs.LastItem.{IsLastZero};
 ghost use Rattle.ots_tree.specs.Listed.{IsListed};
 ghost use Rattle.ots_tree.specs.Made.{IsBeside};
 ghost use Rattle.ots_tree.specs.OpenDepths.{one_more};
-ghost use Rattle.ots_tree.specs.Walk.{IsStep};
+ghost use Rattle.ots_tree.specs.Walk.{IsStep, open_at};
 
 use crate::token::{Token, limits_of_token};
 use crate::walk::Walk;
@@ -51,6 +51,14 @@ pub fn from_tokens(alloc: Global, tokens: Vec<Token>) -> Result<Tree, OutOfMemor
 }
 
 impl Tree {
+    /// The tree with these tokens, and the numbers beside them.
+    pub(crate) fn kept(tokens: Vec<Token>, depths: Vec<u32>) -> Tree
+        requires { IsKept tokens.items depths.items }
+        ensures { result ≡ tokens.items }
+    {
+        Tree { tokens, depths }
+    }
+
     /// The tokens in preorder, at least one. It takes no memory.
     pub fn tokens(&self) -> &[Token]
         ensures tokens { result.now ≡ self.now }
@@ -155,9 +163,10 @@ fn depths_of(alloc: Global, tokens: &[Token]) -> Result<Vec<u32>, OutOfMemory>
 }
 
 /// Counts one more token. Whether a node is open behind it, as one is behind each token of a tree but
-/// the last.
-fn count(walk: &mut Walk<u32>, token: &Token) -> Result<bool, OutOfMemory>
-    ensures { IfOk result (IsStep one_more token.now walk.old walk.new) }
+/// the last. Without memory the walk stays as it is.
+pub(crate) fn count(walk: &mut Walk<u32>, token: &Token) -> Result<bool, OutOfMemory>
+    ensures step { IfOk result (IsStep one_more token.now walk.old walk.new) }
+    ensures stays { IfErr result (λ _. open_at walk.new ≡ open_at walk.old) }
 {
     match token {
         Token::Fork => walk.fork()?,

@@ -4,21 +4,21 @@ ghost use Rattle.ots_tree_tests.specs.Growing.{WantsNode};
 
 use ots_attest::Attestation;
 use ots_ops::Op;
-use ots_tree::{Token, Tree, from_tokens};
+use ots_tree::{Token, Tree, TreeBuilder};
 use std::alloc::Global;
 use std::test::Fail;
 
 /// No token yet.
-pub fn begin(alloc: Global) -> Vec<Token>
-    ensures { WantsNode result.items }
+pub fn begin(alloc: Global) -> TreeBuilder
+    ensures { WantsNode result }
 {
-    Vec::new(alloc)
+    TreeBuilder::new(alloc)
 }
 
 /// An attestation, beside which another item is to stand.
-pub fn add_item(tokens: &mut Vec<Token>, attestation: Attestation) -> Result<(), Fail>
-    requires { WantsNode tokens.old.items }
-    ensures { OnOk result (WantsNode tokens.new.items) }
+pub fn add_item(tokens: &mut TreeBuilder, attestation: Attestation) -> Result<(), Fail>
+    requires { WantsNode tokens.old }
+    ensures { OnOk result (WantsNode tokens.new) }
 {
     tokens.push(Token::Fork)?;
     tokens.push(Token::Attestation(attestation))?;
@@ -26,9 +26,9 @@ pub fn add_item(tokens: &mut Vec<Token>, attestation: Attestation) -> Result<(),
 }
 
 /// An operation whose result is attested, beside which another item is to stand.
-pub fn add_branch(tokens: &mut Vec<Token>, op: Op, attestation: Attestation) -> Result<(), Fail>
-    requires { WantsNode tokens.old.items }
-    ensures { OnOk result (WantsNode tokens.new.items) }
+pub fn add_branch(tokens: &mut TreeBuilder, op: Op, attestation: Attestation) -> Result<(), Fail>
+    requires { WantsNode tokens.old }
+    ensures { OnOk result (WantsNode tokens.new) }
 {
     tokens.push(Token::Fork)?;
     tokens.push(Token::Op(op))?;
@@ -37,18 +37,18 @@ pub fn add_branch(tokens: &mut Vec<Token>, op: Op, attestation: Attestation) -> 
 }
 
 /// An operation, the last item of its node, whose result is to have a node.
-pub fn add_operation(tokens: &mut Vec<Token>, op: Op) -> Result<(), Fail>
-    requires { WantsNode tokens.old.items }
-    ensures { OnOk result (WantsNode tokens.new.items) }
+pub fn add_operation(tokens: &mut TreeBuilder, op: Op) -> Result<(), Fail>
+    requires { WantsNode tokens.old }
+    ensures { OnOk result (WantsNode tokens.new) }
 {
     tokens.push(Token::Op(op))?;
     Ok(())
 }
 
 /// The last attestation.
-pub fn end(alloc: Global, mut tokens: Vec<Token>, attestation: Attestation) -> Result<Tree, Fail>
-    requires { WantsNode tokens.items }
+pub fn end(mut tokens: TreeBuilder, attestation: Attestation) -> Result<Tree, Fail>
+    requires { WantsNode tokens }
 {
     tokens.push(Token::Attestation(attestation))?;
-    Ok(from_tokens(alloc, tokens)?)
+    Ok(tokens.build())
 }

@@ -37,7 +37,7 @@ fn chain(alloc: Global, count: u64) -> Result<Tree, Fail> {
     for _ in 0..count {
         add_operation(&mut tokens, Op::Sha256)?;
     }
-    end(alloc, tokens, Attestation::Bitcoin(0))
+    end(tokens, Attestation::Bitcoin(0))
 }
 
 /// One more item than `count`, all of them attestations.
@@ -46,7 +46,7 @@ fn wide(alloc: Global, count: u64) -> Result<Tree, Fail> {
     for _ in 0..count {
         add_item(&mut tokens, Attestation::Bitcoin(7))?;
     }
-    end(alloc, tokens, Attestation::Bitcoin(0))
+    end(tokens, Attestation::Bitcoin(0))
 }
 
 /// The bytes that the tree is spelled in.
@@ -87,14 +87,14 @@ pub(crate) fn joined(alloc: Global, parts: &[&[u8]]) -> Result<Vec<u8>, Fail> {
 #[test]
 fn one_attestation_is_a_tree(rt: HostRuntime) -> Result<(), Fail> {
     let alloc = rt.alloc();
-    let tree = end(alloc, begin(alloc), Attestation::Bitcoin(0))?;
+    let tree = end(begin(alloc), Attestation::Bitcoin(0))?;
     expect(&rt, alloc, &tree, BITCOIN_0, &[0])
 }
 
 #[test]
 fn a_proof_is_a_sound_tree_over_a_digest(rt: HostRuntime) -> Result<(), Fail> {
     let alloc = rt.alloc();
-    let tree = end(alloc, begin(alloc), Attestation::Bitcoin(0))?;
+    let tree = end(begin(alloc), Attestation::Bitcoin(0))?;
     let digest = Digest::new(&[7; 20]).ok_or("a digest has 20 bytes")?;
     let hash = HashOp::Ripemd160;
     let shape = Shape {
@@ -114,7 +114,7 @@ fn a_fork_stands_before_each_item_but_the_last(rt: HostRuntime) -> Result<(), Fa
     let mut tokens = begin(alloc);
     add_item(&mut tokens, Attestation::Bitcoin(0))?;
     add_item(&mut tokens, pending(alloc)?)?;
-    let tree = end(alloc, tokens, Attestation::Bitcoin(7))?;
+    let tree = end(tokens, Attestation::Bitcoin(7))?;
     let bytes = joined(alloc, &[b"\xff", BITCOIN_0, b"\xff", PENDING, BITCOIN_7])?;
     expect(&rt, alloc, &tree, &bytes, &[0, 0, 0, 0, 0])
 }
@@ -125,7 +125,8 @@ fn a_fork_below_an_operation_stays_below_it(rt: HostRuntime) -> Result<(), Fail>
     let mut tokens = begin(alloc);
     add_operation(&mut tokens, Op::Sha256)?;
     add_item(&mut tokens, Attestation::Bitcoin(7))?;
-    let tree = end(alloc, tokens, pending(alloc)?)?;
+    let last = pending(alloc)?;
+    let tree = end(tokens, last)?;
     let bytes = joined(alloc, &[b"\x08\xff", BITCOIN_7, PENDING])?;
     expect(&rt, alloc, &tree, &bytes, &[0, 1, 1, 1])
 }
@@ -140,7 +141,7 @@ fn behind_a_branch_the_depth_is_that_of_its_fork(rt: HostRuntime) -> Result<(), 
     add_operation(&mut tokens, Op::Hexlify)?;
     add_operation(&mut tokens, Op::Append(Arg::new(alloc, b"\xaa\xbb")?))?;
     add_operation(&mut tokens, Op::Prepend(Arg::new(alloc, b"\xcc")?))?;
-    let tree = end(alloc, tokens, Attestation::Bitcoin(0))?;
+    let tree = end(tokens, Attestation::Bitcoin(0))?;
     let bytes = joined(
         alloc,
         &[
@@ -166,7 +167,7 @@ fn the_longest_unknown_attestation_is_spelled_with_its_length(rt: HostRuntime) -
     let alloc = rt.alloc();
     let payload = [9; 8192];
     let attestation = from_payload(alloc, [1, 2, 3, 4, 5, 6, 7, 8], &payload)?;
-    let tree = end(alloc, begin(alloc), attestation)?;
+    let tree = end(begin(alloc), attestation)?;
     let bytes = joined(
         alloc,
         &[b"\x00\x01\x02\x03\x04\x05\x06\x07\x08\x80\x40", &payload],
@@ -205,7 +206,7 @@ fn each_result_is_held_to_its_length(rt: HostRuntime) -> Result<(), Fail> {
         let mut tokens = begin(alloc);
         add_operation(&mut tokens, append(alloc, count)?)?;
         add_operation(&mut tokens, op)?;
-        let tree = end(alloc, tokens, Attestation::Bitcoin(0))?;
+        let tree = end(tokens, Attestation::Bitcoin(0))?;
         assert_eq!(rt;
             is_sound(
                 &tree,
@@ -227,7 +228,7 @@ fn each_path_counts_from_its_own_fork(rt: HostRuntime) -> Result<(), Fail> {
         let mut tokens = begin(alloc);
         add_branch(&mut tokens, append(alloc, first)?, pending(alloc)?)?;
         add_operation(&mut tokens, append(alloc, second)?)?;
-        let tree = end(alloc, tokens, Attestation::Bitcoin(0))?;
+        let tree = end(tokens, Attestation::Bitcoin(0))?;
         assert_eq!(rt;
             is_sound(
                 &tree,

@@ -2,7 +2,8 @@ use Rattle.std.proofs.Common.{arith}
 use Rattle.std.proofs.lemmas.Grind.{common_steps}
 use Rattle.ots_tree.specs.Wire.{IsToken}
 use Rattle.ots_tree.specs.Walk.{begun, open_at}
-use Rattle.ots_tree.proofs.DepthWalk.{before, nothing_noted, one_noted, walk_kept, all_noted, all_taken}
+use Rattle.ots_tree.specs.Built.{before}
+use Rattle.ots_tree.proofs.DepthWalk.{nothing_noted, one_noted, walk_kept, all_noted, all_taken}
 use Rattle.ots_tree.proofs.tree.depths_of.Goals as goal
 
 pub returns : goal.returns
@@ -25,6 +26,6 @@ loop-token-preserved c =
     let ts = c.args.tokens.now in
     record {
       left = one_noted (before (begun 0) ts) s.depths.items c.push.new.self.items c.last.result s.walk c.count.new.walk c.in_ok-count.field-0 ts s.token-index c.token-item.result (omega arith)
-          c.token-item.is s.invariant.left c.in_ok-push.ensures.items c.last.ensures c.in_ok-count.ensures;
+          c.token-item.is s.invariant.left c.in_ok-push.ensures.items c.last.ensures c.in_ok-count.ensures.step;
       limits = grind (arith, common_steps);
     }

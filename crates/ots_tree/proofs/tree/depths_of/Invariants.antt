@@ -2,7 +2,7 @@ use Rattle.std.proofs.Common.{take, drop}
 use Rattle.std.specs.List.{AllByRecursion}
 use Rattle.ots_tree.specs.Wire.{IsToken}
 use Rattle.ots_tree.specs.Walk.{begun, open_at}
-use Rattle.ots_tree.proofs.DepthWalk.{before, Left}
+use Rattle.ots_tree.specs.Built.{before, Left}
 use Rattle.ots_tree.proofs.tree.depths_of.Given as goal
 
 -- The walk over the tokens that are left gives the numbers that are left.
