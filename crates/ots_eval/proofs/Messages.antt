@@ -3,8 +3,8 @@ use Rattle.std.proofs.Common.{◌≡◌, ℕ, ◌+◌, ◌<◌, ◌≤◌, Bool,
 use Rattle.std.proofs.lemmas.List.{drop_all}
 use Rattle.ots_tree.specs.declared.token.Token.{Token}
 use Rattle.ots_tree.specs.Wire.{IsPre}
-use Rattle.ots_tree.specs.Walk.{Open, met, Position, begun, open_at, IsStep}
-use Rattle.ots_tree.proofs.Walks.{Ends, tree_ends, moves_at}
+use Rattle.ots_tree.specs.Walk.{Open, met, Position, begun, open_at, IsStep, Ends}
+use Rattle.ots_tree.proofs.Walks.{tree_ends, moves_at}
 use Rattle.ots_bitcoin.specs.HeaderTable.{Table}
 use Rattle.ots_eval.specs.declared.best.Best.{Best}
 use Rattle.ots_eval.specs.Walked.{message_after, messages_by, messages, noted, walked, nothing}
