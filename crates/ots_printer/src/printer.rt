@@ -55,7 +55,11 @@ impl<'a, K: Sink> Printer<'a, K> {
     pub fn number(&mut self, number: u64)
         ensures { Puts K.taken K.faults K.same (decimal number) self.old self.new }
     {
-        self.word(itoa::Buffer::new().format(number));
+        if number < 10 {
+            self.bytes(&[b'0' + number as u8]);
+        } else {
+            self.word(itoa::Buffer::new().format(number));
+        }
     }
 
     /// Puts bytes in lower-case hexadecimal.

@@ -17,9 +17,9 @@ use std::marker::Model;
 
 /// A tree that comes in pieces.
 ///
-/// It holds the tokens that have come and what a `TokenReader` holds, which is all of its own memory: of
-/// the bytes only those of one token. However the bytes are cut, the time is that of reading each of
-/// them a few times.
+/// It holds the tokens that have come, for each of them the number of operations before it, in four bytes, and
+/// what a `TokenReader` holds, which is all of its own memory: of the bytes only those of one token. However the
+/// bytes are cut, the time is that of reading each of them a few times.
 ///
 /// Contracts see what the tree is read below, and what has become of the bytes so far.
 #[derive(Drop)]

@@ -31,6 +31,7 @@ pub fn read_varuint(bytes: &[u8]) -> VaruintRead
 }
 
 /// The same, where the number may take more than one byte.
+#[inline(always)]
 fn read_byte_by_byte(bytes: &[u8]) -> VaruintRead
     ensures table { result ≡ reading bytes.now }
     ensures value { (n used : ℕ) → (result ≡ VaruintRead.Value n used) ↔ IsSpelledAt bytes.now n used }
