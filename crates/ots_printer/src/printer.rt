@@ -5,8 +5,8 @@ ghost use Rattle.ots_printer.specs.Printing.{Puts};
 use crate::room::{ROOM, Room};
 use ots_outside::{Failed, Sink, write_all};
 
-/// How many bytes are made hexadecimal at once.
-const PIECE: usize = 64;
+/// The digits of how many bytes the room holds.
+const PIECE: usize = ROOM / 2;
 
 /// A borrowed sink with room before it, so that small pieces reach it together. Where a write fails,
 /// what is put afterwards goes nowhere, and `finish` tells it. It takes no memory.
@@ -79,11 +79,8 @@ impl<'a, K: Sink> Printer<'a, K> {
         requires { length bytes.now ≤ PIECE }
         ensures { Puts K.taken K.faults K.same (encode_lower bytes.now) self.old self.new }
     {
-        let mut digits = [0; 2 * PIECE];
-        let digits = &mut digits[..2 * bytes.len()];
-        if hex::encode_to_slice(bytes, digits).is_ok() {
-            self.bytes(digits);
-        }
+        self.make_room(2 * bytes.len());
+        self.hold_hex(bytes);
     }
 
     /// Writes what is held, and tells whether a write failed. Where none did, the sink has taken all
@@ -130,6 +127,14 @@ impl<'a, K: Sink> Printer<'a, K> {
         ensures { Puts K.taken K.faults K.same bytes.now self.old self.new }
     {
         self.held.push(bytes);
+    }
+
+    /// Holds the digits of bytes for which there is room.
+    fn hold_hex(&mut self, bytes: &[u8])
+        requires { length self.old.held + 2 * length bytes.now ≤ ROOM }
+        ensures { Puts K.taken K.faults K.same (encode_lower bytes.now) self.old self.new }
+    {
+        self.held.push_hex(bytes);
     }
 
     /// Writes bytes, where none are held.

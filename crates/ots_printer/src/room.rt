@@ -1,5 +1,6 @@
 //! The room before a sink.
-ghost use Rattle.std.specs.Prelude.{◌≡◌, ◌≤◌, ◌+◌, ◌++◌, [], length};
+ghost use Rattle.std.specs.Prelude.{◌≡◌, ◌≤◌, ◌+◌, ◌*◌, ◌++◌, [], length};
+ghost use Rattle.hex.specs.Hex.{encode_lower};
 
 use std::marker::Model;
 
@@ -57,6 +58,17 @@ impl Room {
         let end = self.filled + bytes.len();
         self.bytes[self.filled..end].copy_from_slice(bytes);
         self.filled = end;
+    }
+
+    /// Holds the digits of more bytes, two for each.
+    pub(crate) fn push_hex(&mut self, bytes: &[u8])
+        requires { length self.old + 2 * length bytes.now ≤ ROOM }
+        ensures { self.new ≡ self.old ++ encode_lower bytes.now }
+    {
+        let end = self.filled + 2 * bytes.len();
+        if hex::encode_to_slice(bytes, &mut self.bytes[self.filled..end]).is_ok() {
+            self.filled = end;
+        }
     }
 
     /// Holds nothing any more.

@@ -52,6 +52,7 @@ impl VaruintState {
 
     /// What the bytes so far and this one make. After another answer than `More` the state is as
     /// before this byte, which is then none of the bytes so far: the next byte comes in its place.
+    #[inline(always)]
     pub fn feed(&mut self, byte: u8) -> Step
         ensures answer { result ≡ step_of (reading (self.old ++ byte ∷ [])) }
         ensures value { (n : ℕ) → (result ≡ Step.Value n) ↔ ((n < 2 ^ 64) × (self.old ++ byte ∷ [] ≡ varuint n)) }
