@@ -5,9 +5,11 @@ ghost use Rattle.ots_io.specs.Link.{SameButTaken, taken_of};
 ghost use Rattle.ots_io.specs.Streams.{Takes};
 
 use ots_io::{
-    BytesLink, DialError, DialedLink, Dialer, DialerRoom, Failed, Link, LinkSink, ScriptDialer,
-    SentTo, Slot, write_all,
+    BytesLink, DialError, DialedLink, Dialer, DialerRoom, Failed, Link, LinkSink, OutOfMemory,
+    ScriptDialer, SentTo, Slot, write_all,
 };
+use std::alloc::Global;
+use std::process::Abort;
 use std::test::Fail;
 
 /// Reads, writes `xyz` and `uv`, says that nothing more is written, and reads on.
@@ -22,30 +24,51 @@ fn exchange<L: Link>(link: &mut L, buf: &mut [u8]) -> [Result<usize, Failed>; 4]
     [read, written, written_after, read_after]
 }
 
+/// A link that gives `abcdef`, two bytes at first, takes so many bytes, and fails at these calls.
+fn make_link(alloc: Global, capacity: usize, failing: &[u64]) -> Result<BytesLink, OutOfMemory> {
+    BytesLink::new(alloc, b"abcdef", &[2], capacity, failing)
+}
+
+/// The link has given and taken these bytes, and has so many left.
+fn expect_state(rt: &impl Abort, link: &BytesLink, given: &[u8], left: usize, taken: &[u8]) {
+    assert_eq!(rt; link.given(), given);
+    assert_eq!(rt; link.left(), left);
+    assert_eq!(rt; link.taken(), taken);
+}
+
+/// An exchange over the link answers so, and then the link has given and taken these bytes, and has
+/// so many left.
+fn expect_exchange(
+    rt: &impl Abort,
+    mut link: BytesLink,
+    answers: [Result<usize, Failed>; 4],
+    given: &[u8],
+    left: usize,
+    taken: &[u8],
+) {
+    assert_eq!(rt; exchange(&mut link, &mut [0; 8]), answers);
+    expect_state(rt, &link, given, left, taken);
+}
+
+#[test]
+fn a_link_takes_up_to_its_capacity(rt: HostRuntime) -> Result<(), Fail> {
+    let link = make_link(rt.alloc(), 5, &[])?;
+    let answers = [Ok(2), Ok(3), Ok(2), Ok(4)];
+    expect_exchange(&rt, link, answers, b"abcdef", 0, b"xyzuv");
+    let link = make_link(rt.alloc(), 4, &[])?;
+    let answers = [Ok(2), Ok(3), Err(Failed), Ok(4)];
+    expect_exchange(&rt, link, answers, b"abcdef", 0, b"xyz");
+    Ok(())
+}
+
 #[test]
 fn a_failed_call_leaves_the_next_one_whole(rt: HostRuntime) -> Result<(), Fail> {
-    let failed = Err(Failed);
-    // The capacity, the calls that are to fail (none has the number 0), what the calls answer, the
-    // bytes that were given then, how many are left, and those that were taken.
-    for (capacity, failing, answers, given, left, taken) in [
-        (
-            5,
-            [0, 0],
-            [Ok(2), Ok(3), Ok(2), Ok(4)],
-            "abcdef",
-            0,
-            "xyzuv",
-        ),
-        (4, [0, 0], [Ok(2), Ok(3), failed, Ok(4)], "abcdef", 0, "xyz"),
-        (5, [2, 4], [Ok(2), failed, Ok(2), failed], "ab", 4, "uv"),
-        (5, [1, 3], [failed, Ok(3), failed, Ok(2)], "ab", 4, "xyz"),
-    ] {
-        let mut link = BytesLink::new(rt.alloc(), b"abcdef", &[2], capacity, &failing)?;
-        assert_eq!(rt; exchange(&mut link, &mut [0; 8]), answers);
-        assert_eq!(rt; link.given(), given.as_bytes());
-        assert_eq!(rt; link.left(), left);
-        assert_eq!(rt; link.taken(), taken.as_bytes());
-    }
+    let link = make_link(rt.alloc(), 5, &[2, 4])?;
+    let answers = [Ok(2), Err(Failed), Ok(2), Err(Failed)];
+    expect_exchange(&rt, link, answers, b"ab", 4, b"uv");
+    let link = make_link(rt.alloc(), 5, &[1, 3])?;
+    let answers = [Err(Failed), Ok(3), Err(Failed), Ok(2)];
+    expect_exchange(&rt, link, answers, b"ab", 4, b"xyz");
     Ok(())
 }
 
@@ -58,18 +81,25 @@ fn write_link<L: Link>(link: &mut L, text: &[u8]) -> Result<(), Failed>
     write_all(&mut LinkSink::new(link), text)
 }
 
+/// A write of the text is answered so, and then the link has taken these bytes.
+fn expect_written(
+    rt: &impl Abort,
+    link: &mut BytesLink,
+    text: &[u8],
+    answer: Result<(), Failed>,
+    taken: &[u8],
+) {
+    assert_eq!(rt; write_link(link, text), answer);
+    assert_eq!(rt; link.taken(), taken);
+}
+
 #[test]
 fn a_link_is_written_as_a_sink(rt: HostRuntime) -> Result<(), Fail> {
     let mut link = BytesLink::new(rt.alloc(), b"", &[], 5, &[2])?;
-    for (text, answer, taken) in [
-        ("abc", Ok(()), "abc"),
-        ("de", Err(Failed), "abc"),
-        ("de", Ok(()), "abcde"),
-        ("f", Err(Failed), "abcde"),
-    ] {
-        assert_eq!(rt; write_link(&mut link, text.as_bytes()), answer);
-        assert_eq!(rt; link.taken(), taken.as_bytes());
-    }
+    expect_written(&rt, &mut link, b"abc", Ok(()), b"abc");
+    expect_written(&rt, &mut link, b"de", Err(Failed), b"abc");
+    expect_written(&rt, &mut link, b"de", Ok(()), b"abcde");
+    expect_written(&rt, &mut link, b"f", Err(Failed), b"abcde");
     Ok(())
 }
 

@@ -2,10 +2,12 @@
 ghost use Rattle.std.specs.Prelude.{◌≡◌, ◌++◌, ◌∷◌, [], ℕ, OnOk};
 ghost use Rattle.std.specs.Option.{option_map};
 
+use super::slots::holds;
 use ots_io::{
     CreateError, Failed, MapShelf, OpenError, PutError, Shelf, ShelfRoom, SlotSource, read_all,
 };
 use std::alloc::Global;
+use std::process::Abort;
 use std::test::Fail;
 
 const ROOM: ShelfRoom = ShelfRoom {
@@ -53,73 +55,122 @@ fn write_twice<S: Shelf>(
     Ok([first, second])
 }
 
+/// A name is read so by two calls.
+fn expect_read_twice(
+    rt: &impl Abort,
+    shelf: &mut MapShelf,
+    name: &str,
+    answer: Result<[Result<usize, Failed>; 2], OpenError>,
+) {
+    assert_eq!(rt; read_twice(shelf, name, &mut [0; 6]), answer);
+}
+
+/// A piece is written so by two calls to a name that is created.
+fn expect_written_twice(
+    rt: &impl Abort,
+    shelf: &mut MapShelf,
+    name: &str,
+    piece: &[u8],
+    answer: Result<[Result<usize, Failed>; 2], CreateError>,
+) {
+    assert_eq!(rt; write_twice(shelf, name, piece), answer);
+}
+
+/// A name holds these bytes.
+fn expect_read(
+    rt: &(impl Abort + AllocGlobal),
+    shelf: &mut MapShelf,
+    name: &str,
+    bytes: &[u8],
+) -> Result<(), Fail> {
+    assert_eq!(rt; read_named(rt.alloc(), shelf, name)?.as_slice(), bytes);
+    Ok(())
+}
+
+/// Puts two names and creates a third, and reads all three.
+fn expect_names(rt: &(impl Abort + AllocGlobal), shelf: &mut MapShelf) -> Result<(), Fail> {
+    shelf.put("a", b"abcdef")?;
+    shelf.put("b", b"")?;
+    expect_written_twice(rt, shelf, "c", b"xyz", Ok([Ok(3), Ok(3)]));
+    expect_read(rt, shelf, "a", b"abcdef")?;
+    expect_read(rt, shelf, "b", b"")?;
+    expect_read(rt, shelf, "c", b"xyzxyz")
+}
+
 #[test]
 fn names_are_put_created_and_read(rt: HostRuntime) -> Result<(), Fail> {
     let mut shelf = MapShelf::new(rt.alloc(), ROOM, &[])?;
-    shelf.put("a", b"abcdef")?;
-    shelf.put("b", b"")?;
-    let answers = write_twice(&mut shelf, "c", b"xyz");
-    assert_eq!(rt; answers, Ok([Ok(3), Ok(3)]));
-    for (name, bytes) in [("a", "abcdef"), ("b", ""), ("c", "xyzxyz")] {
-        let read = read_named(rt.alloc(), &mut shelf, name)?;
-        assert_eq!(rt; read.as_slice(), bytes.as_bytes());
-    }
-    assert_eq!(rt; shelf.bytes_of("c"), Some(b"xyzxyz".as_slice()));
-    assert_eq!(rt; shelf.bytes_of("d"), None);
+    expect_names(&rt, &mut shelf)?;
+    assert!(rt; holds(&shelf, "c", b"xyzxyz"));
+    assert!(rt; shelf.bytes_of("d").is_none());
     Ok(())
+}
+
+/// A name is put or refused so.
+fn expect_put(
+    rt: &impl Abort,
+    shelf: &mut MapShelf,
+    name: &str,
+    bytes: &[u8],
+    answer: Result<(), PutError>,
+) {
+    assert_eq!(rt; shelf.put(name, bytes), answer);
+}
+
+/// Puts one name of the greatest length, with as many bytes as a name can have.
+fn expect_puts(rt: &impl Abort, shelf: &mut MapShelf) {
+    expect_put(rt, shelf, "long!", b"", Err(PutError::NoRoom));
+    expect_put(rt, shelf, "a", b"123456789", Err(PutError::NoRoom));
+    expect_put(rt, shelf, "long", b"12345678", Ok(()));
+    expect_put(rt, shelf, "long", b"", Err(PutError::Exists));
+}
+
+/// Creates two names behind it, which are the last that the shelf has room for.
+fn expect_creations(rt: &impl Abort, shelf: &mut MapShelf) {
+    let once = Ok([Ok(5), Err(Failed)]);
+    expect_written_twice(rt, shelf, "long", b"12345", Err(CreateError::Exists));
+    expect_written_twice(rt, shelf, "long!", b"12345", Err(CreateError::Failed));
+    expect_written_twice(rt, shelf, "b", b"12345", once);
+    expect_written_twice(rt, shelf, "c", b"12345", once);
+    expect_written_twice(rt, shelf, "d", b"12345", Err(CreateError::Failed));
+    assert!(rt; holds(shelf, "b", b"12345"));
+}
+
+/// Opens the name four times, which takes the slots that are left.
+fn expect_openings(rt: &impl Abort, shelf: &mut MapShelf) {
+    let whole = Ok([Ok(6), Ok(2)]);
+    expect_read_twice(rt, shelf, "long", whole);
+    expect_read_twice(rt, shelf, "long", whole);
+    expect_read_twice(rt, shelf, "long", whole);
+    expect_read_twice(rt, shelf, "long", whole);
+    expect_read_twice(rt, shelf, "long", Err(OpenError::Failed));
+    expect_read_twice(rt, shelf, "e", Err(OpenError::NotThere));
 }
 
 #[test]
 fn a_name_is_refused_by_what_the_shelf_holds(rt: HostRuntime) -> Result<(), Fail> {
     let mut shelf = MapShelf::new(rt.alloc(), ROOM, &[])?;
-    for (name, bytes, answer) in [
-        ("long!", "", Err(PutError::NoRoom)),
-        ("a", "123456789", Err(PutError::NoRoom)),
-        ("long", "12345678", Ok(())),
-        ("long", "", Err(PutError::Exists)),
-    ] {
-        assert_eq!(rt; shelf.put(name, bytes.as_bytes()), answer);
-    }
-    for (name, answer) in [
-        ("long", Err(CreateError::Exists)),
-        ("long!", Err(CreateError::Failed)),
-        ("b", Ok([Ok(5), Err(Failed)])),
-        ("c", Ok([Ok(5), Err(Failed)])),
-        ("d", Err(CreateError::Failed)),
-    ] {
-        assert_eq!(rt; write_twice(&mut shelf, name, b"12345"), answer);
-    }
-    assert_eq!(rt; shelf.bytes_of("b"), Some(b"12345".as_slice()));
-    // Four slots are left.
-    let mut buf = [0; 6];
-    for answer in [
-        Ok([Ok(6), Ok(2)]),
-        Ok([Ok(6), Ok(2)]),
-        Ok([Ok(6), Ok(2)]),
-        Ok([Ok(6), Ok(2)]),
-        Err(OpenError::Failed),
-    ] {
-        assert_eq!(rt; read_twice(&mut shelf, "long", &mut buf), answer);
-    }
-    assert_eq!(rt;
-        read_twice(&mut shelf, "e", &mut buf),
-        Err(OpenError::NotThere)
-    );
+    expect_puts(&rt, &mut shelf);
+    expect_creations(&rt, &mut shelf);
+    expect_openings(&rt, &mut shelf);
     Ok(())
+}
+
+/// The first opening and the first read fail.
+fn expect_failing_reads(rt: &impl Abort, shelf: &mut MapShelf) {
+    let mut buf = [0; 8];
+    assert_eq!(rt; read_twice(shelf, "a", &mut buf), Err(OpenError::Failed));
+    assert_eq!(rt; read_twice(shelf, "a", &mut buf), Ok([Err(Failed), Ok(6)]));
+    assert_eq!(rt; buf, *b"abcdef\0\0");
 }
 
 #[test]
 fn a_failing_call_leaves_the_next_one_whole(rt: HostRuntime) -> Result<(), Fail> {
     let mut shelf = MapShelf::new(rt.alloc(), ROOM, &[1, 3, 5, 7])?;
     shelf.put("a", b"abcdef")?;
-    let mut buf = [0; 8];
-    for answer in [Err(OpenError::Failed), Ok([Err(Failed), Ok(6)])] {
-        assert_eq!(rt; read_twice(&mut shelf, "a", &mut buf), answer);
-    }
-    assert_eq!(rt; buf, *b"abcdef\0\0");
-    for answer in [Err(CreateError::Failed), Ok([Err(Failed), Ok(2)])] {
-        assert_eq!(rt; write_twice(&mut shelf, "b", b"xy"), answer);
-    }
-    assert_eq!(rt; shelf.bytes_of("b"), Some(b"xy".as_slice()));
+    expect_failing_reads(&rt, &mut shelf);
+    expect_written_twice(&rt, &mut shelf, "b", b"xy", Err(CreateError::Failed));
+    expect_written_twice(&rt, &mut shelf, "b", b"xy", Ok([Err(Failed), Ok(2)]));
+    assert!(rt; holds(&shelf, "b", b"xy"));
     Ok(())
 }

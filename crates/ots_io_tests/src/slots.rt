@@ -37,7 +37,7 @@ pub fn write_named<S: Shelf>(shelf: &mut S, name: &str, text: &[u8]) -> Result<(
 }
 
 /// Whether a name holds exactly these bytes.
-fn holds(shelf: &MapShelf, name: &str, bytes: &[u8]) -> bool {
+pub fn holds(shelf: &MapShelf, name: &str, bytes: &[u8]) -> bool {
     shelf.bytes_of(name) == Some(bytes)
 }
 

@@ -1,5 +1,7 @@
 // Values of a few bytes, and the clock that stands.
-use ots_io::{Bytes, Clock, DigestLength, FixedClock, Leaf, Wanted};
+use ots_io::{Bytes, Clock, DigestLength, FixedClock, Leaf, OutOfMemory, Wanted};
+use std::alloc::Global;
+use std::process::Abort;
 use std::test::Fail;
 
 // One byte more than a digest can have, each another.
@@ -11,25 +13,54 @@ fn numbered() -> [u8; 65] {
     bytes
 }
 
+/// The bytes are a leaf and a wanted digest.
+fn expect_kept(rt: &impl Abort, bytes: &[u8]) {
+    assert!(rt; matches!(Leaf::new(bytes), Ok(leaf) if leaf.bytes() == bytes));
+    assert!(rt; matches!(Wanted::new(bytes), Some(wanted) if wanted.bytes() == bytes));
+}
+
+/// The bytes are no leaf, for this reason, and no wanted digest.
+fn expect_refused(rt: &impl Abort, bytes: &[u8], refusal: DigestLength) {
+    assert!(rt; matches!(Leaf::new(bytes), Err(refused) if refused == refusal));
+    assert!(rt; Wanted::new(bytes).is_none());
+}
+
 #[test]
 fn a_digest_has_1_to_64_bytes(rt: HostRuntime) -> Result<(), Fail> {
     let bytes = numbered();
-    for (length, refusal) in [
-        (0, Some(DigestLength(0))),
-        (1, None),
-        (64, None),
-        (65, Some(DigestLength(65))),
-    ] {
-        let given = &bytes[..length];
-        match Leaf::new(given) {
-            Ok(leaf) => assert_eq!(rt; (leaf.bytes(), None), (given, refusal)),
-            Err(refused) => assert_eq!(rt; Some(refused), refusal),
-        }
-        match Wanted::new(given) {
-            Some(wanted) => assert_eq!(rt; (wanted.bytes(), None), (given, refusal)),
-            None => assert!(rt; refusal.is_some()),
-        }
+    for length in [1, 64] {
+        expect_kept(&rt, &bytes[..length]);
     }
+    expect_refused(&rt, &[], DigestLength(0));
+    expect_refused(&rt, &bytes, DigestLength(65));
+    Ok(())
+}
+
+/// These bytes, pushed one by one.
+fn push_all(alloc: Global, given: &[u8]) -> Result<Bytes, OutOfMemory> {
+    let mut bytes = Bytes::new(alloc);
+    for byte in given {
+        bytes.push(*byte)?;
+    }
+    Ok(bytes)
+}
+
+/// These bytes stay in their order where they are copied.
+fn expect_copied(rt: &impl Abort, bytes: &Bytes, given: &[u8]) -> Result<(), Fail> {
+    let copied = Bytes::from_vec(bytes.copy()?.into_vec());
+    assert_eq!(rt; copied.items(), given);
+    Ok(())
+}
+
+/// Whether the bytes are those given and 255 behind them.
+fn is_one_more(bytes: &[u8], given: &[u8]) -> bool {
+    matches!(bytes.split_last(), Some((255, front)) if front == given)
+}
+
+/// These bytes stay in their order where one more is pushed behind them.
+fn expect_pushed(rt: &impl Abort, mut bytes: Bytes, given: &[u8]) -> Result<(), Fail> {
+    bytes.push(255)?;
+    assert!(rt; is_one_more(bytes.items(), given));
     Ok(())
 }
 
@@ -38,15 +69,9 @@ fn bytes_are_kept_in_their_order(rt: HostRuntime) -> Result<(), Fail> {
     let numbers = numbered();
     for length in [0, 1, 64, 65] {
         let given = &numbers[..length];
-        let mut bytes = Bytes::new(rt.alloc());
-        for byte in given {
-            bytes.push(*byte)?;
-        }
-        let copied = Bytes::from_vec(bytes.copy()?.into_vec());
-        bytes.push(255)?;
-        assert_eq!(rt; copied.items(), given);
-        assert_eq!(rt; bytes.items().len(), length + 1);
-        assert_eq!(rt; bytes.items().last(), Some(&255));
+        let bytes = push_all(rt.alloc(), given)?;
+        expect_copied(&rt, &bytes, given)?;
+        expect_pushed(&rt, bytes, given)?;
     }
     Ok(())
 }

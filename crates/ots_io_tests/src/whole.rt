@@ -1,48 +1,89 @@
 // Whole inputs and whole texts.
-use ots_io::{BytesSink, BytesSource, Failed, ReadAllError, Source, read_all, write_all};
+use ots_io::{
+    BytesSink, BytesSource, Failed, OutOfMemory, ReadAllError, Source, read_all, write_all,
+};
+use std::alloc::Global;
+use std::process::Abort;
 use std::test::Fail;
+
+/// A source of `abcdef` in these pieces, which fails at these reads.
+fn make_source(
+    alloc: Global,
+    pieces: &[usize],
+    failing: &[u64],
+) -> Result<BytesSource, OutOfMemory> {
+    BytesSource::new(alloc, b"abcdef", pieces, failing)
+}
+
+/// The source is read up to the limit, and gives these bytes.
+fn expect_whole(
+    rt: &(impl Abort + AllocGlobal),
+    mut source: BytesSource,
+    limit: u64,
+    bytes: &[u8],
+) -> Result<(), Fail> {
+    assert!(rt; read_all(rt.alloc(), &mut source, limit)?.as_slice() == bytes);
+    Ok(())
+}
+
+/// The source is not read up to the limit, for this reason.
+fn expect_refused(
+    rt: &(impl Abort + AllocGlobal),
+    mut source: BytesSource,
+    limit: u64,
+    error: ReadAllError,
+) {
+    assert_eq!(rt; read_all(rt.alloc(), &mut source, limit).err(), Some(error));
+}
 
 #[test]
 fn a_whole_input_is_read_up_to_the_limit(rt: HostRuntime) -> Result<(), Fail> {
-    // The input, its pieces, the reads that are to fail, the limit, and the refusal, if any.
-    let rows: [(&[u8], &[usize], &[u64], u64, Option<ReadAllError>); 9] = [
-        (b"", &[], &[], 0, None),
-        (b"abcdef", &[], &[], 6, None),
-        (b"abcdef", &[1, 2], &[], 6, None),
-        (b"abcdef", &[], &[], 18_446_744_073_709_551_615, None),
-        (b"abcdef", &[], &[], 5, Some(ReadAllError::TooBig)),
-        (b"abcdef", &[2, 3], &[], 5, Some(ReadAllError::TooBig)),
-        (b"a", &[], &[], 0, Some(ReadAllError::TooBig)),
-        (b"abcdef", &[1, 2], &[3], 6, Some(ReadAllError::ReadFault)),
-        (b"abcdef", &[], &[2], 6, Some(ReadAllError::ReadFault)),
-    ];
-    for (input, pieces, failing, limit, refusal) in rows {
-        let mut source = BytesSource::new(rt.alloc(), input, pieces, failing)?;
-        match read_all(rt.alloc(), &mut source, limit) {
-            Ok(bytes) => {
-                assert_eq!(rt; refusal, None);
-                assert_eq!(rt; bytes.as_slice(), input);
-            }
-            Err(error) => assert_eq!(rt; Some(error), refusal),
-        }
-    }
+    let empty = BytesSource::new(rt.alloc(), b"", &[], &[])?;
+    expect_whole(&rt, empty, 0, b"")?;
+    let source = make_source(rt.alloc(), &[], &[])?;
+    expect_whole(&rt, source, 6, b"abcdef")?;
+    let source = make_source(rt.alloc(), &[1, 2], &[])?;
+    expect_whole(&rt, source, 6, b"abcdef")?;
+    let source = make_source(rt.alloc(), &[], &[])?;
+    expect_whole(&rt, source, 18_446_744_073_709_551_615, b"abcdef")
+}
+
+#[test]
+fn an_input_past_the_limit_is_refused(rt: HostRuntime) -> Result<(), Fail> {
+    let source = make_source(rt.alloc(), &[], &[])?;
+    expect_refused(&rt, source, 5, ReadAllError::TooBig);
+    let source = make_source(rt.alloc(), &[2, 3], &[])?;
+    expect_refused(&rt, source, 5, ReadAllError::TooBig);
+    let short = BytesSource::new(rt.alloc(), b"a", &[], &[])?;
+    expect_refused(&rt, short, 0, ReadAllError::TooBig);
     Ok(())
 }
 
 #[test]
-fn a_long_input_is_read_whole(rt: HostRuntime) -> Result<(), Fail> {
-    let mut input = Vec::new(rt.alloc());
+fn a_failed_read_is_answered(rt: HostRuntime) -> Result<(), Fail> {
+    let source = make_source(rt.alloc(), &[1, 2], &[3])?;
+    expect_refused(&rt, source, 6, ReadAllError::ReadFault);
+    let source = make_source(rt.alloc(), &[], &[2])?;
+    expect_refused(&rt, source, 6, ReadAllError::ReadFault);
+    Ok(())
+}
+
+/// 300,000 bytes.
+fn long_input(alloc: Global) -> Result<Vec<u8>, Fail> {
+    let mut input = Vec::new(alloc);
     for i in 0..300_000u32 {
         input.push((i % 251) as u8)?;
     }
-    let mut source = BytesSource::new(rt.alloc(), &input, &[70_000, 1], &[])?;
-    let bytes = read_all(rt.alloc(), &mut source, 300_000)?;
-    assert!(rt; bytes.as_slice() == input.as_slice());
-    let mut source = BytesSource::new(rt.alloc(), &input, &[], &[])?;
-    assert_eq!(rt;
-        read_all(rt.alloc(), &mut source, 299_999).err(),
-        Some(ReadAllError::TooBig)
-    );
+    Ok(input)
+}
+
+#[test]
+fn a_long_input_is_read_whole(rt: HostRuntime) -> Result<(), Fail> {
+    let input = long_input(rt.alloc())?;
+    let source = BytesSource::new(rt.alloc(), &input, &[70_000, 1], &[])?;
+    expect_whole(&rt, source, 300_000, &input)?;
+    let source = BytesSource::new(rt.alloc(), &input, &[], &[])?;
+    expect_refused(&rt, source, 299_999, ReadAllError::TooBig);
     Ok(())
 }
 
@@ -59,12 +100,17 @@ fn one_byte_past_the_limit_is_read_and_no_more(rt: HostRuntime) -> Result<(), Fa
     Ok(())
 }
 
+/// A write of `abc` to the sink is answered so, and then the sink has taken these bytes.
+fn expect_written(rt: &impl Abort, mut sink: BytesSink, answer: Result<(), Failed>, taken: &[u8]) {
+    assert_eq!(rt; write_all(&mut sink, b"abc"), answer);
+    assert_eq!(rt; sink.bytes(), taken);
+}
+
 #[test]
 fn a_whole_text_is_written_or_a_front_of_it(rt: HostRuntime) -> Result<(), Fail> {
-    for (capacity, answer, taken) in [(3, Ok(()), "abc"), (2, Err(Failed), "")] {
-        let mut sink = BytesSink::new(rt.alloc(), capacity, &[])?;
-        assert_eq!(rt; write_all(&mut sink, b"abc"), answer);
-        assert_eq!(rt; sink.bytes(), taken.as_bytes());
-    }
+    let sink = BytesSink::new(rt.alloc(), 3, &[])?;
+    expect_written(&rt, sink, Ok(()), b"abc");
+    let sink = BytesSink::new(rt.alloc(), 2, &[])?;
+    expect_written(&rt, sink, Err(Failed), b"");
     Ok(())
 }
