@@ -42,20 +42,37 @@ fn expect_at(rt: &impl Abort, found: &PendingAt, path: u64, depth: u32, message:
     assert_eq!(rt; found.message.bytes(), message);
 }
 
+/// A pending attestation, as the only item of its node.
+fn one_pending(alloc: Global) -> Result<Tree, Fail> {
+    Ok(single(alloc, &[], pending(alloc)?)?)
+}
+
+/// A pending attestation behind a nonce.
+fn behind_nonce(alloc: Global) -> Result<Tree, Fail> {
+    let nonce = [Op::Append(Arg::new(alloc, b"\x01")?), Op::Sha256];
+    Ok(single(alloc, &nonce, pending(alloc)?)?)
+}
+
+/// A pending attestation and one of Litecoin, behind a reversal.
+fn behind_reversal(alloc: Global) -> Result<Tree, Fail> {
+    let complete = single(alloc, &[Op::Hexlify], Attestation::Litecoin(0))?;
+    let branches = beside(one_pending(alloc)?, complete)?;
+    Ok(under(alloc, &[Op::Reverse], branches)?)
+}
+
+/// Five paths, of which the first, the third and the last are pending.
+fn five_paths(alloc: Global) -> Result<Tree, Fail> {
+    let second = single(alloc, &[], Attestation::Bitcoin(7))?;
+    let tree = beside(behind_nonce(alloc)?, second)?;
+    let tree = beside(tree, behind_reversal(alloc)?)?;
+    Ok(beside(tree, one_pending(alloc)?)?)
+}
+
 #[test]
 fn pending_paths_come_with_their_messages(rt: HostRuntime) -> Result<(), Fail> {
     let alloc = rt.alloc();
-    let nonce = [Op::Append(Arg::new(alloc, b"\x01")?), Op::Sha256];
-    let first = single(alloc, &nonce, pending(alloc)?)?;
-    let second = single(alloc, &[], Attestation::Bitcoin(7))?;
-    let branches = beside(
-        single(alloc, &[], pending(alloc)?)?,
-        single(alloc, &[Op::Hexlify], Attestation::Litecoin(0))?,
-    )?;
-    let third = under(alloc, &[Op::Reverse], branches)?;
-    let last = single(alloc, &[], pending(alloc)?)?;
-    let tree = beside(beside(beside(first, second)?, third)?, last)?;
-    let found = pending_messages(alloc, &proof_of(&rt, tree)?)?;
+    let proof = proof_of(&rt, five_paths(alloc)?)?;
+    let found = pending_messages(alloc, &proof)?;
     assert_eq!(rt; found.len(), 3);
     expect_at(&rt, &found[0], 0, 2, WITH_NONCE);
     expect_at(&rt, &found[1], 2, 1, REVERSED);
@@ -74,23 +91,33 @@ fn a_proof_without_pending_paths_asks_for_nothing(rt: HostRuntime) -> Result<(),
 
 /// So many pending attestations in one node.
 fn many_pending(alloc: Global, count: u64) -> Result<Tree, Fail> {
-    let mut tree = single(alloc, &[], pending(alloc)?)?;
+    let mut tree = one_pending(alloc)?;
     for _ in 1..count {
-        tree = beside(tree, single(alloc, &[], pending(alloc)?)?)?;
+        tree = beside(tree, one_pending(alloc)?)?;
     }
     Ok(tree)
+}
+
+/// 5,000 pending attestations, behind an append that makes the longest message.
+fn behind_longest(alloc: Global) -> Result<Tree, Fail> {
+    let longest = [append(alloc, 4064)?];
+    Ok(under(alloc, &longest, many_pending(alloc, 5_000)?)?)
+}
+
+/// The last of 5,000 pending paths has one operation, and the longest message.
+fn expect_last(rt: &impl Abort, last: &PendingAt) {
+    assert_eq!(rt; last.path, 4_999);
+    assert_eq!(rt; last.depth, 1);
+    assert_eq!(rt; last.message.bytes().len(), 4096);
+    assert!(rt; last.message.bytes().starts_with(DIGEST));
 }
 
 #[test]
 fn many_paths_are_pending_on_one_long_message(rt: HostRuntime) -> Result<(), Fail> {
     let alloc = rt.alloc();
-    let longest = [append(alloc, 4064)?];
-    let tree = under(alloc, &longest, many_pending(alloc, 5_000)?)?;
-    let found = pending_messages(alloc, &proof_of(&rt, tree)?)?;
+    let proof = proof_of(&rt, behind_longest(alloc)?)?;
+    let found = pending_messages(alloc, &proof)?;
     assert_eq!(rt; found.len(), 5_000);
-    assert_eq!(rt; found[4_999].path, 4_999);
-    assert_eq!(rt; found[4_999].depth, 1);
-    assert_eq!(rt; found[4_999].message.bytes().len(), 4096);
-    assert!(rt; found[4_999].message.bytes().starts_with(DIGEST));
+    expect_last(&rt, &found[4_999]);
     Ok(())
 }
