@@ -2,20 +2,15 @@
 //! proofs.
 ghost use Rattle.std.specs.Prelude.{◌≡◌, ◌≤◌, ◌<◌, length, IfOk};
 
-use ots_address::read_addresses;
-use ots_detached::write_file;
-use ots_io::{BytesSink, DialerRoom, ScriptDialer};
+use crate::fixtures::bytes;
+use crate::stamping::{asked, stamped};
+use ots_io::{DialerRoom, ScriptDialer};
 use ots_ops::Digest;
-use ots_upgrade::{Batch, Target, gather_good};
+use ots_upgrade::{Batch, Outcome, Target, gather_good};
 use sha2::{Digest as _, Sha256};
 use std::alloc::Global;
 use std::process::Abort;
 use std::test::Fail;
-
-/// The bytes of these digits.
-fn bytes(alloc: Global, digits: &str) -> Result<Vec<u8>, Fail> {
-    hex::decode(alloc, digits).map_err(|_| Fail::from("digits"))
-}
 
 /// The file `file N`, with the bytes from 16 times N on as its nonce.
 fn target(alloc: Global, n: usize) -> Result<Target, Fail>
@@ -68,55 +63,44 @@ fn reply(alloc: Global, digits: &str) -> Result<Vec<u8>, Fail> {
     Ok(reply)
 }
 
-/// The file of the proof of one of so many files, which three calendars were asked for: the second
-/// answers nothing, the others as above.
-fn proof_of(alloc: Global, count: usize, place: usize) -> Result<Vec<u8>, Fail>
-    requires least { 1 ≤ count }
-    requires most { count ≤ 1024 }
-    requires inside { place < count }
-{
-    let batch = batch(alloc, count)?;
+/// A dialer that answers three calendars: the second nothing, the others as above.
+fn two_of_three(alloc: Global) -> Result<ScriptDialer, Fail> {
     let first = reply(alloc, FIRST)?;
     let second = reply(alloc, SECOND)?;
-    let mut dialer = ScriptDialer::new(alloc, &[&first, b"", &second], ROOM, &[])?;
-    let calendars = read_addresses(alloc, "http://a,http://b,http://c").map_err(|_| Fail::from(
-        "addresses",
-    ))?;
-    let outcomes = batch.ask(alloc, &mut dialer, &calendars)?;
-    let Some(good) = gather_good(&outcomes)? else {
-        return Err(Fail::from("no tree is good"));
-    };
-    let proof = batch.proof(alloc, place, &good)?;
-    let mut sink = BytesSink::new(alloc, 1024, &[])?;
-    write_file(&proof, &mut sink).map_err(|_| Fail::from("it is longer"))?;
-    Ok(Vec::from_slice(alloc, sink.bytes())?)
+    Ok(ScriptDialer::new(alloc, &[&first, b"", &second], ROOM, &[])?)
 }
 
-/// The proof of one of so many files has this file.
+/// The proof of one of the files of a batch, for which three calendars were asked, has this file.
 fn has_file(
     rt: &impl Abort,
     alloc: Global,
-    count: usize,
+    batch: &Batch,
     place: usize,
     digits: &str,
 ) -> Result<(), Fail>
-    requires least { 1 ≤ count }
-    requires most { count ≤ 1024 }
-    requires inside { place < count }
+    requires { place < length batch.now }
 {
-    let file = proof_of(alloc, count, place)?;
+    let mut dialer = two_of_three(alloc)?;
+    let file = stamped(
+        alloc,
+        batch,
+        place,
+        &mut dialer,
+        "http://a,http://b,http://c",
+    )?;
     let expected = bytes(alloc, digits)?;
-    assert_eq!(rt; file.as_slice(), expected.as_slice());
+    assert_eq!(rt; file, expected);
     Ok(())
 }
 
 #[test]
 fn the_proofs_of_one_file(rt: HostRuntime) -> Result<(), Fail> {
     let alloc = rt.alloc();
+    let batch = batch(alloc, 1)?;
     has_file(
         &rt,
         alloc,
-        1,
+        &batch,
         0,
         "004f70656e54696d657374616d7073000050726f6f6600bf89e2e884e8929401084da94f7ab13842d92f35deb8983d2edfe02631ff460c4080f4733de155b57fd4f010000102030405060708090a0b0c0d0e0f08fff0100102030405060708090a0b0c0d0e0f1008f00205060083dfe30d2ef90c8e1716687474703a2f2f3132372e302e302e313a3134373839f010202122232425262728292a2b2c2d2e2f080083dfe30d2ef90c8e1716687474703a2f2f3132372e302e302e313a3134373838",
     )
@@ -125,17 +109,18 @@ fn the_proofs_of_one_file(rt: HostRuntime) -> Result<(), Fail> {
 #[test]
 fn the_proofs_of_two_files(rt: HostRuntime) -> Result<(), Fail> {
     let alloc = rt.alloc();
+    let batch = batch(alloc, 2)?;
     has_file(
         &rt,
         alloc,
-        2,
+        &batch,
         0,
         "004f70656e54696d657374616d7073000050726f6f6600bf89e2e884e8929401084da94f7ab13842d92f35deb8983d2edfe02631ff460c4080f4733de155b57fd4f010000102030405060708090a0b0c0d0e0f08f020c78d6a5c7727d9a5d9ab76026300795f56db15170e1937f70fd690b55bc0e7a708fff0100102030405060708090a0b0c0d0e0f1008f00205060083dfe30d2ef90c8e1716687474703a2f2f3132372e302e302e313a3134373839f010202122232425262728292a2b2c2d2e2f080083dfe30d2ef90c8e1716687474703a2f2f3132372e302e302e313a3134373838",
     )?;
     has_file(
         &rt,
         alloc,
-        2,
+        &batch,
         1,
         "004f70656e54696d657374616d7073000050726f6f6600bf89e2e884e89294010883bf7fcd913e81d35f0d0e94ed1ec0611e8e3b4909c23b00ef9f076f205e67c6f010101112131415161718191a1b1c1d1e1f08f1206302ec24349d4ff2afbd7f67fcb548e7de7ccc873dbb143c2540c02a29aeb41708fff0100102030405060708090a0b0c0d0e0f1008f00205060083dfe30d2ef90c8e1716687474703a2f2f3132372e302e302e313a3134373839f010202122232425262728292a2b2c2d2e2f080083dfe30d2ef90c8e1716687474703a2f2f3132372e302e302e313a3134373838",
     )
@@ -144,27 +129,35 @@ fn the_proofs_of_two_files(rt: HostRuntime) -> Result<(), Fail> {
 #[test]
 fn the_proofs_of_three_files(rt: HostRuntime) -> Result<(), Fail> {
     let alloc = rt.alloc();
+    let batch = batch(alloc, 3)?;
     has_file(
         &rt,
         alloc,
-        3,
+        &batch,
         0,
         "004f70656e54696d657374616d7073000050726f6f6600bf89e2e884e8929401084da94f7ab13842d92f35deb8983d2edfe02631ff460c4080f4733de155b57fd4f010000102030405060708090a0b0c0d0e0f08f020c78d6a5c7727d9a5d9ab76026300795f56db15170e1937f70fd690b55bc0e7a708f0207125d2c37e7936f1768cba3cf8f70c7a70778760bcf289bb729b1e9db2e9760708fff0100102030405060708090a0b0c0d0e0f1008f00205060083dfe30d2ef90c8e1716687474703a2f2f3132372e302e302e313a3134373839f010202122232425262728292a2b2c2d2e2f080083dfe30d2ef90c8e1716687474703a2f2f3132372e302e302e313a3134373838",
     )?;
     has_file(
         &rt,
         alloc,
-        3,
+        &batch,
         1,
         "004f70656e54696d657374616d7073000050726f6f6600bf89e2e884e89294010883bf7fcd913e81d35f0d0e94ed1ec0611e8e3b4909c23b00ef9f076f205e67c6f010101112131415161718191a1b1c1d1e1f08f1206302ec24349d4ff2afbd7f67fcb548e7de7ccc873dbb143c2540c02a29aeb41708f0207125d2c37e7936f1768cba3cf8f70c7a70778760bcf289bb729b1e9db2e9760708fff0100102030405060708090a0b0c0d0e0f1008f00205060083dfe30d2ef90c8e1716687474703a2f2f3132372e302e302e313a3134373839f010202122232425262728292a2b2c2d2e2f080083dfe30d2ef90c8e1716687474703a2f2f3132372e302e302e313a3134373838",
     )?;
     has_file(
         &rt,
         alloc,
-        3,
+        &batch,
         2,
         "004f70656e54696d657374616d7073000050726f6f6600bf89e2e884e892940108fe7f1034d4a63dde9192739732fb553a720788f422c5723ec7ca1c683280837ef010202122232425262728292a2b2c2d2e2f08f120c8ea259622ab0f0da53565e2ad2f6db649bd60bfe7c2d2e4f5088b7dc758dab908fff0100102030405060708090a0b0c0d0e0f1008f00205060083dfe30d2ef90c8e1716687474703a2f2f3132372e302e302e313a3134373839f010202122232425262728292a2b2c2d2e2f080083dfe30d2ef90c8e1716687474703a2f2f3132372e302e302e313a3134373838",
     )
+}
+
+/// This root has these digits.
+fn has_digits(rt: &impl Abort, alloc: Global, root: Digest, digits: &str) -> Result<(), Fail> {
+    let expected = bytes(alloc, digits)?;
+    assert_eq!(rt; root.bytes(), expected.as_slice());
+    Ok(())
 }
 
 /// So many files have this root and depth.
@@ -179,11 +172,9 @@ fn has_root(
     requires most { count ≤ 1024 }
 {
     let batch = batch(alloc, count)?;
-    let expected = bytes(alloc, digits)?;
-    assert_eq!(rt; batch.root().bytes(), expected.as_slice());
     assert_eq!(rt; batch.depth(), depth);
     assert_eq!(rt; batch.targets().len(), count);
-    Ok(())
+    has_digits(rt, alloc, batch.root(), digits)
 }
 
 #[test]
@@ -219,16 +210,18 @@ fn roots_and_depths(rt: HostRuntime) -> Result<(), Fail> {
     )
 }
 
+/// Neither of these two outcomes is a good tree.
+fn have_no_tree(rt: &impl Abort, outcomes: &[Outcome]) -> Result<(), Fail> {
+    assert_eq!(rt; outcomes.len(), 2);
+    assert!(rt; gather_good(outcomes)?.is_none());
+    Ok(())
+}
+
 #[test]
 fn no_good_tree(rt: HostRuntime) -> Result<(), Fail> {
     let alloc = rt.alloc();
     let batch = batch(alloc, 1)?;
     let mut dialer = ScriptDialer::new(alloc, &[b"", b""], ROOM, &[])?;
-    let calendars = read_addresses(alloc, "http://a,http://b").map_err(|_| Fail::from(
-        "addresses",
-    ))?;
-    let outcomes = batch.ask(alloc, &mut dialer, &calendars)?;
-    assert_eq!(rt; outcomes.len(), 2);
-    assert!(rt; gather_good(&outcomes)?.is_none());
-    Ok(())
+    let outcomes = asked(alloc, &batch, &mut dialer, "http://a,http://b")?;
+    have_no_tree(&rt, &outcomes)
 }

@@ -6,6 +6,10 @@
 #[cfg(test)]
 mod batches;
 #[cfg(test)]
+mod fixtures;
+#[cfg(test)]
 mod outcomes;
+#[cfg(test)]
+mod stamping;
 #[cfg(test)]
 mod upgrading;

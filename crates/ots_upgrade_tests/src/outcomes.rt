@@ -1,6 +1,6 @@
 //! Outcomes of conversations, by their replies.
-use ots_address::read_addresses;
-use ots_io::{DialerRoom, ScriptDialer};
+use crate::fixtures::{TREE, addresses, bytes, good_reply, has_begun, is_sent, reply, words};
+use ots_io::{DialerRoom, ScriptDialer, SentTo};
 use ots_ops::Digest;
 use ots_upgrade::{Outcome, stamp_with};
 use std::alloc::Global;
@@ -14,94 +14,63 @@ const ROOM: DialerRoom = DialerRoom {
     bytes: 512,
 };
 
-/// A tree of 68 bytes, as a calendar answers it: four operations and a pending attestation.
-pub(crate) const TREE: &str =
-    "f010202122232425262728292a2b2c2d2e2f08f1046553f100f00801020304050607080083dfe30d2ef90c8e1716687474703a2f2f3132372e302e302e313a3134373838";
-
-/// The bytes of these digits.
-pub(crate) fn bytes(alloc: Global, digits: &str) -> Result<Vec<u8>, Fail> {
-    hex::decode(alloc, digits).map_err(|_| Fail::from("digits"))
-}
-
-/// A reply with this status line and body, whose length it tells.
-pub(crate) fn reply(alloc: Global, status: &str, body: &[u8]) -> Result<Vec<u8>, Fail> {
-    let length = body.len();
-    let head = format!(in alloc; "HTTP/1.1 {status}\r\nContent-Length: {length}\r\n\r\n")?;
-    let mut reply = Vec::from_slice(alloc, head.as_bytes())?;
-    reply.extend_from_slice(body)?;
-    Ok(reply)
-}
-
-/// An outcome in words.
-pub(crate) fn words(alloc: Global, outcome: &Outcome) -> Result<String, Fail> {
-    Ok(match outcome {
-        Outcome::Tree(tree) => {
-            let count = tree.tokens().len();
-            format!(in alloc; "{count} tokens")?
-        }
-        Outcome::Unreachable => format!(in alloc; "unreachable")?,
-        Outcome::Status(code) => format!(in alloc; "status {code}")?,
-        Outcome::TooLong => format!(in alloc; "too long")?,
-        Outcome::BadHttp => format!(in alloc; "not http")?,
-        Outcome::BadReply(fault) => {
-            let place = fault.place;
-            let reason = fault.reason.words();
-            format!(in alloc; "bad reply at {place}: {reason}")?
-        }
-    })
-}
-
-/// The outcomes of three calendars, of which each answers the reply in its place, in words; the
-/// calls of these numbers fail.
-fn asked(alloc: Global, replies: &[&[u8]], failing: &[u64]) -> Result<Vec<String>, Fail> {
-    let mut dialer = ScriptDialer::new(alloc, replies, ROOM, failing)?;
-    let calendars = read_addresses(alloc, "http://a,http://b:8080,http://c").map_err(|_| Fail::from(
-        "addresses",
-    ))?;
+/// What calendars at these addresses come to, where each is sent a digest of 32 bytes that are 7.
+fn stamped(alloc: Global, dialer: &mut ScriptDialer, list: &str) -> Result<Vec<Outcome>, Fail> {
+    let calendars = addresses(alloc, list)?;
     let root = Digest::new(&[7; 32]).ok_or("32 bytes")?;
-    let outcomes = stamp_with(alloc, &mut dialer, &calendars, &root, 2)?;
-    let mut all = Vec::with_capacity(alloc, outcomes.len())?;
-    for outcome in &outcomes {
-        all.push(words(alloc, outcome)?)?;
+    Ok(stamp_with(alloc, dialer, &calendars, &root, 2)?)
+}
+
+/// These outcomes in words, each with a semicolon behind it.
+fn all_words(alloc: Global, outcomes: &[Outcome]) -> Result<String, Fail> {
+    let mut all = String::new(alloc);
+    for outcome in outcomes {
+        all.push_str(&words(alloc, outcome)?)?;
+        all.push_str(";")?;
     }
     Ok(all)
 }
 
+/// The outcomes of three calendars, of which each answers the reply in its place, in words; the
+/// calls of these numbers fail.
+fn asked(alloc: Global, replies: &[&[u8]], failing: &[u64]) -> Result<String, Fail> {
+    let mut dialer = ScriptDialer::new(alloc, replies, ROOM, failing)?;
+    let outcomes = stamped(alloc, &mut dialer, "http://a,http://b:8080,http://c")?;
+    all_words(alloc, &outcomes)
+}
+
 /// The second of three calendars answers this, and the others a tree: the outcome is its own.
 fn is_answered(rt: &impl Abort, alloc: Global, answer: &[u8], expected: &str) -> Result<(), Fail> {
-    let tree = bytes(alloc, TREE)?;
-    let good = reply(alloc, "200 OK", &tree)?;
+    let good = good_reply(alloc, TREE)?;
     let outcomes = asked(alloc, &[&good, answer, &good], &[])?;
-    assert_eq!(rt; outcomes.len(), 3);
-    assert_eq!(rt; outcomes[0].as_str(), "5 tokens");
-    assert_eq!(rt; outcomes[1].as_str(), expected);
-    assert_eq!(rt; outcomes[2].as_str(), "5 tokens");
+    let expected = format!(in alloc; "5 tokens;{expected};5 tokens;")?;
+    assert_eq!(rt; outcomes, expected);
     Ok(())
+}
+
+/// A reply with this status line and body has this outcome.
+fn has_outcome(
+    rt: &impl Abort,
+    alloc: Global,
+    status: &str,
+    body: &[u8],
+    expected: &str,
+) -> Result<(), Fail> {
+    let answer = reply(alloc, status, body)?;
+    is_answered(rt, alloc, &answer, expected)
 }
 
 #[test]
 fn each_reply_has_its_outcome(rt: HostRuntime) -> Result<(), Fail> {
     let alloc = rt.alloc();
-    let tree = bytes(alloc, TREE)?;
-    let good = reply(alloc, "200 OK", &tree)?;
-    is_answered(&rt, alloc, &good, "5 tokens")?;
-    // 254 operations behind 2 are one too many.
-    let deep = reply(alloc, "200 OK", &[8; 254])?;
-    is_answered(&rt, alloc, &deep, "bad reply at 253: too deep")?;
-    // The attestation begins at 35.
-    let Some((_, cut)) = tree.split_last() else {
-        return Err(Fail::from("no byte"));
-    };
-    let cut = reply(alloc, "200 OK", cut)?;
-    is_answered(&rt, alloc, &cut, "bad reply at 35: truncated")?;
-    let mut longer = Vec::from_slice(alloc, &tree)?;
-    longer.push(0)?;
-    let longer = reply(alloc, "200 OK", &longer)?;
-    is_answered(&rt, alloc, &longer, "bad reply at 68: trailing bytes")?;
-    let none = reply(alloc, "200 OK", b"")?;
-    is_answered(&rt, alloc, &none, "bad reply at 0: truncated")?;
-    let busy = reply(alloc, "503 Service Unavailable", b"busy\n")?;
-    is_answered(&rt, alloc, &busy, "status 503")?;
+    has_outcome(&rt, alloc, "200 OK", b"", "bad reply at 0: truncated")?;
+    has_outcome(
+        &rt,
+        alloc,
+        "503 Service Unavailable",
+        b"busy\n",
+        "status 503",
+    )?;
     is_answered(
         &rt,
         alloc,
@@ -109,54 +78,77 @@ fn each_reply_has_its_outcome(rt: HostRuntime) -> Result<(), Fail> {
         "too long",
     )?;
     is_answered(&rt, alloc, b"220 mail.example ESMTP\r\n", "not http")?;
-    is_answered(&rt, alloc, b"", "not http")
+    is_answered(&rt, alloc, b"", "not http")?;
+    // 254 operations behind 2 are one too many.
+    has_outcome(
+        &rt,
+        alloc,
+        "200 OK",
+        &[8; 254],
+        "bad reply at 253: too deep",
+    )
+}
+
+#[test]
+fn each_tree_has_its_outcome(rt: HostRuntime) -> Result<(), Fail> {
+    let alloc = rt.alloc();
+    let mut tree = bytes(alloc, TREE)?;
+    has_outcome(&rt, alloc, "200 OK", &tree, "5 tokens")?;
+    // The attestation begins at 35.
+    let Some((_, cut)) = tree.split_last() else {
+        return Err(Fail::from("no byte"));
+    };
+    has_outcome(&rt, alloc, "200 OK", cut, "bad reply at 35: truncated")?;
+    tree.push(0)?;
+    has_outcome(
+        &rt,
+        alloc,
+        "200 OK",
+        &tree,
+        "bad reply at 68: trailing bytes",
+    )
+}
+
+/// What a calendar at `http://a:8080` is sent.
+fn request(alloc: Global) -> Result<Vec<u8>, Fail> {
+    let mut request = Vec::from_slice(
+        alloc,
+        b"POST /digest HTTP/1.1\r\nHost: a:8080\r\nAccept: application/vnd.opentimestamps.v1\r\nContent-Type: application/octet-stream\r\nContent-Length: 32\r\nConnection: close\r\n\r\n",
+    )?;
+    request.extend_from_slice(&[7; 32])?;
+    Ok(request)
 }
 
 #[test]
 fn what_is_sent(rt: HostRuntime) -> Result<(), Fail> {
     let alloc = rt.alloc();
     let mut dialer = ScriptDialer::new(alloc, &[], ROOM, &[])?;
-    let calendars = read_addresses(alloc, "http://a:8080").map_err(|_| Fail::from("addresses"))?;
-    let root = Digest::new(&[7; 32]).ok_or("32 bytes")?;
-    let _ = stamp_with(alloc, &mut dialer, &calendars, &root, 2)?;
-    let sent = dialer
-        .sent(0)
-        .ok_or_else(|| Fail::from("nothing was sent"))?;
-    assert_eq!(rt; sent.host, "a");
-    assert_eq!(rt; sent.port, 8080);
-    let mut expected = Vec::from_slice(
-        alloc,
-        b"POST /digest HTTP/1.1\r\nHost: a:8080\r\nAccept: application/vnd.opentimestamps.v1\r\nContent-Type: application/octet-stream\r\nContent-Length: 32\r\nConnection: close\r\n\r\n",
-    )?;
-    expected.extend_from_slice(&[7; 32])?;
-    assert_eq!(rt; sent.bytes, expected.as_slice());
-    assert!(rt; dialer.sent(1).is_none());
+    let _ = stamped(alloc, &mut dialer, "http://a:8080")?;
+    let request = request(alloc)?;
+    let sent = SentTo {
+        host: "a",
+        port: 8080,
+        bytes: &request,
+    };
+    is_sent(&rt, &dialer, 0, sent);
+    has_begun(&rt, &dialer, 1);
     Ok(())
 }
 
-/// Where this call fails, the calendar at this place is unreachable, and the others answer a tree.
-fn fails(rt: &impl Abort, alloc: Global, good: &[u8], call: u64, place: usize) -> Result<(), Fail> {
+/// Where this call fails, the first of three calendars is unreachable, and the others answer a tree.
+fn fails(rt: &impl Abort, alloc: Global, good: &[u8], call: u64) -> Result<(), Fail> {
     let outcomes = asked(alloc, &[good, good, good], &[call])?;
-    assert_eq!(rt; outcomes.len(), 3);
-    for (i, outcome) in outcomes.iter().enumerate() {
-        let expected = if i == place {
-            "unreachable"
-        } else {
-            "5 tokens"
-        };
-        assert_eq!(rt; outcome.as_str(), expected);
-    }
+    assert_eq!(rt; outcomes.as_str(), "unreachable;5 tokens;5 tokens;");
     Ok(())
 }
 
 #[test]
 fn a_call_that_fails(rt: HostRuntime) -> Result<(), Fail> {
     let alloc = rt.alloc();
-    let tree = bytes(alloc, TREE)?;
-    let good = reply(alloc, "200 OK", &tree)?;
+    let good = good_reply(alloc, TREE)?;
     // Each conversation connects, writes once and reads once or twice; a connection that fails has
     // no further calls.
-    fails(&rt, alloc, &good, 1, 0)?;
-    fails(&rt, alloc, &good, 2, 0)?;
-    fails(&rt, alloc, &good, 3, 0)
+    fails(&rt, alloc, &good, 1)?;
+    fails(&rt, alloc, &good, 2)?;
+    fails(&rt, alloc, &good, 3)
 }

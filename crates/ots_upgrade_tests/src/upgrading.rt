@@ -3,12 +3,14 @@
 ghost use Rattle.std.specs.Prelude.{◌<◌, ◌≤◌, length};
 
 use crate::batches::batch;
-use crate::outcomes::{TREE, bytes, reply, words};
-use ots_address::read_addresses;
-use ots_detached::{read_bytes, write_file};
-use ots_io::{BytesSink, DialerRoom, ScriptDialer};
+use crate::fixtures::{
+    TREE, addresses, bytes, file_of, good_reply, has_begun, is_sent, reply, words,
+};
+use crate::stamping::stamped;
+use ots_detached::read_bytes;
+use ots_io::{DialerRoom, ScriptDialer, SentTo};
 use ots_tree::Detached;
-use ots_upgrade::{AskedList, Upgraded, gather_good, upgrade_with};
+use ots_upgrade::{AskedList, Batch, Upgraded, upgrade_with};
 use std::alloc::Global;
 use std::process::Abort;
 use std::test::Fail;
@@ -59,18 +61,6 @@ fn file_with(alloc: Global, tree: &[&str]) -> Result<Vec<u8>, Fail> {
     Ok(file)
 }
 
-/// The proof of a file.
-fn proof_of(alloc: Global, file: &[u8]) -> Result<Detached, Fail> {
-    read_bytes(alloc, file).map_err(|_| Fail::from("it is a proof"))
-}
-
-/// The file of a proof.
-fn file_of(alloc: Global, proof: &Detached) -> Result<Vec<u8>, Fail> {
-    let mut sink = BytesSink::new(alloc, 2048, &[])?;
-    write_file(proof, &mut sink).map_err(|_| Fail::from("it is longer"))?;
-    Ok(Vec::from_slice(alloc, sink.bytes())?)
-}
-
 /// The pair at this place in words: its URI, a space, and what came of it.
 fn line(alloc: Global, asked: &AskedList, i: usize) -> Result<String, Fail>
     requires { i < length asked.now }
@@ -78,7 +68,7 @@ fn line(alloc: Global, asked: &AskedList, i: usize) -> Result<String, Fail>
     let uri = asked.uri(i).text();
     let outcome = match asked.outcome(i) {
         Some(outcome) => words(alloc, outcome)?,
-        None => format!(in alloc; "skipped")?,
+        None => String::from_str(alloc, "skipped")?,
     };
     Ok(format!(in alloc; "{uri} {outcome};")?)
 }
@@ -96,12 +86,31 @@ fn lines(alloc: Global, asked: &AskedList) -> Result<String, Fail> {
 fn upgraded(
     alloc: Global,
     dialer: &mut ScriptDialer,
-    addresses: &str,
+    list: &str,
     file: &[u8],
 ) -> Result<Upgraded, Fail> {
-    let calendars = read_addresses(alloc, addresses).map_err(|_| Fail::from("addresses"))?;
-    let proof = proof_of(alloc, file)?;
+    let calendars = addresses(alloc, list)?;
+    let proof = read_bytes(alloc, file).map_err(|_| Fail::from("it is a proof"))?;
     Ok(upgrade_with(alloc, dialer, &calendars, &proof)?)
+}
+
+/// These pairs in words are this text.
+fn have_words(
+    rt: &impl Abort,
+    alloc: Global,
+    asked: &AskedList,
+    expected: &str,
+) -> Result<(), Fail> {
+    let text = lines(alloc, asked)?;
+    assert_eq!(rt; text.as_str(), expected);
+    Ok(())
+}
+
+/// This proof has this file.
+fn has_file(rt: &impl Abort, alloc: Global, proof: &Detached, expected: &[u8]) -> Result<(), Fail> {
+    let file = file_of(alloc, proof)?;
+    assert_eq!(rt; file.as_slice(), expected);
+    Ok(())
 }
 
 /// What was asked is this, in words, and the proof has this file.
@@ -112,11 +121,8 @@ fn is_upgraded(
     asked: &str,
     file: &[u8],
 ) -> Result<(), Fail> {
-    let had = lines(alloc, &upgraded.asked)?;
-    assert_eq!(rt; had.as_str(), asked);
-    let written = file_of(alloc, &upgraded.proof)?;
-    assert_eq!(rt; written.as_slice(), file);
-    Ok(())
+    have_words(rt, alloc, &upgraded.asked, asked)?;
+    has_file(rt, alloc, &upgraded.proof, file)
 }
 
 /// A reply whose body is the tree of these pieces.
@@ -124,10 +130,69 @@ fn good(alloc: Global, tree: &[&str]) -> Result<Vec<u8>, Fail> {
     reply(alloc, "200 OK", &joined(alloc, tree)?)
 }
 
-/// So many conversations were begun.
-fn has_begun(rt: &impl Abort, dialer: &ScriptDialer, count: usize) {
-    assert!(rt; count == 0 || dialer.sent(count - 1).is_some());
-    assert!(rt; dialer.sent(count).is_none());
+/// The proof of a file, upgraded at these addresses: what was asked in words, and the file that it has
+/// then.
+fn upgrades(
+    rt: &impl Abort,
+    alloc: Global,
+    dialer: &mut ScriptDialer,
+    list: &str,
+    file: &[u8],
+    asked: &str,
+    expected: &[u8],
+) -> Result<(), Fail> {
+    let upgraded = upgraded(alloc, dialer, list, file)?;
+    is_upgraded(rt, alloc, &upgraded, asked, expected)
+}
+
+/// The proof of this tree, upgraded at both addresses: what was asked in words, and the tree that it
+/// has then.
+fn becomes(
+    rt: &impl Abort,
+    alloc: Global,
+    dialer: &mut ScriptDialer,
+    tree: &[&str],
+    asked: &str,
+    expected: &[&str],
+) -> Result<(), Fail> {
+    let file = file_with(alloc, tree)?;
+    let expected = file_with(alloc, expected)?;
+    upgrades(rt, alloc, dialer, BOTH, &file, asked, &expected)
+}
+
+/// The first pair of these has the message of these digits.
+fn has_message(
+    rt: &impl Abort,
+    alloc: Global,
+    asked: &AskedList,
+    digits: &str,
+) -> Result<(), Fail> {
+    if asked.is_empty() {
+        return Err(Fail::from("nothing was asked"));
+    }
+    let message = bytes(alloc, digits)?;
+    assert_eq!(rt; asked.message(0).bytes(), message.as_slice());
+    Ok(())
+}
+
+/// At the first address alone, this file's calendar is skipped; the pair has the message of these
+/// digits.
+fn is_skipped(
+    rt: &impl Abort,
+    alloc: Global,
+    dialer: &mut ScriptDialer,
+    file: &[u8],
+    digits: &str,
+) -> Result<(), Fail> {
+    let upgraded = upgraded(alloc, dialer, "http://127.0.0.1:14788", file)?;
+    is_upgraded(
+        rt,
+        alloc,
+        &upgraded,
+        "https://alice.btc.calendar.opentimestamps.org skipped;",
+        file,
+    )?;
+    has_message(rt, alloc, &upgraded.asked, digits)
 }
 
 #[test]
@@ -144,174 +209,186 @@ fn a_calendar_that_no_address_names_is_skipped(rt: HostRuntime) -> Result<(), Fa
     )?;
     assert_eq!(rt; file.len(), 175);
     let mut dialer = ScriptDialer::new(alloc, &[b"HTTP/1.1 404 Not Found\r\n\r\n"], ROOM, &[])?;
-    let upgraded = upgraded(alloc, &mut dialer, "http://127.0.0.1:14788", &file)?;
-    is_upgraded(
+    is_skipped(
         &rt,
         alloc,
-        &upgraded,
-        "https://alice.btc.calendar.opentimestamps.org skipped;",
+        &mut dialer,
         &file,
-    )?;
-    let asked = &upgraded.asked;
-    if asked.is_empty() {
-        return Err(Fail::from("nothing was asked"));
-    }
-    let message = bytes(
-        alloc,
         "6553f1009c6dad1e5158af236c4278b755f93b5bc4a2afe3f04e75755a806c8a7074f8840102030405060708",
     )?;
-    assert_eq!(rt; asked.message(0).bytes(), message.as_slice());
     has_begun(&rt, &dialer, 0);
     Ok(())
 }
 
-/// One of three files that were stamped together, of which the calendar first says that it is pending
-/// and then answers the path to a block.
-fn is_completed(rt: &impl Abort, alloc: Global, place: usize, length: usize) -> Result<(), Fail>
-    requires { place < 3 }
-{
-    let stamped = stamped(alloc, place)?;
-    assert_eq!(rt; stamped.len(), length);
+/// A dialer for two calendars: the first answers a tree, and the second is busy.
+fn one_is_busy(alloc: Global) -> Result<ScriptDialer, Fail> {
+    let tree = good_reply(alloc, TREE)?;
+    let busy = reply(alloc, "503 Service Unavailable", b"busy\n")?;
+    Ok(ScriptDialer::new(alloc, &[&tree, &busy], ROOM, &[])?)
+}
+
+/// A dialer for one calendar, which first says that a file is pending and then answers the path to a
+/// block.
+fn pending_first(alloc: Global) -> Result<ScriptDialer, Fail> {
     let pending = reply(alloc, "404 Not Found", b"pending\n")?;
-    let answer = &["f1020102f00203040808", BITCOIN, "07"];
-    let complete = good(alloc, answer)?;
-    let mut dialer = ScriptDialer::new(alloc, &[&pending, &complete], ROOM, &[])?;
-    let first = upgraded(alloc, &mut dialer, "http://127.0.0.1:14788", &stamped)?;
-    is_upgraded(
-        rt,
-        alloc,
-        &first,
-        "http://127.0.0.1:14788 status 404;",
-        &stamped,
-    )?;
-    let second = upgraded(alloc, &mut dialer, "http://127.0.0.1:14788", &stamped)?;
-    let Some(front) = stamped.strip_suffix(bytes(alloc, FIRST)?.as_slice()) else {
+    let complete = good(alloc, COMPLETE)?;
+    Ok(ScriptDialer::new(alloc, &[&pending, &complete], ROOM, &[])?)
+}
+
+/// A path to a block.
+const COMPLETE: &[&str] = &["f1020102f00203040808", BITCOIN, "07"];
+
+/// This file, whose tree ends with the first attestation, with a path to a block beside that.
+fn completed(alloc: Global, stamped: &[u8]) -> Result<Vec<u8>, Fail> {
+    let first = bytes(alloc, FIRST)?;
+    let Some(front) = stamped.strip_suffix(first.as_slice()) else {
         return Err(Fail::from("the attestation stands at the end"));
     };
-    let mut expected = Vec::from_slice(alloc, front)?;
-    expected.extend_from_slice(&joined(alloc, &["ff", FIRST])?)?;
-    expected.extend_from_slice(&joined(alloc, answer)?)?;
-    is_upgraded(
+    let mut file = Vec::from_slice(alloc, front)?;
+    file.push(0xff)?;
+    file.extend_from_slice(&first)?;
+    file.extend_from_slice(&joined(alloc, COMPLETE)?)?;
+    Ok(file)
+}
+
+/// The first calendar is asked twice for the rest of this file.
+fn is_completed(rt: &impl Abort, alloc: Global, stamped: &[u8]) -> Result<(), Fail> {
+    let mut dialer = pending_first(alloc)?;
+    let list = "http://127.0.0.1:14788";
+    upgrades(
         rt,
         alloc,
-        &second,
+        &mut dialer,
+        list,
+        stamped,
+        "http://127.0.0.1:14788 status 404;",
+        stamped,
+    )?;
+    let expected = completed(alloc, stamped)?;
+    upgrades(
+        rt,
+        alloc,
+        &mut dialer,
+        list,
+        stamped,
         "http://127.0.0.1:14788 5 tokens;",
         &expected,
     )
 }
 
-/// The file of the proof of one of three files, for which two calendars were asked: the first answered,
-/// alone in its round, and the second was busy.
-fn stamped(alloc: Global, place: usize) -> Result<Vec<u8>, Fail>
-    requires { place < 3 }
+/// One of the files of a batch is stamped, with so many bytes, and then completed.
+fn is_stamped(
+    rt: &impl Abort,
+    alloc: Global,
+    batch: &Batch,
+    place: usize,
+    count: usize,
+) -> Result<(), Fail>
+    requires { place < length batch.now }
 {
-    let batch = batch(alloc, 3)?;
-    let tree = good(alloc, &[TREE])?;
-    let busy = reply(alloc, "503 Service Unavailable", b"busy\n")?;
-    let mut dialer = ScriptDialer::new(alloc, &[&tree, &busy], ROOM, &[])?;
-    let calendars = read_addresses(alloc, BOTH).map_err(|_| Fail::from("addresses"))?;
-    let outcomes = batch.ask(alloc, &mut dialer, &calendars)?;
-    let Some(good) = gather_good(&outcomes)? else {
-        return Err(Fail::from("no tree is good"));
-    };
-    file_of(alloc, &batch.proof(alloc, place, &good)?)
+    let mut dialer = one_is_busy(alloc)?;
+    let stamped = stamped(alloc, batch, place, &mut dialer, BOTH)?;
+    assert_eq!(rt; stamped.len(), count);
+    is_completed(rt, alloc, &stamped)
 }
 
 #[test]
 fn files_that_were_stamped_are_completed(rt: HostRuntime) -> Result<(), Fail> {
     let alloc = rt.alloc();
-    is_completed(&rt, alloc, 0, 222)?;
-    is_completed(&rt, alloc, 1, 222)?;
-    is_completed(&rt, alloc, 2, 187)
+    let batch = batch(alloc, 3)?;
+    is_stamped(&rt, alloc, &batch, 0, 222)?;
+    is_stamped(&rt, alloc, &batch, 1, 222)?;
+    is_stamped(&rt, alloc, &batch, 2, 187)
+}
+
+/// A dialer whose first answer is too deep, and whose second is a path to a block.
+fn deep_first(alloc: Global) -> Result<ScriptDialer, Fail> {
+    let deep = reply(alloc, "200 OK", &[8; 254])?;
+    let tree = good(alloc, &["08", BITCOIN, "03"])?;
+    Ok(ScriptDialer::new(alloc, &[&deep, &tree], ROOM, &[])?)
 }
 
 #[test]
 fn a_pair_at_two_depths_is_asked_once_at_the_deeper(rt: HostRuntime) -> Result<(), Fail> {
     let alloc = rt.alloc();
-    let file = file_with(alloc, &["ff", FIRST, "f2f2", FIRST])?;
-    let deep = reply(alloc, "200 OK", &[8; 254])?;
-    let tree = good(alloc, &["08", BITCOIN, "03"])?;
-    let mut dialer = ScriptDialer::new(alloc, &[&deep, &tree], ROOM, &[])?;
-    let refused = upgraded(alloc, &mut dialer, BOTH, &file)?;
-    is_upgraded(
+    let mut dialer = deep_first(alloc)?;
+    becomes(
         &rt,
         alloc,
-        &refused,
+        &mut dialer,
+        TWO_DEPTHS,
         "http://127.0.0.1:14788 bad reply at 253: too deep;",
-        &file,
+        TWO_DEPTHS,
     )?;
     has_begun(&rt, &dialer, 1);
-    let joined = upgraded(alloc, &mut dialer, BOTH, &file)?;
-    let expected = file_with(
+    becomes(
+        &rt,
         alloc,
+        &mut dialer,
+        TWO_DEPTHS,
+        "http://127.0.0.1:14788 2 tokens;",
         &[
             "ff", FIRST, "ff08", BITCOIN, "03", "f2f2ff", FIRST, "08", BITCOIN, "03",
         ],
-    )?;
-    is_upgraded(
-        &rt,
-        alloc,
-        &joined,
-        "http://127.0.0.1:14788 2 tokens;",
-        &expected,
     )?;
     has_begun(&rt, &dialer, 2);
     Ok(())
 }
 
+/// A tree in which one calendar's attestation stands at two depths.
+const TWO_DEPTHS: &[&str] = &["ff", FIRST, "f2f2", FIRST];
+
 #[test]
 fn what_a_calendar_answers_is_not_asked_for(rt: HostRuntime) -> Result<(), Fail> {
     let alloc = rt.alloc();
-    let file = file_with(alloc, &[FIRST])?;
     let tree = good(alloc, &["08", SECOND])?;
     let mut dialer = ScriptDialer::new(alloc, &[&tree, &tree], ROOM, &[])?;
-    let upgraded = upgraded(alloc, &mut dialer, BOTH, &file)?;
-    let expected = file_with(alloc, &["ff", FIRST, "08", SECOND])?;
-    is_upgraded(
+    becomes(
         &rt,
         alloc,
-        &upgraded,
+        &mut dialer,
+        &[FIRST],
         "http://127.0.0.1:14788 2 tokens;",
-        &expected,
+        &["ff", FIRST, "08", SECOND],
     )?;
     has_begun(&rt, &dialer, 1);
     Ok(())
 }
 
-#[test]
-fn no_address_has_the_empty_uri(rt: HostRuntime) -> Result<(), Fail> {
-    let alloc = rt.alloc();
-    let file = file_with(alloc, &["08", EMPTY])?;
+/// For the proof of this tree nothing is asked, and it stays as it is; this is said of its pairs.
+fn asks_nothing(rt: &impl Abort, alloc: Global, tree: &[&str], asked: &str) -> Result<(), Fail> {
+    let file = file_with(alloc, tree)?;
     let mut dialer = ScriptDialer::new(alloc, &[], ROOM, &[])?;
-    let upgraded = upgraded(alloc, &mut dialer, BOTH, &file)?;
-    is_upgraded(&rt, alloc, &upgraded, " skipped;", &file)?;
-    has_begun(&rt, &dialer, 0);
+    upgrades(rt, alloc, &mut dialer, BOTH, &file, asked, &file)?;
+    has_begun(rt, &dialer, 0);
     Ok(())
 }
 
 #[test]
+fn no_address_has_the_empty_uri(rt: HostRuntime) -> Result<(), Fail> {
+    asks_nothing(&rt, rt.alloc(), &["08", EMPTY], " skipped;")
+}
+
+#[test]
 fn a_proof_without_pending_paths_asks_for_nothing(rt: HostRuntime) -> Result<(), Fail> {
-    let alloc = rt.alloc();
-    let file = file_with(alloc, &["08", BITCOIN, "03"])?;
-    let mut dialer = ScriptDialer::new(alloc, &[], ROOM, &[])?;
-    let upgraded = upgraded(alloc, &mut dialer, BOTH, &file)?;
-    is_upgraded(&rt, alloc, &upgraded, "", &file)?;
-    has_begun(&rt, &dialer, 0);
-    Ok(())
+    asks_nothing(&rt, rt.alloc(), &["08", BITCOIN, "03"], "")
 }
 
 /// The tree of a proof that asks for four pairs, of which the second is skipped.
 const ASKING: &[&str] = &["ff", FIRST, "ff", ALICE, "ff08", SECOND, "f2", FIRST];
 
-/// What calendars answer for the other three.
-const ANSWERS: [&[&str]; 3] = [
-    &["08", BITCOIN, "03"],
-    &["ff", BITCOIN, "05", "f2", BITCOIN, "04"],
-    &["f00101", FIRST],
-];
+/// What the second of three calendars answers.
+const SECOND_ANSWER: &[&str] = &["ff", BITCOIN, "05", "f2", BITCOIN, "04"];
+
+/// The request for the message of these digits, at this port.
+fn request(alloc: Global, port: u16, digits: &str) -> Result<String, Fail> {
+    Ok(format!(in alloc;
+        "GET /timestamp/{digits} HTTP/1.1\r\nHost: 127.0.0.1:{port}\r\nAccept: application/vnd.opentimestamps.v1\r\nConnection: close\r\n\r\n"
+    )?)
+}
 
 /// What was sent in this conversation is the request for the message of these digits.
-fn is_sent(
+fn is_requested(
     rt: &impl Abort,
     alloc: Global,
     dialer: &ScriptDialer,
@@ -319,15 +396,13 @@ fn is_sent(
     port: u16,
     digits: &str,
 ) -> Result<(), Fail> {
-    let Some(sent) = dialer.sent(place) else {
-        return Err(Fail::from("nothing was sent"));
+    let request = request(alloc, port, digits)?;
+    let sent = SentTo {
+        host: "127.0.0.1",
+        port,
+        bytes: request.as_bytes(),
     };
-    let expected = format!(in alloc;
-        "GET /timestamp/{digits} HTTP/1.1\r\nHost: 127.0.0.1:{port}\r\nAccept: application/vnd.opentimestamps.v1\r\nConnection: close\r\n\r\n"
-    )?;
-    assert_eq!(rt; sent.host, "127.0.0.1");
-    assert_eq!(rt; sent.port, port);
-    assert_eq!(rt; sent.bytes, expected.as_bytes());
+    is_sent(rt, dialer, place, sent);
     Ok(())
 }
 
@@ -342,46 +417,48 @@ fn in_words(alloc: Global, outcomes: [&str; 3]) -> Result<String, Fail> {
 /// Calendars that answer the three conversations, the second one with this; the call of this number
 /// fails, none for 0.
 fn calendars(alloc: Global, second: &[u8], failing: u64) -> Result<ScriptDialer, Fail> {
-    let first = good(alloc, ANSWERS[0])?;
-    let third = good(alloc, ANSWERS[2])?;
+    let first = good(alloc, &["08", BITCOIN, "03"])?;
+    let third = good(alloc, &["f00101", FIRST])?;
     Ok(ScriptDialer::new(alloc, &[&first, second, &third], ROOM, &[failing])?)
 }
 
 /// At these calendars the three conversations have these outcomes, and the proof's tree becomes this.
-fn becomes(
+fn have_outcomes(
     rt: &impl Abort,
     alloc: Global,
     dialer: &mut ScriptDialer,
     outcomes: [&str; 3],
     tree: &[&str],
 ) -> Result<(), Fail> {
-    let file = file_with(alloc, ASKING)?;
-    let upgraded = upgraded(alloc, dialer, BOTH, &file)?;
     let asked = in_words(alloc, outcomes)?;
-    let expected = file_with(alloc, tree)?;
-    is_upgraded(rt, alloc, &upgraded, &asked, &expected)
+    becomes(rt, alloc, dialer, ASKING, &asked, tree)
 }
 
 #[test]
 fn pairs_are_asked_for_in_order(rt: HostRuntime) -> Result<(), Fail> {
     let alloc = rt.alloc();
-    let second = good(alloc, ANSWERS[1])?;
+    let second = good(alloc, SECOND_ANSWER)?;
     let mut dialer = calendars(alloc, &second, 0)?;
-    becomes(
+    have_outcomes(
         &rt,
         alloc,
         &mut dialer,
         ["2 tokens", "4 tokens", "2 tokens"],
         ALL,
     )?;
+    are_requested(&rt, alloc, &dialer)?;
+    has_begun(&rt, &dialer, 3);
+    Ok(())
+}
+
+/// The three conversations are for the digest, its hash, and its bytes in reverse.
+fn are_requested(rt: &impl Abort, alloc: Global, dialer: &ScriptDialer) -> Result<(), Fail> {
     let digest = "03ba204e50d126e4674c005e04d82e84c21366780af1f43bd54a37816b6ab340";
     let hashed = "1e435c479714a18ef8ed591e9e7f2452309bfbda3f342bd88382877667f563f5";
     let reversed = "40b36a6b81374ad53bf4f10a786613c2842ed8045e004c67e426d1504e20ba03";
-    is_sent(&rt, alloc, &dialer, 0, 14788, digest)?;
-    is_sent(&rt, alloc, &dialer, 1, 14789, hashed)?;
-    is_sent(&rt, alloc, &dialer, 2, 14788, reversed)?;
-    has_begun(&rt, &dialer, 3);
-    Ok(())
+    is_requested(rt, alloc, dialer, 0, 14788, digest)?;
+    is_requested(rt, alloc, dialer, 1, 14789, hashed)?;
+    is_requested(rt, alloc, dialer, 2, 14788, reversed)
 }
 
 /// The tree with all answers.
@@ -415,34 +492,49 @@ fn fails(
     outcomes: [&str; 3],
     tree: &[&str],
 ) -> Result<(), Fail> {
-    let second = good(alloc, ANSWERS[1])?;
+    let second = good(alloc, SECOND_ANSWER)?;
     let mut dialer = calendars(alloc, &second, call)?;
-    becomes(rt, alloc, &mut dialer, outcomes, tree)
+    have_outcomes(rt, alloc, &mut dialer, outcomes, tree)
+}
+
+/// Where this call fails, the first calendar is unreachable.
+fn first_fails(rt: &impl Abort, alloc: Global, call: u64) -> Result<(), Fail> {
+    let outcomes = ["unreachable", "4 tokens", "2 tokens"];
+    fails(rt, alloc, call, outcomes, NOT_FIRST)
+}
+
+/// Where this call fails, the second calendar is unreachable.
+fn second_fails(rt: &impl Abort, alloc: Global, call: u64) -> Result<(), Fail> {
+    let outcomes = ["2 tokens", "unreachable", "2 tokens"];
+    fails(rt, alloc, call, outcomes, NOT_SECOND)
+}
+
+/// Where this call fails, the third calendar is unreachable.
+fn third_fails(rt: &impl Abort, alloc: Global, call: u64) -> Result<(), Fail> {
+    let outcomes = ["2 tokens", "4 tokens", "unreachable"];
+    fails(rt, alloc, call, outcomes, NOT_THIRD)
 }
 
 #[test]
 fn each_call_that_fails(rt: HostRuntime) -> Result<(), Fail> {
     let alloc = rt.alloc();
     // Each conversation connects, writes once and reads once.
-    let first = ["unreachable", "4 tokens", "2 tokens"];
-    fails(&rt, alloc, 1, first, NOT_FIRST)?;
-    fails(&rt, alloc, 2, first, NOT_FIRST)?;
-    fails(&rt, alloc, 3, first, NOT_FIRST)?;
-    let second = ["2 tokens", "unreachable", "2 tokens"];
-    fails(&rt, alloc, 4, second, NOT_SECOND)?;
-    fails(&rt, alloc, 5, second, NOT_SECOND)?;
-    fails(&rt, alloc, 6, second, NOT_SECOND)?;
-    let third = ["2 tokens", "4 tokens", "unreachable"];
-    fails(&rt, alloc, 7, third, NOT_THIRD)?;
-    fails(&rt, alloc, 8, third, NOT_THIRD)?;
-    fails(&rt, alloc, 9, third, NOT_THIRD)?;
+    first_fails(&rt, alloc, 1)?;
+    first_fails(&rt, alloc, 2)?;
+    first_fails(&rt, alloc, 3)?;
+    second_fails(&rt, alloc, 4)?;
+    second_fails(&rt, alloc, 5)?;
+    second_fails(&rt, alloc, 6)?;
+    third_fails(&rt, alloc, 7)?;
+    third_fails(&rt, alloc, 8)?;
+    third_fails(&rt, alloc, 9)?;
     fails(&rt, alloc, 10, ["2 tokens", "4 tokens", "2 tokens"], ALL)
 }
 
 /// What the second answers is refused: nothing of it is joined.
 fn is_refused(rt: &impl Abort, alloc: Global, answer: &[u8], outcome: &str) -> Result<(), Fail> {
     let mut dialer = calendars(alloc, answer, 0)?;
-    becomes(
+    have_outcomes(
         rt,
         alloc,
         &mut dialer,
@@ -451,16 +543,30 @@ fn is_refused(rt: &impl Abort, alloc: Global, answer: &[u8], outcome: &str) -> R
     )
 }
 
+/// A reply with this status line and body is refused.
+fn is_reply_refused(
+    rt: &impl Abort,
+    alloc: Global,
+    status: &str,
+    body: &[u8],
+    outcome: &str,
+) -> Result<(), Fail> {
+    let answer = reply(alloc, status, body)?;
+    is_refused(rt, alloc, &answer, outcome)
+}
+
 #[test]
 fn nothing_of_a_refused_answer_is_joined(rt: HostRuntime) -> Result<(), Fail> {
     let alloc = rt.alloc();
-    let longer = good(alloc, &["ff", BITCOIN, "05", "f2", BITCOIN, "04", "00"])?;
-    is_refused(&rt, alloc, &longer, "bad reply at 24: trailing bytes")?;
     // Behind one operation 255 are one too many.
-    let deep = reply(alloc, "200 OK", &[8; 255])?;
-    is_refused(&rt, alloc, &deep, "bad reply at 254: too deep")?;
-    let moved = reply(alloc, "302 Found", b"")?;
-    is_refused(&rt, alloc, &moved, "status 302")?;
+    is_reply_refused(
+        &rt,
+        alloc,
+        "200 OK",
+        &[8; 255],
+        "bad reply at 254: too deep",
+    )?;
+    is_reply_refused(&rt, alloc, "302 Found", b"", "status 302")?;
     is_refused(
         &rt,
         alloc,
@@ -468,4 +574,11 @@ fn nothing_of_a_refused_answer_is_joined(rt: HostRuntime) -> Result<(), Fail> {
         "too long",
     )?;
     is_refused(&rt, alloc, b"220 mail.example ESMTP\r\n", "not http")
+}
+
+#[test]
+fn nothing_of_an_answer_with_a_byte_more_is_joined(rt: HostRuntime) -> Result<(), Fail> {
+    let alloc = rt.alloc();
+    let longer = good(alloc, &["ff", BITCOIN, "05", "f2", BITCOIN, "04", "00"])?;
+    is_refused(&rt, alloc, &longer, "bad reply at 24: trailing bytes")
 }
