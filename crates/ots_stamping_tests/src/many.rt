@@ -114,12 +114,11 @@ fn list(alloc: Global) -> Result<String, Fail> {
 
 /// The words of the call.
 fn words(alloc: Global) -> Result<Vec<String>, Fail> {
+    let list = list(alloc)?;
     let mut words = Vec::new(alloc);
-    words.push("stamp".to_string(alloc)?)?;
-    words.push("--calendars".to_string(alloc)?)?;
-    words.push(list(alloc)?)?;
-    words.push("--min".to_string(alloc)?)?;
-    words.push("16".to_string(alloc)?)?;
+    for word in ["stamp", "--calendars", list.as_str(), "--min", "16"] {
+        words.push(word.to_string(alloc)?)?;
+    }
     for number in 0..FILES {
         words.push(name(alloc, number)?)?;
     }
@@ -178,21 +177,24 @@ struct Ended {
     out: BytesSink,
 }
 
+/// The run that stamps the files of this shelf at these calendars.
+fn run(
+    alloc: Global,
+    shelf: &mut MapShelf,
+    out: &mut BytesSink,
+    dialer: &mut ScriptDialer,
+) -> Result<Status, Fail> {
+    let mut nonces = all_nonces(alloc)?;
+    let words = words(alloc)?;
+    Ok(run_client(alloc, &words, shelf, out, dialer, &mut nonces))
+}
+
 /// All files are stamped at all calendars.
 fn stamped(alloc: Global) -> Result<Ended, Fail> {
     let mut shelf = all_files(alloc)?;
     let mut dialer = all_calendars(alloc)?;
-    let mut nonces = all_nonces(alloc)?;
     let mut out = BytesSink::new(alloc, 20_000, &[])?;
-    let words = words(alloc)?;
-    let status = run_client(
-        alloc,
-        &words,
-        &mut shelf,
-        &mut out,
-        &mut dialer,
-        &mut nonces,
-    );
+    let status = run(alloc, &mut shelf, &mut out, &mut dialer)?;
     Ok(Ended {
         status,
         shelf,
@@ -226,19 +228,35 @@ fn expect_root(
     Ok(())
 }
 
+/// All lines were printed.
+fn expect_lines(rt: &(impl Abort + AllocGlobal), out: &BytesSink) -> Result<(), Fail> {
+    let lines = lines(rt.alloc())?;
+    assert_eq!(rt; out.bytes(), lines.as_bytes());
+    Ok(())
+}
+
+/// The shelf has a proof for each file, of which these are the first and the last.
+fn expect_proofs(rt: &(impl Abort + AllocGlobal), shelf: &MapShelf) -> Result<(), Fail> {
+    assert_eq!(rt; count_proofs(rt.alloc(), shelf)?, FILES);
+    let first = b"\0\0\0\0\0\0\0\0\0\0\0\0\0\0\0\0";
+    expect_proof(rt, shelf, "f0.ots", first, FROM_FIRST)?;
+    let last = b"\x03\xff\0\0\0\0\0\0\0\0\0\0\0\0\0\0";
+    expect_proof(rt, shelf, "f1023.ots", last, FROM_LAST)
+}
+
+/// The first and the last of sixteen calendars were sent the root, and there was no seventeenth.
+fn expect_roots(rt: &(impl Abort + AllocGlobal), dialer: &ScriptDialer) -> Result<(), Fail> {
+    expect_root(rt, dialer, 0)?;
+    expect_root(rt, dialer, 15)?;
+    assert_eq!(rt; dialer.sent(16), None);
+    Ok(())
+}
+
 #[test]
 fn a_thousand_files_are_stamped_at_sixteen_calendars(rt: HostRuntime) -> Result<(), Fail> {
-    let alloc = rt.alloc();
-    let ended = stamped(alloc)?;
+    let ended = stamped(rt.alloc())?;
     assert_eq!(rt; ended.status.number(), 0);
-    assert_eq!(rt; ended.out.bytes(), lines(alloc)?.as_bytes());
-    assert_eq!(rt; count_proofs(alloc, &ended.shelf)?, FILES);
-    let first = b"\0\0\0\0\0\0\0\0\0\0\0\0\0\0\0\0";
-    expect_proof(&rt, &ended.shelf, "f0.ots", first, FROM_FIRST)?;
-    let last = b"\x03\xff\0\0\0\0\0\0\0\0\0\0\0\0\0\0";
-    expect_proof(&rt, &ended.shelf, "f1023.ots", last, FROM_LAST)?;
-    expect_root(&rt, &ended.dialer, 0)?;
-    expect_root(&rt, &ended.dialer, 15)?;
-    assert_eq!(rt; ended.dialer.sent(16), None);
-    Ok(())
+    expect_lines(&rt, &ended.out)?;
+    expect_proofs(&rt, &ended.shelf)?;
+    expect_roots(&rt, &ended.dialer)
 }

@@ -1,7 +1,7 @@
 // Files that calendars are asked to timestamp. The first and the third hold `Hello World!` and LF, the second `abc`.
 // Leaves and roots were computed with Python's hashlib.
 use ots_cli_runs::{Ended, Failing, HEAD, HEAD_OF_ABC, file_of, run_asking, run_stamping};
-use ots_io::{ListNonces, ScriptDialer};
+use ots_io::{ListNonces, ScriptDialer, SentTo};
 use std::alloc::Global;
 use std::process::Abort;
 use std::test::Fail;
@@ -94,6 +94,19 @@ fn words_of_three(least: &str) -> [&str; 8] {
     ]
 }
 
+/// Three files are stamped at two calendars that give these replies, of which so many have to answer.
+fn three_stamped(
+    alloc: Global,
+    least: &str,
+    replies: &[&[u8]],
+    failing: Failing<'_>,
+    nonces: &mut ListNonces,
+) -> Result<(Ended, ScriptDialer), Fail> {
+    let files = [FIRST, SECOND, THIRD];
+    let words = words_of_three(least);
+    run_stamping(alloc, &words, &files, replies, failing, nonces)
+}
+
 /// Three files are stamped at two calendars, of which the second is busy and so many have to answer.
 fn all_stamped(
     alloc: Global,
@@ -101,15 +114,7 @@ fn all_stamped(
     failing: Failing<'_>,
 ) -> Result<(Ended, ScriptDialer), Fail> {
     let mut nonces = ListNonces::new(alloc, NONCES, &[])?;
-    let files = [FIRST, SECOND, THIRD];
-    run_stamping(
-        alloc,
-        &words_of_three(least),
-        &files,
-        &[ROUND_REPLY, BUSY],
-        failing,
-        &mut nonces,
-    )
+    three_stamped(alloc, least, &[ROUND_REPLY, BUSY], failing, &mut nonces)
 }
 
 /// The run ended with this number and this text.
@@ -130,16 +135,49 @@ fn expect_file(
     Ok(())
 }
 
+/// There is a file under this name.
+fn expect_some_file(rt: &impl Abort, ended: &Ended, name: &str) {
+    assert!(rt; ended.shelf.bytes_of(name).is_some());
+}
+
+/// There is no file under this name.
+fn expect_no_file(rt: &impl Abort, ended: &Ended, name: &str) {
+    assert_eq!(rt; ended.shelf.bytes_of(name), None);
+}
+
+/// The first calendar was sent the request for this root.
+fn expect_request(
+    rt: &(impl Abort + AllocGlobal),
+    dialer: &ScriptDialer,
+    root: &[u8],
+) -> Result<(), Fail> {
+    let request = file_of(rt.alloc(), &[REQUEST_HEAD, root])?;
+    let sent = SentTo {
+        host: "127.0.0.1",
+        port: 14788,
+        bytes: &request,
+    };
+    assert_eq!(rt; dialer.sent(0), Some(sent));
+    Ok(())
+}
+
+/// No calendar was asked.
+fn expect_nobody_asked(rt: &impl Abort, dialer: &ScriptDialer) {
+    assert_eq!(rt; dialer.sent(0), None);
+}
+
+/// The first file, stamped alone, has its proof.
+fn expect_only_proof(rt: &(impl Abort + AllocGlobal), ended: &Ended) -> Result<(), Fail> {
+    let nonce = b"\xf0\x10AAAAAAAAAAAAAAAA\x08";
+    expect_file(rt, ended, "a.ots", &[HEAD, nonce, TREE])
+}
+
 #[test]
 fn one_file_is_stamped(rt: HostRuntime) -> Result<(), Fail> {
     let (ended, dialer) = stamped(rt.alloc(), REPLY, NONE)?;
     expect(&rt, &ended, 0, "http://127.0.0.1:14788 ok\nwrote a.ots\n");
-    let nonce = b"\xf0\x10AAAAAAAAAAAAAAAA\x08";
-    expect_file(&rt, &ended, "a.ots", &[HEAD, nonce, TREE])?;
-    let sent = dialer.sent(0).ok_or("nothing was sent")?;
-    let request = file_of(rt.alloc(), &[REQUEST_HEAD, FIRST_LEAF])?;
-    assert_eq!(rt; sent.port, 14788);
-    assert_eq!(rt; sent.bytes, request.as_slice());
+    expect_only_proof(&rt, &ended)?;
+    expect_request(&rt, &dialer, FIRST_LEAF)?;
     assert_eq!(rt; dialer.sent(1), None);
     Ok(())
 }
@@ -157,70 +195,118 @@ const WAITING: &[u8] = b"HTTP/1.1 404 Not Found\r\nContent-Length: 8\r\n\r\npend
 const COMMITMENT: &[u8] =
     b"GET /timestamp/6553f1004e0422759408144a6fe3c066a6736ed87418c2d411ebd70c3176e8fd09c429074d4d4d4d4d4d4d4d HTTP/1.1\r\n";
 
+/// The calendar was asked for that.
+fn expect_commitment(rt: &impl Abort, dialer: &ScriptDialer) -> Result<(), Fail> {
+    let sent = dialer.sent(0).ok_or("nothing was sent")?;
+    assert!(rt; sent.bytes.starts_with(COMMITMENT));
+    Ok(())
+}
+
+/// This proof, whose calendar's round is not anchored yet, is asked for.
+fn asked_for(alloc: Global, proof: &[u8]) -> Result<(Ended, ScriptDialer), Fail> {
+    let words = ["upgrade", "--calendars", CALENDAR, "p", "o"];
+    run_asking(alloc, &words, &[("p", proof)], &[WAITING], NONE)
+}
+
 #[test]
 fn a_stamped_proof_is_pending_until_its_round_is_anchored(rt: HostRuntime) -> Result<(), Fail> {
-    let alloc = rt.alloc();
-    let proof = third_proof(alloc)?;
-    let words = ["upgrade", "--calendars", CALENDAR, "p", "o"];
-    let (ended, dialer) = run_asking(alloc, &words, &[("p", &proof)], &[WAITING], NONE)?;
+    let proof = third_proof(rt.alloc())?;
+    let (ended, dialer) = asked_for(rt.alloc(), &proof)?;
     expect(
         &rt,
         &ended,
         1,
         "http://127.0.0.1:14788 status 404\npending\n",
     );
-    assert_eq!(rt; ended.shelf.bytes_of("o"), Some(proof.as_slice()));
-    let sent = dialer.sent(0).ok_or("nothing was sent")?;
-    assert!(rt; sent.bytes.starts_with(COMMITMENT));
-    Ok(())
+    expect_file(&rt, &ended, "o", &[&proof])?;
+    expect_commitment(&rt, &dialer)
 }
 
 /// The lines of both calendars.
 const BOTH: &str = "http://127.0.0.1:14788 ok\nhttp://127.0.0.1:14789 status 503\n";
 
+/// The run ended with this number, the lines of both calendars, and this text behind them.
+fn expect_both(
+    rt: &(impl Abort + AllocGlobal),
+    ended: &Ended,
+    number: u8,
+    text: &str,
+) -> Result<(), Fail> {
+    let text = format!(in rt.alloc(); "{BOTH}{text}")?;
+    expect(rt, ended, number, &text);
+    Ok(())
+}
+
+/// The first of three files has its proof.
+fn expect_first(rt: &(impl Abort + AllocGlobal), ended: &Ended) -> Result<(), Fail> {
+    let nonce = b"\xf0\x10AAAAAAAAAAAAAAAA\x08\xf0\x20";
+    let parts: &[&[u8]] = &[
+        HEAD,
+        nonce,
+        SECOND_LEAF,
+        b"\x08\xf0\x20",
+        THIRD_LEAF,
+        b"\x08",
+        ROUND,
+    ];
+    expect_file(rt, ended, "a.ots", parts)
+}
+
+/// The second has its proof.
+fn expect_second(rt: &(impl Abort + AllocGlobal), ended: &Ended) -> Result<(), Fail> {
+    let nonce = b"\xf0\x10BBBBBBBBBBBBBBBB\x08\xf1\x20";
+    let parts: &[&[u8]] = &[
+        HEAD_OF_ABC,
+        nonce,
+        FIRST_LEAF,
+        b"\x08\xf0\x20",
+        THIRD_LEAF,
+        b"\x08",
+        ROUND,
+    ];
+    expect_file(rt, ended, "b.ots", parts)
+}
+
+/// The third has its proof.
+fn expect_third(rt: &(impl Abort + AllocGlobal), ended: &Ended) -> Result<(), Fail> {
+    let proof = third_proof(rt.alloc())?;
+    expect_file(rt, ended, "c.ots", &[&proof])
+}
+
 #[test]
 fn three_files_are_stamped_under_one_root(rt: HostRuntime) -> Result<(), Fail> {
-    let alloc = rt.alloc();
-    let (ended, dialer) = all_stamped(alloc, "1", NONE)?;
-    let text = format!(in alloc; "{BOTH}wrote a.ots\nwrote b.ots\nwrote c.ots\n")?;
-    expect(&rt, &ended, 0, &text);
-    let first = file_of(
-        alloc,
-        &[b"\xf0\x10AAAAAAAAAAAAAAAA\x08\xf0\x20", SECOND_LEAF],
-    )?;
-    let last = file_of(alloc, &[b"\x08\xf0\x20", THIRD_LEAF, b"\x08"])?;
-    expect_file(&rt, &ended, "a.ots", &[HEAD, &first, &last, ROUND])?;
-    let second = file_of(
-        alloc,
-        &[b"\xf0\x10BBBBBBBBBBBBBBBB\x08\xf1\x20", FIRST_LEAF],
-    )?;
-    expect_file(&rt, &ended, "b.ots", &[HEAD_OF_ABC, &second, &last, ROUND])?;
-    let third = third_proof(alloc)?;
-    expect_file(&rt, &ended, "c.ots", &[&third])?;
-    let sent = dialer.sent(0).ok_or("nothing was sent")?;
-    let request = file_of(alloc, &[REQUEST_HEAD, ROOT])?;
-    assert_eq!(rt; sent.bytes, request.as_slice());
-    Ok(())
+    let (ended, dialer) = all_stamped(rt.alloc(), "1", NONE)?;
+    expect_both(&rt, &ended, 0, "wrote a.ots\nwrote b.ots\nwrote c.ots\n")?;
+    expect_first(&rt, &ended)?;
+    expect_second(&rt, &ended)?;
+    expect_third(&rt, &ended)?;
+    expect_request(&rt, &dialer, ROOT)
 }
 
 #[test]
 fn too_few_calendars_leave_no_proof(rt: HostRuntime) -> Result<(), Fail> {
     let (ended, _dialer) = all_stamped(rt.alloc(), "2", NONE)?;
-    let text = format!(in rt.alloc(); "{BOTH}too few 1 of 2\n")?;
-    expect(&rt, &ended, 10, &text);
-    assert_eq!(rt; ended.shelf.bytes_of("a.ots"), None);
+    expect_both(&rt, &ended, 10, "too few 1 of 2\n")?;
+    expect_no_file(&rt, &ended, "a.ots");
     Ok(())
+}
+
+/// A reply whose tree has 254 operations, one too many behind the two before it.
+fn deep_reply(alloc: Global) -> Result<Vec<u8>, Fail> {
+    Ok(file_of(
+        alloc,
+        &[
+            b"HTTP/1.1 200 OK\r\n\r\n",
+            &[8; 254],
+            b"\0\x05\x88\x96\x0d\x73\xd7\x19\x01\x01\x07",
+        ],
+    )?)
 }
 
 #[test]
 fn a_deep_tree_is_refused(rt: HostRuntime) -> Result<(), Fail> {
-    let alloc = rt.alloc();
-    let mut reply = file_of(alloc, &[b"HTTP/1.1 200 OK\r\n\r\n"])?;
-    for _ in 0..254 {
-        reply.push(8)?;
-    }
-    reply.extend_from_slice(b"\0\x05\x88\x96\x0d\x73\xd7\x19\x01\x01\x07")?;
-    let (ended, _dialer) = stamped(alloc, &reply, NONE)?;
+    let reply = deep_reply(rt.alloc())?;
+    let (ended, _dialer) = stamped(rt.alloc(), &reply, NONE)?;
     let text = "http://127.0.0.1:14788 bad reply at 253: too deep\ntoo few 0 of 1\n";
     expect(&rt, &ended, 10, text);
     Ok(())
@@ -228,14 +314,11 @@ fn a_deep_tree_is_refused(rt: HostRuntime) -> Result<(), Fail> {
 
 /// Where this draw of three fails, nobody is asked and nothing is made.
 fn expect_nonce_fault(rt: &(impl Abort + AllocGlobal), draw: u64) -> Result<(), Fail> {
-    let alloc = rt.alloc();
-    let mut nonces = ListNonces::new(alloc, NONCES, &[draw])?;
-    let files = [FIRST, SECOND, THIRD];
-    let words = words_of_three("1");
-    let (ended, dialer) = run_stamping(alloc, &words, &files, &[REPLY], NONE, &mut nonces)?;
+    let mut nonces = ListNonces::new(rt.alloc(), NONCES, &[draw])?;
+    let (ended, dialer) = three_stamped(rt.alloc(), "1", &[REPLY], NONE, &mut nonces)?;
     expect(rt, &ended, 11, "nonce fault\n");
-    assert_eq!(rt; dialer.sent(0), None);
-    assert_eq!(rt; ended.shelf.bytes_of("a.ots"), None);
+    expect_nobody_asked(rt, &dialer);
+    expect_no_file(rt, &ended, "a.ots");
     Ok(())
 }
 
@@ -318,7 +401,7 @@ fn with_failed_write(alloc: Global, write: u64) -> Result<Ended, Fail> {
 fn a_failed_write_of_the_lines_leaves_no_proof(rt: HostRuntime) -> Result<(), Fail> {
     let ended = with_failed_write(rt.alloc(), 1)?;
     expect(&rt, &ended, 7, "");
-    assert_eq!(rt; ended.shelf.bytes_of("a.ots"), None);
+    expect_no_file(&rt, &ended, "a.ots");
     Ok(())
 }
 
@@ -326,8 +409,7 @@ fn a_failed_write_of_the_lines_leaves_no_proof(rt: HostRuntime) -> Result<(), Fa
 fn a_failed_write_behind_a_proof_leaves_it_whole(rt: HostRuntime) -> Result<(), Fail> {
     let ended = with_failed_write(rt.alloc(), 2)?;
     expect(&rt, &ended, 7, "http://127.0.0.1:14788 ok\n");
-    let nonce = b"\xf0\x10AAAAAAAAAAAAAAAA\x08";
-    expect_file(&rt, &ended, "a.ots", &[HEAD, nonce, TREE])
+    expect_only_proof(&rt, &ended)
 }
 
 #[test]
@@ -338,11 +420,10 @@ fn a_failed_write_between_proofs_leaves_those_before(rt: HostRuntime) -> Result<
         writes: &[3],
     };
     let (ended, _dialer) = all_stamped(rt.alloc(), "1", failing)?;
-    let text = format!(in rt.alloc(); "{BOTH}wrote a.ots\n")?;
-    expect(&rt, &ended, 7, &text);
-    assert!(&rt; ended.shelf.bytes_of("a.ots").is_some());
-    assert!(&rt; ended.shelf.bytes_of("b.ots").is_some());
-    assert_eq!(&rt; ended.shelf.bytes_of("c.ots"), None);
+    expect_both(&rt, &ended, 7, "wrote a.ots\n")?;
+    expect_some_file(&rt, &ended, "a.ots");
+    expect_some_file(&rt, &ended, "b.ots");
+    expect_no_file(&rt, &ended, "c.ots");
     Ok(())
 }
 
@@ -351,21 +432,31 @@ fn expect_bad(rt: &(impl Abort + AllocGlobal), reply: &[u8], line: &str) -> Resu
     let (ended, _dialer) = stamped(rt.alloc(), reply, NONE)?;
     let text = format!(in rt.alloc(); "http://127.0.0.1:14788 {line}\ntoo few 0 of 1\n")?;
     expect(rt, &ended, 10, &text);
-    assert_eq!(rt; ended.shelf.bytes_of("a.ots"), None);
+    expect_no_file(rt, &ended, "a.ots");
     Ok(())
 }
 
 #[test]
 fn replies_that_are_no_tree_are_told(rt: HostRuntime) -> Result<(), Fail> {
-    let behind = file_of(rt.alloc(), &[b"HTTP/1.1 200 OK\r\n\r\n", TREE, b"\0"])?;
-    expect_bad(&rt, &behind, "bad reply at 12: trailing bytes")?;
-    let mut long = file_of(rt.alloc(), &[b"HTTP/1.1 200 OK\r\n\r\n"])?;
-    for _ in 0..10_001 {
-        long.push(0)?;
-    }
-    expect_bad(&rt, &long, "too long")?;
+    let behind = b"HTTP/1.1 200 OK\r\n\r\n\x08\0\x05\x88\x96\x0d\x73\xd7\x19\x01\x01\x07\0";
+    expect_bad(&rt, behind, "bad reply at 12: trailing bytes")?;
     expect_bad(&rt, b"garbage\r\n\r\n", "not http")?;
     expect_bad(&rt, BUSY, "status 503")
+}
+
+/// A reply with a body of one byte more than a calendar may send.
+fn long_reply(alloc: Global) -> Result<Vec<u8>, Fail> {
+    let mut reply = file_of(alloc, &[b"HTTP/1.1 200 OK\r\n\r\n"])?;
+    for _ in 0..10_001 {
+        reply.push(0)?;
+    }
+    Ok(reply)
+}
+
+#[test]
+fn a_reply_that_is_too_long_is_told(rt: HostRuntime) -> Result<(), Fail> {
+    let reply = long_reply(rt.alloc())?;
+    expect_bad(&rt, &reply, "too long")
 }
 
 /// This list of calendars is refused before anything is read or asked.
@@ -374,7 +465,7 @@ fn expect_bad_list(rt: &(impl Abort + AllocGlobal), list: &str, text: &str) -> R
     let words = ["stamp", "--calendars", list, "--min", "1", "absent"];
     let (ended, dialer) = run_stamping(rt.alloc(), &words, &[], &[REPLY], NONE, &mut nonces)?;
     expect(rt, &ended, 14, text);
-    assert_eq!(rt; dialer.sent(0), None);
+    expect_nobody_asked(rt, &dialer);
     Ok(())
 }
 
