@@ -3,18 +3,18 @@ ghost use Rattle.std.specs.Prelude.{◌≡◌, ◌<◌, false};
 ghost use Rattle.std.specs.Thread.{IsSync};
 ghost use Rattle.ots_shared.specs.Told.{IsPassOf};
 
-use crate::serving::{Ask, Told, serve_one};
+use crate::serving::{Ask, Ended, Told, close, serve_one, share};
 use ots_calendar::{Book, Leaf};
 use ots_disk::Disk;
 use ots_service::{Served, Service};
-use ots_shared::{Pass, RefusedShared, Shared};
+use ots_shared::{Pass, Shared};
 use std::alloc::{AllocError, Global};
 use std::sync::Wait;
 use std::thread::{Threads, join};
 
 /// What is left when several callers are done: how many of them were stamped, and how many
 /// commitments are stored and how many tickets wait.
-#[derive(Clone, Copy, Debug, PartialEq, Eq)]
+#[derive(Drop)]
 pub struct Ends {
     pub stamped: u64,
     pub commits: u64,
@@ -36,7 +36,7 @@ fn put<D: Disk, R: Wait>(rt: &R, shared: &Shared<D>, mut pass: Pass, leaf: Leaf,
 }
 
 /// Serves a connection over a book in which another caller has put a digest so many times, each with
-/// the nonce of 16 bytes 8: how it ended, and the book.
+/// the nonce of 16 bytes 8.
 pub fn serve_beside<D: Disk + Drop, R: Wait>(
     rt: &R,
     alloc: Global,
@@ -45,18 +45,18 @@ pub fn serve_beside<D: Disk + Drop, R: Wait>(
     leaf: Leaf,
     times: u32,
     ask: &Ask,
-) -> Result<(Told, Book<D>), AllocError> {
-    match Shared::open(alloc, book, 2) {
-        Err(RefusedShared { book: _ }) => Err(AllocError),
-        Ok((shared, pass)) => {
-            let (mut one, other) = shared.split(pass);
-            let other = put(rt, &shared, other, leaf, times);
-            let told = serve_one(rt, alloc, &shared, &mut one, service, ask);
-            let pass = shared.join(one, other);
-            let book = shared.close(pass);
-            Ok((told?, book))
-        }
-    }
+) -> Result<Ended, AllocError> {
+    let (shared, pass) = share(alloc, book, 2)?;
+    let (mut one, other) = shared.split(pass);
+    let other = put(rt, &shared, other, leaf, times);
+    let told = serve_one(rt, alloc, &shared, &mut one, service, ask);
+    let pass = shared.join(one, other);
+    let (commits, waiting) = close(shared, pass);
+    Ok(Ended {
+        told: told?,
+        commits,
+        waiting,
+    })
 }
 
 // One caller: whether its digest was stamped.
@@ -126,17 +126,13 @@ pub fn all_are_stamped<D: Disk + Send + Drop, R: Threads + Wait + Sync>(
     book: Book<D>,
     service: &Service,
     ask: &Ask,
-) -> Option<Ends> {
-    match Shared::open(alloc, book, 8) {
-        Err(RefusedShared { book: _ }) => None,
-        Ok((shared, pass)) => {
-            let (pass, stamped) = crew(rt, alloc, &shared, pass, service, ask, 7);
-            let book = shared.close(pass);
-            Some(Ends {
-                stamped,
-                commits: book.store().commits(),
-                waiting: book.waiting(),
-            })
-        }
-    }
+) -> Result<Ends, AllocError> {
+    let (shared, pass) = share(alloc, book, 8)?;
+    let (pass, stamped) = crew(rt, alloc, &shared, pass, service, ask, 7);
+    let (commits, waiting) = close(shared, pass);
+    Ok(Ends {
+        stamped,
+        commits,
+        waiting,
+    })
 }

@@ -1,5 +1,5 @@
-use crate::serving::{Ask, Told, serve_all};
-use crate::sharing::{all_are_stamped, serve_beside};
+use crate::serving::{Ask, Ended, serve_book};
+use crate::sharing::{Ends, all_are_stamped, serve_beside};
 use crate::texts::{ask, ask_digest, book_of, is_said, is_tree, new_book, service};
 use ots_calendar::{Leaf, Receipt};
 use ots_service::Served;
@@ -37,74 +37,101 @@ const COMPLETE: &str = "08f10a02020202020202020202f004030303030808000588960d73d7
 const AMPLE: u64 = 8000;
 
 /// Serves one connection over a new book whose journal has this limit, and whose disk's call of this
-/// number fails: how it ended, how many commitments are stored, and how many tickets wait.
+/// number fails.
 fn serve<R: Wait>(
     rt: &R,
     alloc: Global,
-    asked: Ask,
+    asked: &Ask,
     limit: u64,
     failing: u64,
-) -> Result<(Told, u64, u64), Fail> {
+) -> Result<Ended, Fail> {
+    let service = service(alloc)?;
     let book = new_book(alloc, limit, failing)?;
-    let asks = vec![in alloc; asked]?;
-    let (mut told, book) = serve_all(rt, alloc, book, &service(alloc)?, &asks)?;
-    let commits = book.store().commits();
-    Ok((told.pop().ok_or("no connection")?, commits, book.waiting()))
+    Ok(serve_book(rt, alloc, book, &service, None, asked)?)
 }
 
-/// This request is refused so, and nothing is stored or waits.
+/// This connection is refused so, and nothing is stored or waits.
 fn is_refused<R: Wait + Abort>(
     rt: &R,
     alloc: Global,
-    asked: Ask,
+    asked: &Ask,
     status: u16,
     line: &str,
     words: &str,
 ) -> Result<(), Fail> {
-    let (told, commits, waiting) = serve(rt, alloc, asked, AMPLE, 0)?;
-    assert_eq!(rt; (commits, waiting), (0, 0));
-    is_said(rt, alloc, &told, status, line, words)
+    let ended = serve(rt, alloc, asked, AMPLE, 0)?;
+    assert_eq!(rt; (ended.commits, ended.waiting), (0, 0));
+    is_said(rt, alloc, &ended.told, status, line, words)
+}
+
+/// The same of a connection with this request.
+fn is_not_served<R: Wait + Abort>(
+    rt: &R,
+    alloc: Global,
+    request: &[u8],
+    status: u16,
+    line: &str,
+    words: &str,
+) -> Result<(), Fail> {
+    is_refused(rt, alloc, &ask(alloc, request)?, status, line, words)
 }
 
 #[test]
 fn a_digest_is_stamped(rt: HostRuntime) -> Result<(), Fail> {
     let alloc = rt.alloc();
-    let (told, commits, waiting) = serve(&rt, alloc, ask_digest(alloc)?, AMPLE, 0)?;
-    assert_eq!(rt; (commits, waiting), (1, 0));
+    let ended = serve(&rt, alloc, &ask_digest(alloc)?, AMPLE, 0)?;
+    assert_eq!(rt; (ended.commits, ended.waiting), (1, 0));
     assert!(rt;
         matches!(
-            told.served,
+            ended.told.served,
             Served::Stamped(Receipt {
                 index: 0,
                 commitment: _
             })
         )
     );
-    is_tree(&rt, alloc, &told, ALONE)
+    is_tree(&rt, alloc, &ended.told, ALONE)
 }
 
 #[test]
-fn a_digest_has_1_to_64_bytes(rt: HostRuntime) -> Result<(), Fail> {
+fn a_digest_of_64_bytes_is_stamped(rt: HostRuntime) -> Result<(), Fail> {
     let alloc = rt.alloc();
     let mut longest = ask(
         alloc,
         b"POST /digest HTTP/1.1\r\nContent-Length: 64\r\n\r\n",
     )?;
     longest.request.extend_from_slice(&[1; 64])?;
-    let (told, _, _) = serve(&rt, alloc, longest, AMPLE, 0)?;
-    is_tree(&rt, alloc, &told, LONG)?;
-    let none = ask(alloc, b"POST /digest HTTP/1.1\r\nContent-Length: 0\r\n\r\n")?;
-    is_refused(&rt, alloc, none, 400, "400 Bad Request", "bad request")?;
-    let over = ask(
-        alloc,
-        b"POST /digest HTTP/1.1\r\nContent-Length: 65\r\n\r\n",
-    )?;
-    is_refused(&rt, alloc, over, 413, "413 Content Too Large", "too large")?;
-    let unstated = ask(alloc, b"POST /digest HTTP/1.1\r\n\r\nabc")?;
-    is_refused(
+    is_tree(
         &rt,
         alloc,
-        unstated,
+        &serve(&rt, alloc, &longest, AMPLE, 0)?.told,
+        LONG,
+    )
+}
+
+#[test]
+fn a_digest_of_no_byte_and_of_65_bytes_is_refused(rt: HostRuntime) -> Result<(), Fail> {
+    let alloc = rt.alloc();
+    is_not_served(
+        &rt,
+        alloc,
+        b"POST /digest HTTP/1.1\r\nContent-Length: 0\r\n\r\n",
+        400,
+        "400 Bad Request",
+        "bad request",
+    )?;
+    is_not_served(
+        &rt,
+        alloc,
+        b"POST /digest HTTP/1.1\r\nContent-Length: 65\r\n\r\n",
+        413,
+        "413 Content Too Large",
+        "too large",
+    )?;
+    is_not_served(
+        &rt,
+        alloc,
+        b"POST /digest HTTP/1.1\r\n\r\nabc",
         411,
         "411 Length Required",
         "length required",
@@ -114,79 +141,116 @@ fn a_digest_has_1_to_64_bytes(rt: HostRuntime) -> Result<(), Fail> {
 #[test]
 fn other_requests_are_refused(rt: HostRuntime) -> Result<(), Fail> {
     let alloc = rt.alloc();
-    let get = ask(alloc, b"GET /digest HTTP/1.1\r\n\r\n")?;
-    is_refused(
+    is_not_served(
         &rt,
         alloc,
-        get,
+        b"GET /digest HTTP/1.1\r\n\r\n",
         405,
         "405 Method Not Allowed",
         "method not allowed",
     )?;
-    let half = ask(alloc, b"GET /timestamp/0 HTTP/1.1\r\n\r\n")?;
-    is_refused(&rt, alloc, half, 400, "400 Bad Request", "bad request")?;
-    let unknown = ask(alloc, b"GET /timestamp/00 HTTP/1.1\r\n\r\n")?;
-    is_refused(&rt, alloc, unknown, 404, "404 Not Found", "not found")?;
-    let page = ask(alloc, b"GET / HTTP/1.1\r\n\r\n")?;
-    is_refused(&rt, alloc, page, 404, "404 Not Found", "not found")?;
-    let cut = ask(
+    is_not_served(
+        &rt,
+        alloc,
+        b"GET /timestamp/0 HTTP/1.1\r\n\r\n",
+        400,
+        "400 Bad Request",
+        "bad request",
+    )?;
+    is_not_served(
+        &rt,
+        alloc,
+        b"GET /timestamp/00 HTTP/1.1\r\n\r\n",
+        404,
+        "404 Not Found",
+        "not found",
+    )?;
+    is_not_served(
+        &rt,
+        alloc,
+        b"GET / HTTP/1.1\r\n\r\n",
+        404,
+        "404 Not Found",
+        "not found",
+    )?;
+    is_not_served(
+        &rt,
         alloc,
         b"POST /digest HTTP/1.1\r\nContent-Length: 32\r\n\r\nabc",
-    )?;
-    is_refused(&rt, alloc, cut, 400, "400 Bad Request", "bad request")
+        400,
+        "400 Bad Request",
+        "bad request",
+    )
 }
 
 #[test]
 fn a_commitment_just_stored_is_pending(rt: HostRuntime) -> Result<(), Fail> {
     let alloc = rt.alloc();
-    let mut asks = vec![in alloc; ask_digest(alloc)?]?;
-    asks.push(ask(alloc, COMMITMENT.as_bytes())?)?;
-    let (mut told, _) = serve_all(
-        &rt,
-        alloc,
-        new_book(alloc, AMPLE, 0)?,
-        &service(alloc)?,
-        &asks,
-    )?;
-    let last = told.pop().ok_or("no connection")?;
-    is_said(&rt, alloc, &last, 404, "404 Not Found", "pending")
+    let service = service(alloc)?;
+    let digest = ask_digest(alloc)?;
+    let asked = ask(alloc, COMMITMENT.as_bytes())?;
+    let book = new_book(alloc, AMPLE, 0)?;
+    let ended = serve_book(&rt, alloc, book, &service, Some(&digest), &asked)?;
+    is_said(&rt, alloc, &ended.told, 404, "404 Not Found", "pending")
 }
 
 #[test]
 fn an_anchored_commitment_is_complete(rt: HostRuntime) -> Result<(), Fail> {
     let alloc = rt.alloc();
+    let service = service(alloc)?;
+    let asked = ask(alloc, COMMITMENT.as_bytes())?;
     let book = book_of(alloc, &hex::decode(alloc, ANCHORED)?, AMPLE, 0)?;
-    let asks = vec![in alloc; ask(alloc, COMMITMENT.as_bytes())?]?;
-    let (mut told, _) = serve_all(&rt, alloc, book, &service(alloc)?, &asks)?;
-    let last = told.pop().ok_or("no connection")?;
-    assert_eq!(rt; last.served, Served::Replied(200));
-    is_tree(&rt, alloc, &last, COMPLETE)
+    let ended = serve_book(&rt, alloc, book, &service, None, &asked)?;
+    assert_eq!(rt; ended.told.served, Served::Replied(200));
+    is_tree(&rt, alloc, &ended.told, COMPLETE)
 }
 
 #[test]
-fn no_nonce_and_a_late_second_are_refused(rt: HostRuntime) -> Result<(), Fail> {
+fn no_nonce_is_told(rt: HostRuntime) -> Result<(), Fail> {
     let alloc = rt.alloc();
     let mut none = ask_digest(alloc)?;
     none.nonce = None;
-    is_refused(&rt, alloc, none, 503, "503 Service Unavailable", "nonce")?;
-    let mut late = ask_digest(alloc)?;
-    late.second = 4_294_967_296;
-    is_refused(&rt, alloc, late, 500, "500 Internal Server Error", "clock")?;
-    let mut last = ask_digest(alloc)?;
-    last.second = 4_294_967_295;
-    let (told, _, _) = serve(&rt, alloc, last, AMPLE, 0)?;
-    assert!(rt; matches!(told.served, Served::Stamped(_)));
+    is_refused(&rt, alloc, &none, 503, "503 Service Unavailable", "nonce")
+}
+
+#[test]
+fn a_second_past_32_bits_is_refused(rt: HostRuntime) -> Result<(), Fail> {
+    let alloc = rt.alloc();
+    let mut asked = ask_digest(alloc)?;
+    asked.second = 4_294_967_296;
+    is_refused(
+        &rt,
+        alloc,
+        &asked,
+        500,
+        "500 Internal Server Error",
+        "clock",
+    )?;
+    asked.second = 4_294_967_295;
+    let ended = serve(&rt, alloc, &asked, AMPLE, 0)?;
+    assert!(rt; matches!(ended.told.served, Served::Stamped(_)));
     Ok(())
+}
+
+/// A digest is refused where the disk's call of this number fails, and no ticket waits.
+fn is_told_of_the_disk<R: Wait + Abort>(rt: &R, alloc: Global, failing: u64) -> Result<(), Fail> {
+    let ended = serve(rt, alloc, &ask_digest(alloc)?, AMPLE, failing)?;
+    assert_eq!(rt; ended.waiting, 0);
+    is_said(
+        rt,
+        alloc,
+        &ended.told,
+        503,
+        "503 Service Unavailable",
+        "disk",
+    )
 }
 
 #[test]
 fn each_call_of_the_disk_that_fails_is_told(rt: HostRuntime) -> Result<(), Fail> {
-    let alloc = rt.alloc();
     // A new journal takes four calls to open, and a commitment four to store.
     for failing in 5..9 {
-        let (told, _, waiting) = serve(&rt, alloc, ask_digest(alloc)?, AMPLE, failing)?;
-        assert_eq!(rt; waiting, 0);
-        is_said(&rt, alloc, &told, 503, "503 Service Unavailable", "disk")?;
+        is_told_of_the_disk(&rt, rt.alloc(), failing)?;
     }
     Ok(())
 }
@@ -194,19 +258,24 @@ fn each_call_of_the_disk_that_fails_is_told(rt: HostRuntime) -> Result<(), Fail>
 #[test]
 fn a_full_journal_is_told(rt: HostRuntime) -> Result<(), Fail> {
     let alloc = rt.alloc();
-    let (told, commits, waiting) = serve(&rt, alloc, ask_digest(alloc)?, 64, 0)?;
-    assert_eq!(rt; (commits, waiting), (0, 0));
+    let ended = serve(&rt, alloc, &ask_digest(alloc)?, 64, 0)?;
+    assert_eq!(rt; (ended.commits, ended.waiting), (0, 0));
     is_said(
         &rt,
         alloc,
-        &told,
+        &ended.told,
         507,
         "507 Insufficient Storage",
         "journal full",
-    )?;
-    let (told, commits, _) = serve(&rt, alloc, ask_digest(alloc)?, 65, 0)?;
-    assert_eq!(rt; commits, 1);
-    is_tree(&rt, alloc, &told, ALONE)
+    )
+}
+
+#[test]
+fn a_journal_with_room_for_one_commitment_takes_it(rt: HostRuntime) -> Result<(), Fail> {
+    let alloc = rt.alloc();
+    let ended = serve(&rt, alloc, &ask_digest(alloc)?, 65, 0)?;
+    assert_eq!(rt; ended.commits, 1);
+    is_tree(&rt, alloc, &ended.told, ALONE)
 }
 
 /// Where the link's call of this number fails, so many commitments are stored, and the link has
@@ -220,10 +289,10 @@ fn is_broken_off<R: Wait + Abort>(
 ) -> Result<(), Fail> {
     let mut asked = ask_digest(alloc)?;
     asked.failing = failing;
-    let (told, commits, waiting) = serve(rt, alloc, asked, AMPLE, 0)?;
-    assert_eq!(rt; told.served, Served::LinkFault);
-    assert_eq!(rt; (commits, waiting), (stored, 0));
-    assert_eq!(rt; told.taken.len(), bytes);
+    let ended = serve(rt, alloc, &asked, AMPLE, 0)?;
+    assert_eq!(rt; ended.told.served, Served::LinkFault);
+    assert_eq!(rt; (ended.commits, ended.waiting), (stored, 0));
+    assert_eq!(rt; ended.told.taken.len(), bytes);
     Ok(())
 }
 
@@ -238,45 +307,55 @@ fn a_link_that_fails_is_told_and_what_was_stored_stays(rt: HostRuntime) -> Resul
 #[test]
 fn a_link_that_ends_at_once_is_closed(rt: HostRuntime) -> Result<(), Fail> {
     let alloc = rt.alloc();
-    let (told, _, _) = serve(&rt, alloc, ask(alloc, b"")?, AMPLE, 0)?;
-    assert_eq!(rt; told.served, Served::Closed);
-    assert_eq!(rt; told.taken.len(), 0);
+    let ended = serve(&rt, alloc, &ask(alloc, b"")?, AMPLE, 0)?;
+    assert_eq!(rt; ended.told.served, Served::Closed);
+    assert_eq!(rt; ended.told.taken.len(), 0);
     Ok(())
 }
 
-/// Serves the digest of 32 bytes 1 over a book in which that of 32 bytes 2 was put so many times: how
-/// it ended, how many commitments are stored, and how many tickets wait.
-fn beside<R: Wait>(rt: &R, alloc: Global, times: u32) -> Result<(Told, u64, u64), Fail> {
-    let book = new_book(alloc, AMPLE, 0)?;
+/// Serves the digest of 32 bytes 1 over a book in which that of 32 bytes 2 was put so many times.
+fn beside<R: Wait>(rt: &R, alloc: Global, times: u32) -> Result<Ended, Fail> {
     let other = Leaf::new(&[2; 32])?;
+    let service = service(alloc)?;
     let asked = ask_digest(alloc)?;
-    let (told, book) = serve_beside(rt, alloc, book, &service(alloc)?, other, times, &asked)?;
-    let commits = book.store().commits();
-    Ok((told, commits, book.waiting()))
+    let book = new_book(alloc, AMPLE, 0)?;
+    Ok(serve_beside(rt, alloc, book, &service, other, times, &asked)?)
 }
 
 #[test]
 fn one_commitment_is_stored_for_all_that_wait(rt: HostRuntime) -> Result<(), Fail> {
     let alloc = rt.alloc();
-    let (told, commits, waiting) = beside(&rt, alloc, 1)?;
-    assert_eq!(rt; (commits, waiting), (1, 0));
-    is_tree(&rt, alloc, &told, SECOND_OF_TWO)
+    let ended = beside(&rt, alloc, 1)?;
+    assert_eq!(rt; (ended.commits, ended.waiting), (1, 0));
+    is_tree(&rt, alloc, &ended.told, SECOND_OF_TWO)
 }
 
 #[test]
 fn a_full_house_is_told(rt: HostRuntime) -> Result<(), Fail> {
     let alloc = rt.alloc();
-    let (told, commits, waiting) = beside(&rt, alloc, 65_536)?;
-    assert_eq!(rt; (commits, waiting), (0, 65_536));
-    is_said(&rt, alloc, &told, 503, "503 Service Unavailable", "busy")
+    let ended = beside(&rt, alloc, 65_536)?;
+    assert_eq!(rt; (ended.commits, ended.waiting), (0, 65_536));
+    is_said(
+        &rt,
+        alloc,
+        &ended.told,
+        503,
+        "503 Service Unavailable",
+        "busy",
+    )
+}
+
+/// Eight callers serve the digest of 32 bytes 1 each, over a new book.
+fn eight<R: Threads + Wait + Sync>(rt: &R, alloc: Global) -> Result<Ends, Fail> {
+    let service = service(alloc)?;
+    let asked = ask_digest(alloc)?;
+    let book = new_book(alloc, AMPLE, 0)?;
+    Ok(all_are_stamped(rt, alloc, book, &service, &asked)?)
 }
 
 #[test]
 fn eight_callers_are_all_stamped(rt: HostRuntime) -> Result<(), Fail> {
-    let alloc = rt.alloc();
-    let book = new_book(alloc, AMPLE, 0)?;
-    let ends = all_are_stamped(&rt, alloc, book, &service(alloc)?, &ask_digest(alloc)?);
-    let ends = ends.ok_or("not shared")?;
+    let ends = eight(&rt, rt.alloc())?;
     assert_eq!(rt; (ends.stamped, ends.waiting), (8, 0));
     assert!(rt; ends.commits >= 1 && ends.commits <= 8);
     Ok(())
@@ -285,9 +364,7 @@ fn eight_callers_are_all_stamped(rt: HostRuntime) -> Result<(), Fail> {
 /// Eight callers over a new book are all stamped: whether fewer commitments were stored, so that the
 /// round of one was closed by another.
 fn is_shared<R: Threads + Wait + Sync + Abort>(rt: &R, alloc: Global) -> Result<bool, Fail> {
-    let book = new_book(alloc, AMPLE, 0)?;
-    let ends = all_are_stamped(rt, alloc, book, &service(alloc)?, &ask_digest(alloc)?);
-    let ends = ends.ok_or("not shared")?;
+    let ends = eight(rt, alloc)?;
     assert_eq!(rt; (ends.stamped, ends.waiting), (8, 0));
     Ok(ends.commits < 8)
 }
