@@ -1,98 +1,85 @@
 // Each rule on form and order, broken once.
-use crate::steps::{Rows, anchor_bytes, is_bad, is_good};
+use crate::steps::Row::{self, Anchor, Commit, Tip};
+use crate::steps::{anchor_bytes, entries_and, entries_of, is_bad, is_good};
 use std::alloc::Global;
 use std::test::Fail;
 
+// Whether all of these rows are good.
+fn are_good(alloc: Global, rows: &[Row]) -> Result<bool, Fail> {
+    is_good(alloc, &entries_of(alloc, rows)?)
+}
+
+// Whether this one of them is the first bad one.
+fn are_bad(alloc: Global, rows: &[Row], i: u64) -> Result<bool, Fail> {
+    is_bad(alloc, &entries_of(alloc, rows)?, i)
+}
+
 #[test]
 fn a_tip_may_stand_twice(rt: HostRuntime) -> Result<(), Fail> {
-    let mut rows = Rows::new(rt.alloc());
-    rows.commit(1)?;
-    rows.tip(0, 1)?;
-    rows.tip(0, 1)?;
-    assert!(rt; is_good(rt.alloc(), &rows)?);
+    assert!(rt; are_good(rt.alloc(), &[Commit(1), Tip(0, 1), Tip(0, 1)])?);
     Ok(())
 }
 
 #[test]
 fn a_tip_runs_to_the_last_commitment(rt: HostRuntime) -> Result<(), Fail> {
-    let mut rows = Rows::new(rt.alloc());
-    rows.commit(1)?;
-    rows.tip(0, 2)?;
-    assert!(rt; is_bad(rt.alloc(), &rows, 1)?);
-    let mut short = Rows::new(rt.alloc());
-    short.commit(1)?;
-    short.commit(2)?;
-    short.tip(0, 1)?;
-    assert!(rt; is_bad(rt.alloc(), &short, 2)?);
+    assert!(rt; are_bad(rt.alloc(), &[Commit(1), Tip(0, 2)], 1)?);
+    assert!(rt; are_bad(rt.alloc(), &[Commit(1), Commit(2), Tip(0, 1)], 2)?);
     Ok(())
 }
 
 #[test]
 fn a_tip_begins_behind_what_is_covered(rt: HostRuntime) -> Result<(), Fail> {
-    let mut rows = Rows::new(rt.alloc());
-    rows.commit(1)?;
-    rows.commit(2)?;
-    rows.tip(1, 1)?;
-    assert!(rt; is_bad(rt.alloc(), &rows, 2)?);
-    let mut late = Rows::new(rt.alloc());
-    late.commit(1)?;
-    late.tip(0, 1)?;
-    late.anchor(0, 1, 5)?;
-    late.commit(2)?;
-    late.tip(1, 1)?;
-    assert!(rt; is_good(rt.alloc(), &late)?);
-    late.tip(0, 2)?;
-    assert!(rt; is_bad(rt.alloc(), &late, 5)?);
+    assert!(rt; are_bad(rt.alloc(), &[Commit(1), Commit(2), Tip(1, 1)], 2)?);
+    let late = [
+        Commit(1),
+        Tip(0, 1),
+        Anchor(0, 1, 5),
+        Commit(2),
+        Tip(1, 1),
+        Tip(0, 2),
+    ];
+    assert!(rt; are_good(rt.alloc(), &late[..5])?);
+    assert!(rt; are_bad(rt.alloc(), &late, 5)?);
     Ok(())
 }
 
 #[test]
 fn a_tip_has_a_commitment(rt: HostRuntime) -> Result<(), Fail> {
-    let mut rows = Rows::new(rt.alloc());
-    rows.tip(0, 0)?;
-    assert!(rt; is_bad(rt.alloc(), &rows, 0)?);
+    assert!(rt; are_bad(rt.alloc(), &[Tip(0, 0)], 0)?);
     Ok(())
+}
+
+// Whether an entry of this kind with these bytes, behind these rows, is the first bad one, of this
+// index.
+fn is_refused(alloc: Global, rows: &[Row], kind: u8, payload: &[u8], i: u64) -> Result<bool, Fail> {
+    is_bad(alloc, &entries_and(alloc, rows, kind, payload)?, i)
 }
 
 #[test]
 fn there_are_three_kinds(rt: HostRuntime) -> Result<(), Fail> {
-    let mut rows = Rows::new(rt.alloc());
-    rows.raw(4, &[1; 44])?;
-    assert!(rt; is_bad(rt.alloc(), &rows, 0)?);
-    let mut none = Rows::new(rt.alloc());
-    none.commit(1)?;
-    none.raw(0, &[1; 44])?;
-    assert!(rt; is_bad(rt.alloc(), &none, 1)?);
+    assert!(rt; is_refused(rt.alloc(), &[], 4, &[1; 44], 0)?);
+    assert!(rt; is_refused(rt.alloc(), &[Commit(1)], 0, &[1; 44], 1)?);
     Ok(())
 }
 
 #[test]
 fn a_commitment_has_44_bytes_and_a_tip_48(rt: HostRuntime) -> Result<(), Fail> {
-    let mut rows = Rows::new(rt.alloc());
-    rows.raw(1, &[1; 45])?;
-    assert!(rt; is_bad(rt.alloc(), &rows, 0)?);
-    let mut tips = Rows::new(rt.alloc());
-    tips.raw(2, &[0; 49])?;
-    assert!(rt; is_bad(rt.alloc(), &tips, 0)?);
+    assert!(rt; is_refused(rt.alloc(), &[], 1, &[1; 45], 0)?);
+    assert!(rt; is_refused(rt.alloc(), &[], 2, &[0; 49], 0)?);
     Ok(())
 }
 
 // Whether an anchor of these bytes, behind its tip, is good.
 fn takes(alloc: Global, payload: &[u8]) -> Result<bool, Fail> {
-    let mut rows = Rows::new(alloc);
-    rows.commit(1)?;
-    rows.tip(0, 1)?;
-    rows.raw(3, payload)?;
-    is_good(alloc, &rows)
+    is_good(
+        alloc,
+        &entries_and(alloc, &[Commit(1), Tip(0, 1)], 3, payload)?,
+    )
 }
 
 // Whether it is the first bad entry.
 fn refuses(alloc: Global, payload: &[u8]) -> Result<bool, Fail> {
-    let mut rows = Rows::new(alloc);
-    rows.commit(1)?;
-    rows.tip(0, 1)?;
-    rows.raw(3, payload)?;
-    is_bad(alloc, &rows, 2)
+    is_refused(alloc, &[Commit(1), Tip(0, 1)], 3, payload, 2)
 }
 
 #[test]
@@ -108,19 +95,33 @@ fn an_anchor_is_exactly_of_its_form(rt: HostRuntime) -> Result<(), Fail> {
     Ok(())
 }
 
+// Whether an anchor with so long a prefix and a suffix, and so many steps, is good.
+fn takes_sizes(alloc: Global, prefix: u16, suffix: u16, steps: u8) -> Result<bool, Fail> {
+    takes(
+        alloc,
+        &anchor_bytes(alloc, [0, 1, 5], prefix, suffix, steps)?,
+    )
+}
+
+// Whether it is the first bad entry.
+fn refuses_sizes(alloc: Global, prefix: u16, suffix: u16, steps: u8) -> Result<bool, Fail> {
+    refuses(
+        alloc,
+        &anchor_bytes(alloc, [0, 1, 5], prefix, suffix, steps)?,
+    )
+}
+
 #[test]
 fn an_anchor_has_at_most_32_steps(rt: HostRuntime) -> Result<(), Fail> {
-    let alloc = rt.alloc();
-    assert!(rt; takes(alloc, &anchor_bytes(alloc, [0, 1, 5], 0, 0, 32)?)?);
-    assert!(rt; refuses(alloc, &anchor_bytes(alloc, [0, 1, 5], 0, 0, 33)?)?);
+    assert!(rt; takes_sizes(rt.alloc(), 0, 0, 32)?);
+    assert!(rt; refuses_sizes(rt.alloc(), 0, 0, 33)?);
     Ok(())
 }
 
 #[test]
 fn an_anchors_message_has_at_most_4096_bytes(rt: HostRuntime) -> Result<(), Fail> {
-    let alloc = rt.alloc();
-    assert!(rt; takes(alloc, &anchor_bytes(alloc, [0, 1, 5], 4000, 64, 0)?)?);
-    assert!(rt; refuses(alloc, &anchor_bytes(alloc, [0, 1, 5], 4000, 65, 0)?)?);
+    assert!(rt; takes_sizes(rt.alloc(), 4000, 64, 0)?);
+    assert!(rt; refuses_sizes(rt.alloc(), 4000, 65, 0)?);
     Ok(())
 }
 
@@ -145,30 +146,24 @@ fn a_height_is_below_2_to_63_and_a_side_is_one_of_two(rt: HostRuntime) -> Result
 
 #[test]
 fn an_anchor_is_of_an_earlier_tip(rt: HostRuntime) -> Result<(), Fail> {
-    let mut rows = Rows::new(rt.alloc());
-    rows.commit(1)?;
-    rows.anchor(0, 1, 5)?;
-    assert!(rt; is_bad(rt.alloc(), &rows, 1)?);
-    let mut other = Rows::new(rt.alloc());
-    other.commit(1)?;
-    other.tip(0, 1)?;
-    other.commit(2)?;
-    other.anchor(0, 2, 5)?;
-    assert!(rt; is_bad(rt.alloc(), &other, 3)?);
+    assert!(rt; are_bad(rt.alloc(), &[Commit(1), Anchor(0, 1, 5)], 1)?);
+    let other = [Commit(1), Tip(0, 1), Commit(2), Anchor(0, 2, 5)];
+    assert!(rt; are_bad(rt.alloc(), &other, 3)?);
     Ok(())
 }
 
 #[test]
 fn an_anchor_reaches_past_what_is_covered(rt: HostRuntime) -> Result<(), Fail> {
-    let mut rows = Rows::new(rt.alloc());
-    rows.commit(1)?;
-    rows.tip(0, 1)?;
-    rows.commit(2)?;
-    rows.tip(0, 2)?;
-    rows.anchor(0, 1, 5)?;
-    rows.anchor(0, 2, 6)?;
-    assert!(rt; is_good(rt.alloc(), &rows)?);
-    rows.anchor(0, 1, 7)?;
-    assert!(rt; is_bad(rt.alloc(), &rows, 6)?);
+    let rows = [
+        Commit(1),
+        Tip(0, 1),
+        Commit(2),
+        Tip(0, 2),
+        Anchor(0, 1, 5),
+        Anchor(0, 2, 6),
+        Anchor(0, 1, 7),
+    ];
+    assert!(rt; are_good(rt.alloc(), &rows[..6])?);
+    assert!(rt; are_bad(rt.alloc(), &rows, 6)?);
     Ok(())
 }
