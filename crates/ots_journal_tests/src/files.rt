@@ -1,28 +1,17 @@
 // A journal on a real file.
-use ots_disk::FileDisk;
+use crate::steps::{opened, refusal};
+use ots_disk::{Disk, FileDisk};
 use ots_journal::{Journal, JournalError};
 use std::fs;
 use std::test::Fail;
 
-type OnFile<'a> = Journal<FileDisk<&'a HostRuntime>>;
-
-fn opened<'a>(rt: &'a HostRuntime, name: &str) -> Result<OnFile<'a>, Fail> {
-    let disk = FileDisk::new(rt, String::from_str(rt.alloc(), name)?);
-    match Journal::open(rt.alloc(), disk, 1000) {
-        Ok(journal) => Ok(journal),
-        Err(_) => Err(Fail::from("refused")),
-    }
+// The disk of a file.
+fn file<'a>(rt: &'a HostRuntime, name: &str) -> Result<FileDisk<&'a HostRuntime>, Fail> {
+    Ok(FileDisk::new(rt, String::from_str(rt.alloc(), name)?))
 }
 
-fn why(rt: &HostRuntime, name: &str) -> Result<JournalError, Fail> {
-    let disk = FileDisk::new(rt, String::from_str(rt.alloc(), name)?);
-    match Journal::open(rt.alloc(), disk, 1000) {
-        Ok(_) => Err(Fail::from("opened")),
-        Err(refused) => Ok(refused.why),
-    }
-}
-
-fn holds(journal: &OnFile<'_>, count: u64) -> bool {
+// Whether so many entries are there, each of 50 bytes of its index.
+fn holds<D: Disk>(journal: &Journal<D>, count: u64) -> bool {
     if journal.count() != count {
         return false;
     }
@@ -34,26 +23,31 @@ fn holds(journal: &OnFile<'_>, count: u64) -> bool {
     true
 }
 
+// Whether an entry of 50 bytes of this index is appended under it.
+fn appends<D: Disk>(journal: &mut Journal<D>, index: u8) -> bool {
+    journal.append(7, &[index; 50]) == Ok(u64::from(index))
+}
+
 #[test]
 fn what_is_appended_is_found_again(rt: HostRuntime) -> Result<(), Fail> {
     let name = "ots_journal_tests.file";
     // An earlier run that was cut off may have left it.
     let _ = fs::remove_file(&rt, name);
     {
-        let mut journal = opened(&rt, name)?;
+        let mut journal = opened(rt.alloc(), file(&rt, name)?, 1000)?;
         assert!(rt; holds(&journal, 0));
-        assert!(rt; journal.append(7, &[0; 50]) == Ok(0));
-        assert!(rt; journal.append(7, &[1; 50]) == Ok(1));
+        assert!(rt; appends(&mut journal, 0));
+        assert!(rt; appends(&mut journal, 1));
         // One process at a time may hold the file.
-        assert!(rt; why(&rt, name)? == JournalError::DiskFault);
+        assert!(rt; refusal(rt.alloc(), file(&rt, name)?, 1000)? == Some(JournalError::DiskFault));
     }
     assert_eq!(rt; fs::read(&rt, name)?.len(), 133);
     {
-        let mut journal = opened(&rt, name)?;
+        let mut journal = opened(rt.alloc(), file(&rt, name)?, 1000)?;
         assert!(rt; holds(&journal, 2));
-        assert!(rt; journal.append(7, &[2; 50]) == Ok(2));
+        assert!(rt; appends(&mut journal, 2));
     }
-    assert!(rt; holds(&opened(&rt, name)?, 3));
+    assert!(rt; holds(&opened(rt.alloc(), file(&rt, name)?, 1000)?, 3));
     fs::remove_file(&rt, name)?;
     Ok(())
 }

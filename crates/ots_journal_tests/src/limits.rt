@@ -1,6 +1,7 @@
 // What is refused, and that a refusal leaves the journal as it was.
-use crate::steps::{add, counts_to, cut, holds, is_full, new_journal, refused};
-use ots_journal::JournalError;
+use crate::steps::{add, counts_to, cut, holds, is_full, is_sure_to, new_journal, refused};
+use ots_disk::Disk;
+use ots_journal::{Journal, JournalError};
 use std::alloc::Global;
 use std::test::Fail;
 
@@ -8,18 +9,25 @@ use std::test::Fail;
 fn a_second_commitment_passes_100_bytes(rt: HostRuntime) -> Result<(), Fail> {
     let mut journal = new_journal(rt.alloc(), 100, &[])?;
     assert!(rt; add(&mut journal, 1) == 0 && is_full(&mut journal, 121, 100));
-    assert!(rt; counts_to(&journal, 1));
-    assert!(rt; journal.is_sure() && journal.gate() == 64);
+    assert!(rt; counts_to(&journal, 1) && is_sure_to(&journal, 64));
     Ok(())
+}
+
+// Appends so many commitments.
+fn fill<D: Disk>(journal: &mut Journal<D>, count: u8) -> bool {
+    for i in 0..count {
+        if add(journal, i + 1) != i as i64 {
+            return false;
+        }
+    }
+    true
 }
 
 // A journal of so many commitments.
 fn file(alloc: Global, count: u8) -> Result<Vec<u8>, Fail> {
     let mut journal = new_journal(alloc, 1000, &[])?;
-    for i in 0..count {
-        if add(&mut journal, i + 1) != i as i64 {
-            return Err(Fail::from("not appended"));
-        }
+    if !fill(&mut journal, count) {
+        return Err(Fail::from("not appended"));
     }
     let made = journal.into_disk();
     Ok(made.bytes().to_vec(alloc)?)
@@ -94,12 +102,17 @@ fn what_lies_behind_a_closed_gate_means_nothing(rt: HostRuntime) -> Result<(), F
     Ok(())
 }
 
+// Whether room for so many entries with so many bytes is made.
+fn reserves<D: Disk>(journal: &mut Journal<D>, entries: usize, bytes: usize) -> bool {
+    journal.reserve(entries, bytes).is_ok()
+}
+
 #[test]
 fn room_that_is_reserved_serves_appends(rt: HostRuntime) -> Result<(), Fail> {
     let mut journal = new_journal(rt.alloc(), 1000, &[])?;
-    assert!(rt; journal.reserve(2, 88).is_ok());
+    assert!(rt; reserves(&mut journal, 2, 88));
     assert!(rt; add(&mut journal, 1) == 0 && add(&mut journal, 2) == 1);
     // More than any memory holds.
-    assert!(rt; journal.reserve(usize::MAX, 1).is_err() && counts_to(&journal, 2));
+    assert!(rt; !reserves(&mut journal, usize::MAX, 1) && counts_to(&journal, 2));
     Ok(())
 }

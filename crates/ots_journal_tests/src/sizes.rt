@@ -1,7 +1,7 @@
 // How long a journal is, and the calls that an append makes of the disk.
-use crate::steps::{Memory, add, counts_to, disk, new_journal, opened, three};
-use ots_disk::{DiskCall, MadeCall, MemoryDisk};
-use ots_journal::is_group;
+use crate::steps::{add, counts_to, disk, is_sure_to, new_journal, opened, three};
+use ots_disk::{Disk, DiskCall, MadeCall, MemoryDisk};
+use ots_journal::{Entry, Journal, is_group};
 use std::test::Fail;
 
 // Whether the last four calls are a write of so many bytes behind a gate, a sync, the opening of
@@ -39,7 +39,7 @@ fn is_sync(made: &MadeCall) -> bool {
 }
 
 // Whether the last entry has this kind, and so many bytes, each of them the kind.
-fn ends_with(journal: &Memory, kind: u8, length: usize) -> bool {
+fn ends_with<D: Disk>(journal: &Journal<D>, kind: u8, length: usize) -> bool {
     let count = journal.count();
     if count == 0 {
         return false;
@@ -51,21 +51,22 @@ fn ends_with(journal: &Memory, kind: u8, length: usize) -> bool {
 #[test]
 fn a_new_journal_has_9_bytes(rt: HostRuntime) -> Result<(), Fail> {
     let journal = new_journal(rt.alloc(), 1000, &[])?;
-    assert_eq!(rt; journal.gate(), 8);
-    assert!(rt; journal.is_sure());
+    assert!(rt; is_sure_to(&journal, 8));
     let made = journal.into_disk();
     assert!(rt; made.bytes() == b"OTSCAL\x02\n\0".as_slice());
     Ok(())
+}
+
+// Whether a commitment of this value gets this index, behind this gate.
+fn adds<D: Disk>(journal: &mut Journal<D>, value: u8, index: i64, gate: u64) -> bool {
+    journal.gate() == gate && add(journal, value) == index
 }
 
 #[test]
 fn a_commitment_takes_56_bytes(rt: HostRuntime) -> Result<(), Fail> {
     let mut journal = new_journal(rt.alloc(), 1000, &[])?;
     assert_eq!(rt; add(&mut journal, 1), 0);
-    assert_eq!(rt; journal.gate(), 64);
-    assert_eq!(rt; add(&mut journal, 2), 1);
-    assert_eq!(rt; journal.gate(), 120);
-    assert_eq!(rt; add(&mut journal, 3), 2);
+    assert!(rt; adds(&mut journal, 2, 1, 64) && adds(&mut journal, 3, 2, 120));
     assert!(rt; counts_to(&journal, 3));
     let made = journal.into_disk();
     assert_eq!(rt; made.bytes().len(), 177);
@@ -73,18 +74,25 @@ fn a_commitment_takes_56_bytes(rt: HostRuntime) -> Result<(), Fail> {
     Ok(())
 }
 
+// Whether a group is appended as the first one.
+fn appends<D: Disk>(journal: &mut Journal<D>, entries: &[Entry]) -> bool {
+    is_group(entries) && journal.append_group(entries) == Ok(0)
+}
+
+// Whether three entries are there, the last one of them of 123 bytes.
+fn ends_with_third<D: Disk>(journal: &Journal<D>) -> bool {
+    journal.count() == 3 && ends_with(journal, 3, 123)
+}
+
 #[test]
 fn a_group_of_three_is_one_write(rt: HostRuntime) -> Result<(), Fail> {
     let alloc = rt.alloc();
     let entries = three(alloc)?;
     let mut journal = new_journal(alloc, 1000, &[])?;
-    assert!(rt; is_group(&entries));
-    assert!(rt; journal.append_group(&entries) == Ok(0));
+    assert!(rt; appends(&mut journal, &entries));
     let made = journal.into_disk();
     assert_eq!(rt; made.bytes().len(), 246);
     assert!(rt; ends_as_an_append(&made, 8, 237));
-    let again = opened(alloc, disk(alloc, made.bytes(), &[])?, 1000)?;
-    assert_eq!(rt; again.count(), 3);
-    assert!(rt; ends_with(&again, 3, 123));
+    assert!(rt; ends_with_third(&opened(alloc, disk(alloc, made.bytes(), &[])?, 1000)?));
     Ok(())
 }

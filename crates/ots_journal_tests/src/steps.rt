@@ -1,5 +1,5 @@
 // Calls of a journal in memory, as a test asks for them.
-use ots_disk::{DiskRoom, MemoryDisk};
+use ots_disk::{Disk, DiskRoom, MemoryDisk};
 use ots_io::Bytes;
 use ots_journal::{AppendError, Entry, Journal, JournalError, Refused};
 use std::alloc::Global;
@@ -19,7 +19,7 @@ pub fn disk(alloc: Global, bytes: &[u8], failing: &[u64]) -> Result<MemoryDisk, 
 }
 
 /// The journal on a disk, where it opens.
-pub fn opened(alloc: Global, disk: MemoryDisk, limit: u64) -> Result<Memory, Fail> {
+pub fn opened<D: Disk + Drop>(alloc: Global, disk: D, limit: u64) -> Result<Journal<D>, Fail> {
     if limit < 9 || limit > 1000 {
         return Err(Fail::from("limit"));
     }
@@ -34,6 +34,21 @@ pub fn new_journal(alloc: Global, limit: u64, failing: &[u64]) -> Result<Memory,
     opened(alloc, disk(alloc, &[], failing)?, limit)
 }
 
+/// Why a disk is refused, if it is.
+pub fn refusal<D: Disk + Drop>(
+    alloc: Global,
+    disk: D,
+    limit: u64,
+) -> Result<Option<JournalError>, Fail> {
+    if limit < 9 || limit > 1000 {
+        return Err(Fail::from("limit"));
+    }
+    match Journal::open(alloc, disk, limit) {
+        Ok(_) => Ok(None),
+        Err(Refused { why, .. }) => Ok(Some(why)),
+    }
+}
+
 /// Whether bytes are refused so.
 pub fn refused(
     alloc: Global,
@@ -41,13 +56,7 @@ pub fn refused(
     limit: u64,
     wanted: JournalError,
 ) -> Result<bool, Fail> {
-    if limit < 9 || limit > 1000 {
-        return Err(Fail::from("limit"));
-    }
-    match Journal::open(alloc, disk(alloc, bytes, &[])?, limit) {
-        Ok(_) => Ok(false),
-        Err(Refused { why, .. }) => Ok(why == wanted),
-    }
+    Ok(refusal(alloc, disk(alloc, bytes, &[])?, limit)? == Some(wanted))
 }
 
 /// Whether bytes are opened, with the entries of the values 1, 2, .. up to so many.
@@ -57,16 +66,21 @@ pub fn holds(alloc: Global, bytes: &[u8], count: u64) -> Result<bool, Fail> {
 }
 
 /// Whether an entry of 44 bytes would make the file so long, over this limit.
-pub fn is_full(journal: &mut Memory, need: u64, limit: u64) -> bool {
+pub fn is_full<D: Disk>(journal: &mut Journal<D>, need: u64, limit: u64) -> bool {
     journal.append(1, &[2; 44]) == Err(AppendError::Full { need, limit })
 }
 
 /// Appends an entry of kind 1 with 44 bytes of this value. The index, or -1.
-pub fn add(journal: &mut Memory, value: u8) -> i64 {
+pub fn add<D: Disk>(journal: &mut Journal<D>, value: u8) -> i64 {
     match journal.append(1, &[value; 44]) {
         Ok(index) if index < 1000 => index as i64,
         _ => -1,
     }
+}
+
+/// Whether nothing is in flight, and the journal ends with this gate.
+pub fn is_sure_to<D: Disk>(journal: &Journal<D>, gate: u64) -> bool {
+    journal.is_sure() && journal.gate() == gate
 }
 
 /// A group of three entries, of 44, 48 and 123 bytes, as a commitment, a tip and an anchor have.
@@ -80,7 +94,7 @@ pub fn three(alloc: Global) -> Result<Vec<Entry>, Fail> {
 }
 
 /// Whether the entries are of 44 bytes of the values 1, 2, .. up to so many.
-pub fn counts_to(journal: &Memory, count: u64) -> bool {
+pub fn counts_to<D: Disk>(journal: &Journal<D>, count: u64) -> bool {
     if journal.count() != count {
         return false;
     }
