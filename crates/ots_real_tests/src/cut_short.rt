@@ -49,18 +49,37 @@ const ANSWERS: Answers = Answers {
     made: 0,
 };
 
-#[test]
-fn a_call_that_was_cut_short_is_made_again(rt: HostRuntime) -> Result<(), Fail> {
-    let mut source = StdSource::new(ANSWERS);
+// What three reads answer.
+fn read_three<S: Source>(source: &mut S) -> [Result<usize, Failed>; 3] {
     let mut buf = [0; 4];
+    [
+        source.read(&mut buf),
+        source.read(&mut buf),
+        source.read(&mut buf),
+    ]
+}
+
+// What three writes answer.
+fn write_three<S: Sink>(sink: &mut S) -> [Result<usize, Failed>; 3] {
+    [
+        sink.write(b"abcd"),
+        sink.write(b"abcd"),
+        sink.write(b"abcd"),
+    ]
+}
+
+#[test]
+fn a_read_that_was_cut_short_is_made_again(rt: HostRuntime) -> Result<(), Fail> {
+    let answers = read_three(&mut StdSource::new(ANSWERS));
     // The third call is past the answers and fails, which must not look like the end of input.
-    for answer in [Ok(3), Ok(0), Err(Failed)] {
-        assert_eq!(rt; source.read(&mut buf), answer);
-    }
-    let mut sink = StdSink::new(ANSWERS);
+    assert_eq!(rt; answers, [Ok(3), Ok(0), Err(Failed)]);
+    Ok(())
+}
+
+#[test]
+fn a_write_that_was_cut_short_is_made_again(rt: HostRuntime) -> Result<(), Fail> {
+    let answers = write_three(&mut StdSink::new(ANSWERS));
     // A write that takes nothing fails.
-    for answer in [Ok(3), Err(Failed), Err(Failed)] {
-        assert_eq!(rt; sink.write(b"abcd"), answer);
-    }
+    assert_eq!(rt; answers, [Ok(3), Err(Failed), Err(Failed)]);
     Ok(())
 }

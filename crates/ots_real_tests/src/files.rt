@@ -31,26 +31,36 @@ fn write_named<S: Shelf>(shelf: &mut S, name: &str, text: &[u8]) -> Result<(), C
     }
 }
 
+// Whether a name is read as `abcdef` by two calls, each of at most four bytes.
+fn gives_abcdef<S: Shelf>(shelf: &mut S, name: &str) -> bool {
+    let mut buf = [0; 4];
+    read_twice(shelf, name, &mut buf) == Ok([Ok(4), Ok(2)]) && buf == *b"efcd"
+}
+
+// Writes a file anew.
+fn write_file(rt: &HostRuntime, name: &str, text: &[u8]) -> Result<(), Fail> {
+    let mut sink = StdSink::new(File::create(rt, name)?);
+    write_all(&mut sink, text)?;
+    Ok(())
+}
+
+// Whether a file holds exactly these bytes, of which there are at most six.
+fn holds(rt: &HostRuntime, name: &str, bytes: &[u8]) -> Result<bool, Fail> {
+    let mut source = StdSource::new(File::open(rt, name)?);
+    let read = read_all(rt.alloc(), &mut source, 6)?;
+    Ok(read.as_slice() == bytes)
+}
+
 #[test]
 fn files_are_written_and_read(rt: HostRuntime) -> Result<(), Fail> {
     let name = "ots_real_tests.bin";
-    let mut sink = StdSink::new(File::create(&rt, name)?);
-    assert_eq!(rt; write_all(&mut sink, b"abcdef"), Ok(()));
-    let mut source = StdSource::new(File::open(&rt, name)?);
-    assert_eq!(rt;
-        read_all(rt.alloc(), &mut source, 6)?.as_slice(),
-        b"abcdef".as_slice()
-    );
+    write_file(&rt, name, b"abcdef")?;
+    assert!(rt; holds(&rt, name, b"abcdef")?);
     let mut shelf = DirShelf::new(&rt, rt.alloc());
-    let mut buf = [0; 4];
-    for (name, answer) in [
-        (name, Ok([Ok(4), Ok(2)])),
-        ("ots_real_tests.absent", Err(OpenError::NotThere)),
-        (name, Ok([Ok(4), Ok(2)])),
-    ] {
-        assert_eq!(rt; read_twice(&mut shelf, name, &mut buf), answer);
-    }
-    assert_eq!(rt; buf, *b"efcd");
+    assert!(rt; gives_abcdef(&mut shelf, name));
+    let absent = read_twice(&mut shelf, "ots_real_tests.absent", &mut [0; 4]);
+    assert!(rt; absent == Err(OpenError::NotThere));
+    assert!(rt; gives_abcdef(&mut shelf, name));
     fs::remove_file(&rt, name)?;
     Ok(())
 }
@@ -61,15 +71,9 @@ fn a_file_is_created_and_never_overwritten(rt: HostRuntime) -> Result<(), Fail> 
     // An earlier run that was cut off may have left it.
     let _ = fs::remove_file(&rt, name);
     let mut shelf = DirShelf::new(&rt, rt.alloc());
-    for (name, text, answer) in [
-        (name, "abcdef", Ok(())),
-        (name, "uvwxyz", Err(CreateError::Exists)),
-    ] {
-        assert_eq!(rt; write_named(&mut shelf, name, text.as_bytes()), answer);
-    }
-    let mut buf = [0; 4];
-    assert_eq!(rt; read_twice(&mut shelf, name, &mut buf), Ok([Ok(4), Ok(2)]));
-    assert_eq!(rt; buf, *b"efcd");
+    assert!(rt; write_named(&mut shelf, name, b"abcdef") == Ok(()));
+    assert!(rt; write_named(&mut shelf, name, b"uvwxyz") == Err(CreateError::Exists));
+    assert!(rt; gives_abcdef(&mut shelf, name));
     fs::remove_file(&rt, name)?;
     Ok(())
 }
@@ -77,10 +81,11 @@ fn a_file_is_created_and_never_overwritten(rt: HostRuntime) -> Result<(), Fail> 
 // Creates two names, and writes to the one and the other in turn.
 fn write_in_turn<S: Shelf>(
     shelf: &mut S,
-    names: [&str; 2],
+    first: &str,
+    second: &str,
 ) -> Result<[Result<usize, Failed>; 4], CreateError> {
-    let first = shelf.create(names[0])?;
-    let second = shelf.create(names[1])?;
+    let first = shelf.create(first)?;
+    let second = shelf.create(second)?;
     let answers = [
         shelf.write(first, b"ab"),
         shelf.write(second, b"xyz"),
@@ -94,20 +99,15 @@ fn write_in_turn<S: Shelf>(
 
 #[test]
 fn two_files_are_written_in_turn(rt: HostRuntime) -> Result<(), Fail> {
-    let names = ["ots_real_tests.first", "ots_real_tests.second"];
-    for name in names {
-        let _ = fs::remove_file(&rt, name);
-    }
-    let mut shelf = DirShelf::new(&rt, rt.alloc());
-    assert_eq!(rt;
-        write_in_turn(&mut shelf, names),
-        Ok([Ok(2), Ok(3), Ok(0), Ok(2)])
-    );
-    for (name, bytes) in [(names[0], "abcd"), (names[1], "xyz")] {
-        let mut source = StdSource::new(File::open(&rt, name)?);
-        let read = read_all(rt.alloc(), &mut source, 6)?;
-        assert_eq!(rt; read.as_slice(), bytes.as_bytes());
-        fs::remove_file(&rt, name)?;
-    }
+    let first = "ots_real_tests.first";
+    let second = "ots_real_tests.second";
+    let _ = fs::remove_file(&rt, first);
+    let _ = fs::remove_file(&rt, second);
+    let answers = write_in_turn(&mut DirShelf::new(&rt, rt.alloc()), first, second);
+    assert_eq!(rt; answers, Ok([Ok(2), Ok(3), Ok(0), Ok(2)]));
+    assert!(rt; holds(&rt, first, b"abcd")?);
+    assert!(rt; holds(&rt, second, b"xyz")?);
+    fs::remove_file(&rt, first)?;
+    fs::remove_file(&rt, second)?;
     Ok(())
 }

@@ -1,5 +1,6 @@
 // Connections that are lost while they are taken, by a network that answers by a list.
-use ots_io::{Accepter, Failed, Link, TcpAccepter};
+use super::sockets::{is_cut_off, next_link};
+use ots_io::{Accepter, Failed, TcpAccepter};
 use std::cell::Cell;
 use std::io;
 use std::io::{ErrorKind, Read, Write};
@@ -103,12 +104,9 @@ fn a_lost_connection_is_passed_over(rt: HostRuntime) -> Result<(), Fail> {
     // It doesn't listen yet.
     assert!(rt; matches!(accepter.accept(), Err(Failed)));
     assert_eq!(rt; accepter.listen(1), Ok(()));
-    let Ok(Some(mut link)) = accepter.accept() else {
-        return Err(Fail::new("no connection"));
-    };
+    let mut link = next_link(&mut accepter)?;
     // A call that can't be limited in time isn't made.
-    assert_eq!(rt; link.read(&mut [0; 4]), Err(Failed));
-    assert_eq!(rt; link.write(b"a"), Err(Failed));
+    assert!(rt; is_cut_off(&mut link));
     accepter.give_back(link);
     // The next one is lost, and then no file handle is left.
     assert!(rt; matches!(accepter.accept(), Err(Failed)));

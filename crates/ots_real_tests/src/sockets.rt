@@ -10,25 +10,63 @@ use std::time::{Duration, Instant};
 fn is_sent<T: Send>(_value: &T) {}
 
 // Listens on the first free port of a range.
-fn listen_from<A: Accepter>(accepter: &mut A, base: u16) -> Option<u16> {
+fn listen_from<A: Accepter>(accepter: &mut A, base: u16) -> Result<u16, Fail> {
     for more in 0..200 {
         let port = base.saturating_add(more);
         if accepter.listen(port).is_ok() {
-            return Some(port);
+            return Ok(port);
         }
     }
-    None
+    Err(Fail::new("no port is free"))
 }
 
-// Whether a link gives exactly these bytes, and then its end.
-fn gives<L: Link>(link: &mut L, bytes: &[u8]) -> bool {
+// The next connection.
+pub fn next_link<A: Accepter>(accepter: &mut A) -> Result<A::Link, Fail> {
+    match accepter.accept() {
+        Ok(Some(link)) => Ok(link),
+        Ok(None) | Err(Failed) => Err(Fail::new("no connection")),
+    }
+}
+
+// Whether a link gives these bytes next.
+fn gives_next<L: Link>(link: &mut L, bytes: &[u8]) -> bool {
     let mut buf = [0];
     for byte in bytes {
         if link.read(&mut buf) != Ok(1) || buf[0] != *byte {
             return false;
         }
     }
-    link.read(&mut buf) == Ok(0)
+    true
+}
+
+// Whether a link gives exactly these bytes, and then its end.
+fn gives<L: Link>(link: &mut L, bytes: &[u8]) -> bool {
+    gives_next(link, bytes) && link.read(&mut [0]) == Ok(0)
+}
+
+// Whether a link takes all of these bytes.
+fn takes<L: Link>(link: &mut L, bytes: &[u8]) -> bool {
+    write_all(&mut LinkSink::new(link), bytes).is_ok()
+}
+
+// Whether a link gives `abc`, and takes `defgh` in reply.
+fn replies<L: Link>(link: &mut L) -> bool {
+    let replied = gives_next(link, b"abc") && takes(link, b"defgh");
+    link.finish();
+    replied
+}
+
+// Whether a read and a write of a link fail.
+pub fn is_cut_off<L: Link>(link: &mut L) -> bool {
+    link.read(&mut [0; 4]) == Err(Failed) && link.write(b"a") == Err(Failed)
+}
+
+// Whether a read of a link fails before some time has passed.
+fn fails_in_time<L: Link>(rt: &HostRuntime, link: &mut L) -> Result<bool, Fail> {
+    let began = Instant::now(rt)?;
+    let failed = link.read(&mut [0; 4]) == Err(Failed);
+    let passed = began.elapsed(rt)?;
+    Ok(failed && passed < Duration::from_secs(20))
 }
 
 // How many bytes a link gives before it fails, at most so many.
@@ -53,8 +91,7 @@ fn asks(rt: &HostRuntime, port: u16, text: &[u8], reply: &[u8]) -> bool {
         return false;
     };
     let mut link = DialedLink::new(&mut dialer, slot);
-    let sent = write_all(&mut LinkSink::new(&mut link), text);
-    let answered = sent.is_ok() && gives(&mut link, reply);
+    let answered = takes(&mut link, text) && gives(&mut link, reply);
     dialer.close(slot);
     answered
 }
@@ -84,27 +121,15 @@ fn drips(rt: &HostRuntime, port: u16, most: u64) -> bool {
 #[test]
 fn bytes_go_both_ways(rt: HostRuntime) -> Result<(), Fail> {
     let mut accepter = TcpAccepter::new(&rt);
-    let Some(port) = listen_from(&mut accepter, 47_200) else {
-        return Err(Fail::new("no port is free"));
-    };
+    let port = listen_from(&mut accepter, 47_200)?;
     let caller = thread::spawn(&rt, move || asks(&rt, port, b"abc", b"defgh"))?;
-    let Ok(Some(mut link)) = accepter.accept() else {
-        return Err(Fail::new("no connection"));
-    };
+    let mut link = next_link(&mut accepter)?;
     is_sent(&accepter);
     is_sent(&link);
-    let mut buf = [0; 3];
-    for byte in &mut buf {
-        let mut one = [0];
-        assert_eq!(rt; link.read(&mut one), Ok(1));
-        *byte = one[0];
-    }
-    assert_eq!(rt; buf, *b"abc");
-    assert_eq!(rt; write_all(&mut LinkSink::new(&mut link), b"defgh"), Ok(()));
-    link.finish();
+    assert!(rt; replies(&mut link));
     // The caller meets the end while the link is still held.
     assert!(rt; caller.join(&rt));
-    assert_eq!(rt; link.read(&mut buf), Ok(0));
+    assert!(rt; link.read(&mut [0; 3]) == Ok(0));
     accepter.give_back(link);
     assert_eq!(rt; accepter.accepted(), 1);
     Ok(())
@@ -113,20 +138,12 @@ fn bytes_go_both_ways(rt: HostRuntime) -> Result<(), Fail> {
 #[test]
 fn a_silent_peer_is_cut_off(rt: HostRuntime) -> Result<(), Fail> {
     let mut accepter = TcpAccepter::with_limit(&rt, Duration::from_millis(300));
-    let Some(port) = listen_from(&mut accepter, 47_400) else {
-        return Err(Fail::new("no port is free"));
-    };
+    let port = listen_from(&mut accepter, 47_400)?;
     let caller = thread::spawn(&rt, move || asks(&rt, port, b"", b""))?;
-    let Ok(Some(mut link)) = accepter.accept() else {
-        return Err(Fail::new("no connection"));
-    };
-    let began = Instant::now(&rt)?;
-    assert_eq!(rt; link.read(&mut [0; 4]), Err(Failed));
-    let passed = began.elapsed(&rt)?;
-    assert!(rt; passed < Duration::from_secs(20));
+    let mut link = next_link(&mut accepter)?;
+    assert!(rt; fails_in_time(&rt, &mut link)?);
     // Nothing is left of the conversation: the next calls fail at once.
-    assert_eq!(rt; link.read(&mut [0; 4]), Err(Failed));
-    assert_eq!(rt; link.write(b"a"), Err(Failed));
+    assert!(rt; is_cut_off(&mut link));
     accepter.give_back(link);
     assert!(rt; caller.join(&rt));
     Ok(())
@@ -135,15 +152,10 @@ fn a_silent_peer_is_cut_off(rt: HostRuntime) -> Result<(), Fail> {
 #[test]
 fn a_slow_peer_is_cut_off(rt: HostRuntime) -> Result<(), Fail> {
     let mut accepter = TcpAccepter::with_limit(&rt, Duration::from_millis(300));
-    let Some(port) = listen_from(&mut accepter, 47_600) else {
-        return Err(Fail::new("no port is free"));
-    };
+    let port = listen_from(&mut accepter, 47_600)?;
     let caller = thread::spawn(&rt, move || drips(&rt, port, 100))?;
-    let Ok(Some(mut link)) = accepter.accept() else {
-        return Err(Fail::new("no connection"));
-    };
-    let given = given_before_fault(&mut link, 100);
-    assert!(rt; given.is_some());
+    let mut link = next_link(&mut accepter)?;
+    assert!(rt; given_before_fault(&mut link, 100).is_some());
     accepter.give_back(link);
     assert!(rt; caller.join(&rt));
     Ok(())
