@@ -8,6 +8,7 @@ use ots_eval::{Chain, Confirmation, Verdict};
 use ots_ops::HashOp;
 use ots_verifier::{Checked, VERIFIER_BYTES, Verifier};
 use std::alloc::Global;
+use std::process::Abort;
 use std::test::Fail;
 
 /// The proof with this front and this tree, which is read.
@@ -34,28 +35,72 @@ fn at(chain: Chain, height: u64) -> Option<Confirmation> {
     })
 }
 
+/// A proof with this tree confirms this by these tables.
+fn confirms(
+    rt: &impl Abort,
+    alloc: Global,
+    tree: &[u8],
+    tables: Tables<'_>,
+    want: Option<Confirmation>,
+) -> Result<(), Fail> {
+    let given = best(alloc, tree, tables)?;
+    assert_eq!(rt; given, want);
+    Ok(())
+}
+
+/// A proof with this tree confirms this by Bitcoin's headers with these roots, from this height on.
+fn confirms_by(
+    rt: &impl Abort,
+    alloc: Global,
+    tree: &[u8],
+    first: u32,
+    roots: &[&str],
+    want: Option<Confirmation>,
+) -> Result<(), Fail> {
+    let headers = table(alloc, first, roots)?;
+    confirms(rt, alloc, tree, (&headers, None), want)
+}
+
+/// What was checked has this verdict on the digest that these digits write.
+fn has_verdict(
+    rt: &impl Abort,
+    alloc: Global,
+    checked: &Checked,
+    digits: &str,
+    want: Verdict,
+) -> Result<(), Fail> {
+    let target = digest(alloc, digits)?;
+    assert_eq!(rt; checked.verdict(&target), want);
+    Ok(())
+}
+
+/// What was checked is a proof of the transaction's SHA-256, which confirms this.
+fn is_of_transaction(
+    rt: &impl Abort,
+    alloc: Global,
+    checked: &Checked,
+    best: Option<Confirmation>,
+) -> Result<(), Fail> {
+    let target = digest(alloc, DIGEST)?;
+    assert_eq!(rt; checked.hash, HashOp::Sha256);
+    assert_eq!(rt; checked.digest, target);
+    assert_eq!(rt; checked.best, best);
+    Ok(())
+}
+
 #[test]
 fn the_first_block_confirms_its_transaction(rt: HostRuntime) -> Result<(), Fail> {
     let alloc = rt.alloc();
     let headers = table(alloc, 0, &[ROOT])?;
     let checked = checked(alloc, SHA256_HEAD, BITCOIN, (&headers, None))?;
-    let target = digest(alloc, DIGEST)?;
-    assert_eq!(rt; checked.hash, HashOp::Sha256);
-    assert_eq!(rt; checked.digest, target);
-    assert_eq!(rt; checked.best, at(Chain::Bitcoin, 0));
-    assert_eq!(rt;
-        checked.verdict(&target),
-        Verdict::Yes {
-            chain: Chain::Bitcoin,
-            height: 0,
-            time: TIME
-        }
-    );
-    assert_eq!(rt;
-        checked.verdict(&digest(alloc, OTHER_ROOT)?),
-        Verdict::NoDigest
-    );
-    Ok(())
+    is_of_transaction(&rt, alloc, &checked, at(Chain::Bitcoin, 0))?;
+    let yes = Verdict::Yes {
+        chain: Chain::Bitcoin,
+        height: 0,
+        time: TIME,
+    };
+    has_verdict(&rt, alloc, &checked, DIGEST, yes)?;
+    has_verdict(&rt, alloc, &checked, OTHER_ROOT, Verdict::NoDigest)
 }
 
 #[test]
@@ -64,8 +109,7 @@ fn a_header_at_another_height_confirms_nothing(rt: HostRuntime) -> Result<(), Fa
     let headers = table(alloc, 1, &[ROOT])?;
     let checked = checked(alloc, SHA256_HEAD, BITCOIN, (&headers, None))?;
     assert_eq!(rt; checked.best, None);
-    assert_eq!(rt; checked.verdict(&digest(alloc, DIGEST)?), Verdict::NoPath);
-    Ok(())
+    has_verdict(&rt, alloc, &checked, DIGEST, Verdict::NoPath)
 }
 
 #[test]
@@ -83,23 +127,23 @@ fn each_chain_has_its_own_headers(rt: HostRuntime) -> Result<(), Fail> {
     let alloc = rt.alloc();
     let right = table(alloc, 0, &[ROOT])?;
     let other = table(alloc, 0, &[OTHER_ROOT])?;
-    assert_eq!(rt; best(alloc, LITECOIN, (&right, None))?, None);
-    assert_eq!(rt; best(alloc, LITECOIN, (&right, Some(&other)))?, None);
-    assert_eq!(rt;
-        best(alloc, LITECOIN, (&other, Some(&right)))?,
-        at(Chain::Litecoin, 0)
-    );
-    assert_eq!(rt; best(alloc, BITCOIN, (&other, Some(&right)))?, None);
-    assert_eq!(rt;
-        best(alloc, BOTH, (&right, Some(&right)))?,
-        at(Chain::Bitcoin, 0)
-    );
-    assert_eq!(rt; best(alloc, BOTH, (&right, None))?, at(Chain::Bitcoin, 0));
-    assert_eq!(rt;
-        best(alloc, BOTH, (&other, Some(&right)))?,
-        at(Chain::Litecoin, 0)
-    );
-    Ok(())
+    let litecoin = at(Chain::Litecoin, 0);
+    confirms(&rt, alloc, LITECOIN, (&right, None), None)?;
+    confirms(&rt, alloc, LITECOIN, (&right, Some(&other)), None)?;
+    confirms(&rt, alloc, LITECOIN, (&other, Some(&right)), litecoin)?;
+    confirms(&rt, alloc, BITCOIN, (&other, Some(&right)), None)
+}
+
+#[test]
+fn bitcoin_is_told_before_litecoin(rt: HostRuntime) -> Result<(), Fail> {
+    let alloc = rt.alloc();
+    let right = table(alloc, 0, &[ROOT])?;
+    let other = table(alloc, 0, &[OTHER_ROOT])?;
+    let bitcoin = at(Chain::Bitcoin, 0);
+    confirms(&rt, alloc, BOTH, (&right, Some(&right)), bitcoin)?;
+    confirms(&rt, alloc, BOTH, (&right, None), bitcoin)?;
+    let litecoin = at(Chain::Litecoin, 0);
+    confirms(&rt, alloc, BOTH, (&other, Some(&right)), litecoin)
 }
 
 /// A `b` before the digest, and three items on that: hexlified, with an `a` behind it, and reversed;
@@ -116,21 +160,26 @@ const APPENDED: &str = "c1ab152031f148b78895cdbc5fe519a112107f76909beb56851f6094
 
 const REVERSED: &str = "ecea8390d241aba95d63da06a99cd71770d8560bc36f986d04c02c86d808ba3e";
 
+/// A proof with these forks confirms this by headers with these roots, from the height 6 on.
+fn forks_confirm(
+    rt: &impl Abort,
+    alloc: Global,
+    roots: &[&str],
+    want: Option<Confirmation>,
+) -> Result<(), Fail> {
+    confirms_by(rt, alloc, FORKS, 6, roots, want)
+}
+
 #[test]
 fn each_item_of_a_fork_begins_with_its_message(rt: HostRuntime) -> Result<(), Fail> {
     let alloc = rt.alloc();
-    let all = table(alloc, 6, &[REVERSED, APPENDED, HEXLIFIED])?;
-    let first_two = table(alloc, 6, &[OTHER_ROOT, APPENDED, HEXLIFIED])?;
-    let first = table(alloc, 6, &[OTHER_ROOT, OTHER_ROOT, HEXLIFIED])?;
-    let none = table(alloc, 6, &[HEXLIFIED, REVERSED, APPENDED])?;
-    assert_eq!(rt; best(alloc, FORKS, (&all, None))?, at(Chain::Bitcoin, 6));
-    assert_eq!(rt;
-        best(alloc, FORKS, (&first_two, None))?,
-        at(Chain::Bitcoin, 7)
-    );
-    assert_eq!(rt; best(alloc, FORKS, (&first, None))?, at(Chain::Bitcoin, 8));
-    assert_eq!(rt; best(alloc, FORKS, (&none, None))?, None);
-    Ok(())
+    let all = &[REVERSED, APPENDED, HEXLIFIED];
+    forks_confirm(&rt, alloc, all, at(Chain::Bitcoin, 6))?;
+    let first_two = &[OTHER_ROOT, APPENDED, HEXLIFIED];
+    forks_confirm(&rt, alloc, first_two, at(Chain::Bitcoin, 7))?;
+    let first = &[OTHER_ROOT, OTHER_ROOT, HEXLIFIED];
+    forks_confirm(&rt, alloc, first, at(Chain::Bitcoin, 8))?;
+    forks_confirm(&rt, alloc, &[HEXLIFIED, REVERSED, APPENDED], None)
 }
 
 /// What 254 and 255 times SHA-256 make of the digest, by Python's hashlib.
@@ -154,16 +203,12 @@ fn deepest_tree(alloc: Global) -> Result<Vec<u8>, Fail> {
 fn the_messages_of_256_open_nodes_are_kept(rt: HostRuntime) -> Result<(), Fail> {
     let alloc = rt.alloc();
     let tree = deepest_tree(alloc)?;
-    for root in [DIGEST, ROOT, TIMES_254, TIMES_255] {
-        let headers = table(alloc, 0, &[root])?;
-        assert_eq!(rt;
-            best(alloc, &tree, (&headers, None))?,
-            at(Chain::Bitcoin, 0)
-        );
-    }
-    let headers = table(alloc, 0, &[OTHER_ROOT])?;
-    assert_eq!(rt; best(alloc, &tree, (&headers, None))?, None);
-    Ok(())
+    let yes = at(Chain::Bitcoin, 0);
+    confirms_by(&rt, alloc, &tree, 0, &[DIGEST], yes)?;
+    confirms_by(&rt, alloc, &tree, 0, &[ROOT], yes)?;
+    confirms_by(&rt, alloc, &tree, 0, &[TIMES_254], yes)?;
+    confirms_by(&rt, alloc, &tree, 0, &[TIMES_255], yes)?;
+    confirms_by(&rt, alloc, &tree, 0, &[OTHER_ROOT], None)
 }
 
 /// The SHA-256 of the digest with 4064 times `a` behind it, and of those 4096 bytes reversed, by Python's
@@ -172,11 +217,10 @@ const LONGEST: &str = "13d86cef4deac2acfc8b0601f1d87bbfe8e88053d5fbf60297ea08828
 
 const LONGEST_REVERSED: &str = "f9989991fc7aa2ef6192cac5eacb03a9f596896fd730cf3605e64940cf89b51c";
 
-#[test]
-fn a_message_of_4096_bytes_is_kept(rt: HostRuntime) -> Result<(), Fail> {
-    let alloc = rt.alloc();
+/// A message of 4096 bytes, reversed for the Bitcoin block 7, and as it is for the block 6.
+fn longest_tree(alloc: Global) -> Result<Vec<u8>, Fail> {
     let argument = vec![in alloc; b'a'; 4064]?;
-    let tree = joined(
+    joined(
         alloc,
         &[
             b"\xf0\xe0\x1f",
@@ -184,12 +228,17 @@ fn a_message_of_4096_bytes_is_kept(rt: HostRuntime) -> Result<(), Fail> {
             b"\xff\xf2\x08\0\x05\x88\x96\x0d\x73\xd7\x19\x01\x01\x07",
             b"\x08\0\x05\x88\x96\x0d\x73\xd7\x19\x01\x01\x06",
         ],
-    )?;
-    let both = table(alloc, 6, &[LONGEST, LONGEST_REVERSED])?;
-    let first = table(alloc, 6, &[OTHER_ROOT, LONGEST_REVERSED])?;
-    assert_eq!(rt; best(alloc, &tree, (&both, None))?, at(Chain::Bitcoin, 6));
-    assert_eq!(rt; best(alloc, &tree, (&first, None))?, at(Chain::Bitcoin, 7));
-    Ok(())
+    )
+}
+
+#[test]
+fn a_message_of_4096_bytes_is_kept(rt: HostRuntime) -> Result<(), Fail> {
+    let alloc = rt.alloc();
+    let tree = longest_tree(alloc)?;
+    let both = &[LONGEST, LONGEST_REVERSED];
+    confirms_by(&rt, alloc, &tree, 6, both, at(Chain::Bitcoin, 6))?;
+    let first = &[OTHER_ROOT, LONGEST_REVERSED];
+    confirms_by(&rt, alloc, &tree, 6, first, at(Chain::Bitcoin, 7))
 }
 
 #[test]
