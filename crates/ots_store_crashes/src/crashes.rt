@@ -1,10 +1,20 @@
 // Images of a crash at each moment of adding an anchor and a group, opened again.
-use crate::steps::{Memory, add, add_anchor, add_tip, disk, new_store, opened};
-use ots_disk::{Choice, MemoryDisk};
+use crate::steps::{Memory, add, add_anchor, add_group, add_tip, disk, new_store, opened};
+use ots_disk::{Choice, Disk, MemoryDisk};
 use ots_io::Bytes;
-use ots_journal::{Entry, is_group};
+use ots_journal::Entry;
+use ots_store::Store;
 use std::alloc::Global;
 use std::test::Fail;
+
+// How many records a store has, which it takes one more after.
+fn takes_more<D: Disk>(store: &mut Store<D>) -> Option<u64> {
+    let count = store.entries();
+    if add(store, 77) < 0 || store.entries() != count + 1 {
+        return None;
+    }
+    Some(count)
+}
 
 // How many records the image of this choice holds, which the store takes one more after.
 fn left(alloc: Global, made: &MemoryDisk, moment: u64, choice: Choice) -> Result<u64, Fail> {
@@ -13,11 +23,7 @@ fn left(alloc: Global, made: &MemoryDisk, moment: u64, choice: Choice) -> Result
     }
     let image = made.image(moment, choice)?;
     let mut again = opened(alloc, disk(alloc, image.items(), &[])?)?;
-    let count = again.entries();
-    if add(&mut again, 77) < 0 || again.entries() != count + 1 {
-        return Err(Fail::from("not added"));
-    }
-    Ok(count)
+    Ok(takes_more(&mut again).ok_or("not added")?)
 }
 
 // Whether each choice at each of these moments leaves one of these counts.
@@ -86,15 +92,12 @@ fn group(alloc: Global) -> Result<Vec<Entry>, Fail> {
 
 // The group behind a commitment and its tip: calls 13 to 16.
 fn with_group(alloc: Global) -> Result<MemoryDisk, Fail> {
-    let mut store = with_tip(alloc)?;
     let entries = group(alloc)?;
-    if !store.is_sure() || !is_group(&entries) || store.first_bad(&entries).is_some() {
-        return Err(Fail::from("no group"));
+    let mut store = with_tip(alloc)?;
+    if !add_group(&mut store, &entries) {
+        return Err(Fail::from("not added"));
     }
-    match store.add_group(&entries) {
-        Ok(()) => Ok(store.into_disk()),
-        Err(_) => Err(Fail::from("not added")),
-    }
+    Ok(store.into_disk())
 }
 
 #[test]

@@ -1,12 +1,14 @@
 // The index and the ranges beside a walk over the list, on random runs.
-use crate::steps::{Memory, add, add_anchor, add_tip, new_store, opened};
+use crate::steps::{add, add_anchor, add_group, add_tip, index_of, new_store, opened};
+use ots_disk::Disk;
 use ots_io::Bytes;
-use ots_journal::{Entry, is_group};
+use ots_journal::Entry;
+use ots_store::Store;
 use std::alloc::Global;
 use std::test::Fail;
 
 // The least index by a walk.
-fn walk(store: &Memory, commitment: &[u8; 44]) -> Option<u64> {
+fn walk<D: Disk>(store: &Store<D>, commitment: &[u8; 44]) -> Option<u64> {
     for (i, stored) in store.commitments().iter().enumerate() {
         if stored == commitment {
             return Some(i as u64);
@@ -26,7 +28,7 @@ fn range(ranges: &[(u64, u64, u64)], i: u64) -> u64 {
 }
 
 // The commitments up to a value, one that is not there among them.
-fn same_indexes(store: &Memory, last: u8) -> bool {
+fn same_indexes<D: Disk>(store: &Store<D>, last: u8) -> bool {
     for value in 0..=last {
         let commitment = [value; 44];
         if store.index_of(&commitment) != walk(store, &commitment) {
@@ -36,7 +38,7 @@ fn same_indexes(store: &Memory, last: u8) -> bool {
     true
 }
 
-fn same_ranges(store: &Memory, ranges: &[(u64, u64, u64)]) -> bool {
+fn same_ranges<D: Disk>(store: &Store<D>, ranges: &[(u64, u64, u64)]) -> bool {
     for i in 0..40 {
         let height = match store.anchor_of(i) {
             Some(anchor) => anchor.height,
@@ -50,9 +52,9 @@ fn same_ranges(store: &Memory, ranges: &[(u64, u64, u64)]) -> bool {
 }
 
 // One commitment, tip or anchor more, where it may follow, by a number's bits.
-fn step(
+fn step<D: Disk>(
     alloc: Global,
-    store: &mut Memory,
+    store: &mut Store<D>,
     ranges: &mut Vec<(u64, u64, u64)>,
     choice: u64,
     height: u64,
@@ -71,9 +73,9 @@ fn step(
 }
 
 // An anchor of one of the tips, where it may follow.
-fn anchor(
+fn anchor<D: Disk>(
     alloc: Global,
-    store: &mut Memory,
+    store: &mut Store<D>,
     ranges: &mut Vec<(u64, u64, u64)>,
     choice: u64,
     height: u64,
@@ -89,21 +91,26 @@ fn anchor(
     Ok(())
 }
 
-// A run of 40 steps, compared after each.
-fn run(alloc: Global, seed: u64) -> Result<bool, Fail> {
-    let mut store = new_store(alloc, &[])?;
+// A run of 40 steps on a store, compared after each.
+fn run_on<D: Disk>(alloc: Global, store: &mut Store<D>, seed: u64) -> Result<bool, Fail> {
     let mut ranges: Vec<(u64, u64, u64)> = Vec::new(alloc);
     let mut state = seed;
     for height in 1..41 {
         state = state
             .wrapping_mul(6364136223846793005)
             .wrapping_add(1442695040888963407);
-        step(alloc, &mut store, &mut ranges, state >> 33, height)?;
-        if !same_indexes(&store, 11) || !same_ranges(&store, &ranges) {
+        step(alloc, store, &mut ranges, state >> 33, height)?;
+        if !same_indexes(store, 11) || !same_ranges(store, &ranges) {
             return Ok(false);
         }
     }
     Ok(ranges.len() > 1)
+}
+
+// The same on a new store.
+fn run(alloc: Global, seed: u64) -> Result<bool, Fail> {
+    let mut store = new_store(alloc, &[])?;
+    run_on(alloc, &mut store, seed)
 }
 
 #[test]
@@ -114,20 +121,30 @@ fn the_index_and_the_ranges_answer_as_a_walk(rt: HostRuntime) -> Result<(), Fail
     Ok(())
 }
 
-// 60 commitments, the value of each a step behind the one before, modulo one more than the last.
-// They are compared as they were added and as a store that is opened has them.
-fn stepping(alloc: Global, start: u64, step: u8, last: u8) -> Result<bool, Fail> {
-    let mut store = new_store(alloc, &[])?;
+// Adds 60 commitments, the value of each a step behind the one before, modulo one more than the last.
+fn add_stepping<D: Disk>(store: &mut Store<D>, start: u64, step: u8, last: u8) -> bool {
     let mut value = start;
     for i in 0..60 {
         value = (value % 256 + u64::from(step)) % (u64::from(last) + 1);
-        if add(&mut store, value as u8) != i {
-            return Ok(false);
+        if add(store, value as u8) != i {
+            return false;
         }
     }
-    let live = same_indexes(&store, 255);
-    let again = opened(alloc, store.into_disk())?;
-    Ok(live && again.commits() == 60 && same_indexes(&again, 255))
+    true
+}
+
+// Whether 60 commitments are there, and found as by a walk.
+fn are_found<D: Disk>(store: &Store<D>) -> bool {
+    store.commits() == 60 && same_indexes(store, 255)
+}
+
+// Whether they are found as they were added, and as a store that is opened has them.
+fn stepping(alloc: Global, start: u64, step: u8, last: u8) -> Result<bool, Fail> {
+    let mut store = new_store(alloc, &[])?;
+    if !add_stepping(&mut store, start, step, last) || !are_found(&store) {
+        return Ok(false);
+    }
+    Ok(are_found(&opened(alloc, store.into_disk())?))
 }
 
 #[test]
@@ -154,12 +171,19 @@ fn group(alloc: Global, start: u64, step: u8) -> Result<Vec<Entry>, Fail> {
     Ok(entries)
 }
 
-// Adds a group, of which no entry is bad.
-fn add_group(store: &mut Memory, entries: &[Entry]) -> bool {
-    if !store.is_sure() || !is_group(entries) || store.first_bad(entries).is_some() {
-        return false;
-    }
-    store.add_group(entries).is_ok()
+// Whether a group of commitments is added, and all that are there are found as by a walk.
+fn takes_group<D: Disk>(
+    alloc: Global,
+    store: &mut Store<D>,
+    start: u64,
+    step: u8,
+) -> Result<bool, Fail> {
+    Ok(add_group(store, &group(alloc, start, step)?) && same_indexes(store, 101))
+}
+
+// Whether 100 commitments are there, the one of the value 37 first.
+fn has_hundred<D: Disk>(store: &Store<D>) -> bool {
+    store.commits() == 100 && index_of(store, 37) == Some(0)
 }
 
 #[test]
@@ -167,10 +191,10 @@ fn groups_in_any_order_are_found_as_by_a_walk(rt: HostRuntime) -> Result<(), Fai
     let alloc = rt.alloc();
     let mut store = new_store(alloc, &[])?;
     // Shuffled, falling, rising among those that are there, and one value alone.
-    assert!(rt; add_group(&mut store, &group(alloc, 0, 37)?) && same_indexes(&store, 101));
-    assert!(rt; add_group(&mut store, &group(alloc, 90, 100)?) && same_indexes(&store, 101));
-    assert!(rt; add_group(&mut store, &group(alloc, 20, 1)?) && same_indexes(&store, 101));
-    assert!(rt; add_group(&mut store, &group(alloc, 7, 0)?) && same_indexes(&store, 101));
-    assert!(rt; store.commits() == 100 && store.index_of(&[37; 44]) == Some(0));
+    assert!(rt; takes_group(alloc, &mut store, 0, 37)?);
+    assert!(rt; takes_group(alloc, &mut store, 90, 100)?);
+    assert!(rt; takes_group(alloc, &mut store, 20, 1)?);
+    assert!(rt; takes_group(alloc, &mut store, 7, 0)?);
+    assert!(rt; has_hundred(&store));
     Ok(())
 }
