@@ -1,6 +1,6 @@
 // Proofs that calendars are asked to complete. Each is for the SHA-256 of `Hello World!` and LF.
 use ots_cli_runs::{Ended, Failing, proof_of, run_asking};
-use ots_io::ScriptDialer;
+use ots_io::{ScriptDialer, SentTo};
 use std::alloc::Global;
 use std::process::Abort;
 use std::test::Fail;
@@ -56,6 +56,24 @@ fn upgraded(
     run_asking(alloc, &words, &[("p", &proof)], replies, failing)
 }
 
+/// The run ended with this number and this text.
+fn expect_end(rt: &impl Abort, ended: &Ended, number: u8, text: &str) {
+    assert_eq!(rt; ended.status.number(), number);
+    assert_eq!(rt; ended.out.bytes(), text.as_bytes());
+}
+
+/// Under this name is the proof with this tree.
+fn expect_proof(
+    rt: &(impl Abort + AllocGlobal),
+    ended: &Ended,
+    name: &str,
+    tree: &[u8],
+) -> Result<(), Fail> {
+    let proof = proof_of(rt.alloc(), tree)?;
+    assert_eq!(rt; ended.shelf.bytes_of(name), Some(proof.as_slice()));
+    Ok(())
+}
+
 /// The run ended with this number and this text, and `o` holds the proof with this tree.
 fn expect(
     rt: &(impl Abort + AllocGlobal),
@@ -64,45 +82,46 @@ fn expect(
     text: &str,
     tree: &[u8],
 ) -> Result<(), Fail> {
-    let output = proof_of(rt.alloc(), tree)?;
-    assert_eq!(rt; ended.status.number(), number);
-    assert_eq!(rt; ended.out.bytes(), text.as_bytes());
-    assert_eq!(rt; ended.shelf.bytes_of("o"), Some(output.as_slice()));
-    Ok(())
+    expect_end(rt, ended, number, text);
+    expect_proof(rt, ended, "o", tree)
 }
 
 /// The run ended with this number and this text, and there is no output.
 fn expect_none(rt: &impl Abort, ended: &Ended, number: u8, text: &str) {
-    assert_eq!(rt; ended.status.number(), number);
-    assert_eq!(rt; ended.out.bytes(), text.as_bytes());
+    expect_end(rt, ended, number, text);
     assert_eq!(rt; ended.shelf.bytes_of("o"), None);
+}
+
+/// The calendar was sent the request, and no other was asked.
+fn expect_request(rt: &impl Abort, dialer: &ScriptDialer) {
+    let sent = SentTo {
+        host: "127.0.0.1",
+        port: 14788,
+        bytes: REQUEST,
+    };
+    assert_eq!(rt; dialer.sent(0), Some(sent));
+    assert_eq!(rt; dialer.sent(1), None);
 }
 
 #[test]
 fn an_answer_completes_the_proof(rt: HostRuntime) -> Result<(), Fail> {
     let (ended, dialer) = upgraded(rt.alloc(), CALENDAR, PENDING, &[REPLY], NONE)?;
+    expect_request(&rt, &dialer);
     expect(
         &rt,
         &ended,
         0,
         "http://127.0.0.1:14788 ok\ncomplete\n",
         COMPLETE,
-    )?;
-    let sent = dialer.sent(0).ok_or("nothing was sent")?;
-    assert_eq!(rt; sent.host, "127.0.0.1");
-    assert_eq!(rt; sent.port, 14788);
-    assert_eq!(rt; sent.bytes, REQUEST);
-    assert_eq!(rt; dialer.sent(1), None);
-    Ok(())
+    )
 }
 
 #[test]
 fn another_calendar_is_not_asked(rt: HostRuntime) -> Result<(), Fail> {
     let (ended, dialer) = upgraded(rt.alloc(), CALENDAR, USUAL, &[REPLY], NONE)?;
     let text = "skipped https://alice.btc.calendar.opentimestamps.org\npending\n";
-    expect(&rt, &ended, 1, text, USUAL)?;
     assert_eq!(rt; dialer.sent(0), None);
-    Ok(())
+    expect(&rt, &ended, 1, text, USUAL)
 }
 
 #[test]
@@ -199,19 +218,18 @@ fn a_bad_list_is_refused(rt: HostRuntime) -> Result<(), Fail> {
     expect_bad_list(&rt, "", "bad address at 0\n")
 }
 
+/// The proof with this tree under `p` is upgraded in its place.
+fn upgraded_in_place(alloc: Global, tree: &[u8]) -> Result<(Ended, ScriptDialer), Fail> {
+    let proof = proof_of(alloc, tree)?;
+    let words = ["upgrade", "--calendars", CALENDAR, "p", "p"];
+    run_asking(alloc, &words, &[("p", &proof)], &[REPLY], NONE)
+}
+
 #[test]
 fn an_output_that_is_there_is_refused_behind_the_lines(rt: HostRuntime) -> Result<(), Fail> {
-    let alloc = rt.alloc();
-    let proof = proof_of(alloc, PENDING)?;
-    let words = ["upgrade", "--calendars", CALENDAR, "p", "p"];
-    let (ended, _dialer) = run_asking(alloc, &words, &[("p", &proof)], &[REPLY], NONE)?;
-    assert_eq!(rt; ended.status.number(), 5);
-    assert_eq!(rt;
-        ended.out.bytes(),
-        b"http://127.0.0.1:14788 ok\nexists p\n".as_slice()
-    );
-    assert_eq!(rt; ended.shelf.bytes_of("p"), Some(proof.as_slice()));
-    Ok(())
+    let (ended, _dialer) = upgraded_in_place(rt.alloc(), PENDING)?;
+    expect_end(&rt, &ended, 5, "http://127.0.0.1:14788 ok\nexists p\n");
+    expect_proof(&rt, &ended, "p", PENDING)
 }
 
 /// A failed call of the shelf, by its number, ends with this number and this text.
@@ -227,8 +245,7 @@ fn expect_fault(
         writes: &[],
     };
     let (ended, _dialer) = upgraded(rt.alloc(), CALENDAR, PENDING, &[REPLY], failing)?;
-    assert_eq!(rt; ended.status.number(), number);
-    assert_eq!(rt; ended.out.bytes(), text.as_bytes());
+    expect_end(rt, &ended, number, text);
     Ok(())
 }
 
