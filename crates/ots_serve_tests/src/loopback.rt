@@ -1,6 +1,6 @@
 // A connection over a real socket of this machine, with both ends in one process.
 use crate::bytes::{STORED, TREE};
-use crate::runs::{On, bytes_of, run_with};
+use crate::runs::{On, run_with};
 use crate::serving::{DIGEST, tree_reply};
 use ots_io::{Accepter, DialedLink, Dialer, Link, LinkSink, TcpAccepter, TcpDialer, write_all};
 use std::test::Fail;
@@ -50,12 +50,9 @@ fn ask(rt: &HostRuntime, port: u16) -> Option<Vec<u8>> {
     None
 }
 
-#[test]
-fn one_round_over_a_real_socket(rt: HostRuntime) -> Result<(), Fail> {
-    let port = free_port(&rt)?;
-    let caller = thread::spawn(&rt, move || ask(&rt, port))?;
-    let number = format!(in rt.alloc(); "{port}")?;
-    let words = [
+// The words of serving one connection at this port.
+fn serve_at(port: &str) -> [&str; 10] {
+    [
         "j",
         "serve",
         "--key",
@@ -63,14 +60,22 @@ fn one_round_over_a_real_socket(rt: HostRuntime) -> Result<(), Fail> {
         "--uri",
         "http://127.0.0.1:14788",
         "--port",
-        number.as_str(),
+        port,
         "--accept",
         "1",
-    ];
+    ]
+}
+
+#[test]
+fn one_round_over_a_real_socket(rt: HostRuntime) -> Result<(), Fail> {
+    let port = free_port(&rt)?;
+    let caller = thread::spawn(&rt, move || ask(&rt, port))?;
+    let number = format!(in rt.alloc(); "{port}")?;
+    let words = serve_at(&number);
     let ended = run_with(&rt, &words, &On::new(&[], &[], 0), TcpAccepter::new(&rt))?;
     let printed = format!(in rt.alloc(); "listening {port}\nserved 1\n")?;
     assert!(rt; ended.is(0, &printed));
     assert!(rt; caller.join(&rt) == Some(tree_reply(rt.alloc(), TREE)?));
-    assert!(rt; ended.disk.bytes() == bytes_of(rt.alloc(), STORED)?.as_slice());
+    assert!(rt; ended.holds(rt.alloc(), STORED)?);
     Ok(())
 }

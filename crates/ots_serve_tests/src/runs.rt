@@ -4,10 +4,10 @@ ghost use Rattle.ots_base.specs.Told.{IfTold};
 ghost use Rattle.ots_outside.specs.Link.{IsFresh};
 
 use hex::decode;
-use ots_disk::{DiskRoom, MemoryDisk};
+use ots_disk::{Disk, DiskRoom, MemoryDisk};
 use ots_io::{
-    Accepter, BytesLink, BytesSink, FixedClock, ListAccepter, ListNonces, MapShelf, OutOfMemory,
-    ShelfRoom,
+    Accepter, BytesLink, BytesSink, Clock, FixedClock, ListAccepter, ListNonces, MapShelf, Nonces,
+    OutOfMemory, Shelf, ShelfRoom, Sink,
 };
 use ots_server::{DaemonStatus, run_calendar};
 use std::alloc::Global;
@@ -106,6 +106,11 @@ impl<A> Ended<A> {
     pub fn is(&self, number: u8, text: &str) -> bool {
         self.status.number() == number && self.out.bytes() == text.as_bytes()
     }
+
+    /// Whether its disk holds the bytes of these hexadecimal digits.
+    pub fn holds(&self, alloc: Global, digits: &str) -> Result<bool, Fail> {
+        Ok(self.disk.bytes() == bytes_of(alloc, digits)?.as_slice())
+    }
 }
 
 impl Ended<ListAccepter<BytesLink>> {
@@ -181,6 +186,51 @@ pub fn run(
     run_with(rt, words, on, accepter)
 }
 
+// The words, owned.
+fn words_of(alloc: Global, words: &[&str]) -> Result<Vec<String>, Fail> {
+    let mut owned = Vec::new(alloc);
+    for word in words {
+        owned.push(word.to_string(alloc)?)?;
+    }
+    Ok(owned)
+}
+
+// The nonces of the bytes 64 to 79, and then 16 times the byte 2.
+fn new_nonces(alloc: Global) -> Result<ListNonces, Fail> {
+    let mut nonces = b"@ABCDEFGHIJKLMNO".to_vec(alloc)?;
+    nonces.resize(160, 2)?;
+    Ok(ListNonces::new(alloc, &nonces, &[])?)
+}
+
+// A run on any objects: how it ended, the disk and the accepter.
+#[expect(clippy::too_many_arguments)]
+fn run_over<
+    D: Disk + Send,
+    S: Shelf,
+    K: Sink,
+    A: Accepter + Send,
+    C: Clock + Drop + Send,
+    N: Nonces + Send + Drop,
+    R: Threads + Wait + Sync,
+>(
+    rt: &R,
+    alloc: Global,
+    words: &[String],
+    disk: D,
+    shelf: &mut S,
+    out: &mut K,
+    accepter: A,
+    clock: C,
+    nonces: N,
+) -> (DaemonStatus, D, A)
+    requires { IfTold (A.returned accepter) (λ links. links ≡ []) }
+{
+    let (status, returned) = run_calendar(
+        rt, alloc, words, disk, shelf, out, accepter, clock, nonces,
+    );
+    (status, returned.disk, returned.accepter)
+}
+
 /// A run on these objects, whose connections come in here. The nonces are the bytes 64 to 79, and
 /// then 16 times the byte 2.
 pub fn run_with<A: Accepter + Send + Drop>(
@@ -192,15 +242,10 @@ pub fn run_with<A: Accepter + Send + Drop>(
     requires { IfTold (A.returned accepter) (λ links. links ≡ []) }
 {
     let alloc = rt.alloc();
-    let mut owned = Vec::new(alloc);
-    for word in words {
-        owned.push(word.to_string(alloc)?)?;
-    }
-    let mut nonces = b"@ABCDEFGHIJKLMNO".to_vec(alloc)?;
-    nonces.resize(160, 2)?;
+    let owned = words_of(alloc, words)?;
     let mut shelf = new_shelf(alloc, on.file)?;
     let mut out = BytesSink::new(alloc, 1000, on.sink)?;
-    let (status, returned) = run_calendar(
+    let (status, disk, accepter) = run_over(
         rt,
         alloc,
         &owned,
@@ -211,12 +256,12 @@ pub fn run_with<A: Accepter + Send + Drop>(
         FixedClock {
             second: 1_700_000_000,
         },
-        ListNonces::new(alloc, &nonces, &[])?,
+        new_nonces(alloc)?,
     );
     Ok(Ended {
         status,
         out,
-        disk: returned.disk,
-        accepter: returned.accepter,
+        disk,
+        accepter,
     })
 }

@@ -29,7 +29,7 @@ fn one_digest_is_stamped_and_the_other_link_is_left(rt: HostRuntime) -> Result<(
     assert!(rt; ended.is(0, "listening 14788\nserved 1\n"));
     assert_eq!(rt; ended.links(), (1, 1, 1));
     assert!(rt; ended.reply(0) == tree_reply(rt.alloc(), TREE)?.as_slice());
-    assert!(rt; ended.disk.bytes() == bytes_of(rt.alloc(), STORED)?.as_slice());
+    assert!(rt; ended.holds(rt.alloc(), STORED)?);
     Ok(())
 }
 
@@ -73,42 +73,64 @@ fn each_refused_request_has_its_reply(rt: HostRuntime) -> Result<(), Fail> {
     Ok(())
 }
 
-#[test]
-fn a_commitment_is_pending_and_then_complete(rt: HostRuntime) -> Result<(), Fail> {
-    let stored = bytes_of(rt.alloc(), STORED)?;
-    let pending = run(&rt, &SERVE_ALL, &On::new(&stored, QUESTION, 1))?;
-    let wanted = reply(rt.alloc(), "404 Not Found", "text/plain", b"pending\n")?;
-    assert!(rt; pending.reply(0) == wanted.as_slice());
-    let anchored = anchored(&rt, &stored)?;
-    let complete = run(&rt, &SERVE_ALL, &On::new(&anchored, QUESTION, 1))?;
-    assert!(rt; complete.reply(0) == tree_reply(rt.alloc(), COMPLETE)?.as_slice());
-    Ok(())
+// Whether the question for the stored commitment gets this reply, on this journal.
+fn answers(
+    rt: &(impl AllocGlobal + Threads + Wait + Sync),
+    journal: &[u8],
+    wanted: &[u8],
+) -> Result<bool, Fail> {
+    let ended = run(rt, &SERVE_ALL, &On::new(journal, QUESTION, 1))?;
+    Ok(ended.reply(0) == wanted)
 }
 
-// The journal with its tip, anchored in the block.
-fn anchored(
+// The journal with its tip.
+fn with_tip(
     rt: &(impl AllocGlobal + Threads + Wait + Sync),
     journal: &[u8],
 ) -> Result<Vec<u8>, Fail> {
-    let tip = run(rt, &["j", "tip"], &On::new(journal, &[], 0))?;
-    if !tip.is(0, TIP) {
+    let ended = run(rt, &["j", "tip"], &On::new(journal, &[], 0))?;
+    if !ended.is(0, TIP) {
         return Err(Fail::from("another tip"));
     }
-    let block = bytes_of(rt.alloc(), BLOCK)?;
-    let mut on = On::new(tip.disk.bytes(), &[], 0);
-    on.file = &block;
-    let anchored = run(rt, &["j", "anchor", "k", "--height", "7"], &on)?;
-    if !anchored.is(0, "anchored 0 1 block 7\n") {
+    Ok(ended.disk.bytes().to_vec(rt.alloc())?)
+}
+
+// The same, anchored in this block.
+fn anchored_in<'a>(
+    rt: &(impl AllocGlobal + Threads + Wait + Sync),
+    journal: &'a [u8],
+    block: &'a [u8],
+) -> Result<Vec<u8>, Fail> {
+    let mut on = On::new(journal, &[], 0);
+    on.file = block;
+    let ended = run(rt, &["j", "anchor", "k", "--height", "7"], &on)?;
+    if !ended.is(0, "anchored 0 1 block 7\n") {
         return Err(Fail::from("no anchor"));
     }
-    Ok(anchored.disk.bytes().to_vec(rt.alloc())?)
+    Ok(ended.disk.bytes().to_vec(rt.alloc())?)
+}
+
+#[test]
+fn a_commitment_is_pending_and_then_complete(rt: HostRuntime) -> Result<(), Fail> {
+    let alloc = rt.alloc();
+    let stored = bytes_of(alloc, STORED)?;
+    let pending = reply(alloc, "404 Not Found", "text/plain", b"pending\n")?;
+    assert!(rt; answers(&rt, &stored, &pending)?);
+    let anchored = anchored_in(&rt, &with_tip(&rt, &stored)?, &bytes_of(alloc, BLOCK)?)?;
+    assert!(rt; answers(&rt, &anchored, &tree_reply(alloc, COMPLETE)?)?);
+    Ok(())
+}
+
+// How many calls of the disk one digest takes.
+fn calls_of_one(rt: &(impl AllocGlobal + Threads + Wait + Sync)) -> Result<u64, Fail> {
+    let ended = run(rt, &SERVE_IN_TURN, &On::new(&[], DIGEST, 1))?;
+    Ok(ended.disk.calls().len() as u64)
 }
 
 // A disk that fails is told to the connection, and serving goes on.
 #[test]
 fn a_failing_disk_does_not_end_serving(rt: HostRuntime) -> Result<(), Fail> {
-    let well = run(&rt, &SERVE_IN_TURN, &On::new(&[], DIGEST, 1))?;
-    let last = [well.disk.calls().len() as u64];
+    let last = [calls_of_one(&rt)?];
     let mut on = On::new(&[], DIGEST, 2);
     on.disk = &last;
     let ended = run(&rt, &SERVE_IN_TURN, &on)?;
