@@ -1,6 +1,7 @@
 // What `batch` prints and stores, and its refusals.
 use crate::bytes::{DIGEST, DIGESTS, LISTED, NONCE, STORED, TREE, TREES};
-use crate::runs::{BATCH, On, bytes_of, ends, refuses, run_on};
+use crate::runs::{BATCH, On, bytes_of, does, ends, holds, refuses, run_on};
+use std::alloc::Global;
 use std::sync::Wait;
 use std::test::Fail;
 use std::thread::Threads;
@@ -10,18 +11,24 @@ fn one_digest_is_put_under_a_commitment(rt: HostRuntime) -> Result<(), Fail> {
     let on = On::new(&[], DIGEST.as_bytes(), NONCE);
     let ended = run_on(&rt, &BATCH, &on)?;
     assert!(rt; ends(&ended, 0, TREE));
-    assert!(rt; ended.disk.bytes() == bytes_of(rt.alloc(), STORED)?.as_slice());
-    let listed = run_on(&rt, &["j", "list"], &On::new(ended.disk.bytes(), &[], &[]))?;
-    assert!(rt; ends(&listed, 0, LISTED));
+    assert!(rt; holds(rt.alloc(), &ended, STORED)?);
+    let on = On::new(ended.disk.bytes(), &[], &[]);
+    assert!(rt; does(&rt, &["j", "list"], &on, 0, LISTED)?);
     Ok(())
+}
+
+// Three nonces, of 16 times the bytes 1, 2 and 3.
+fn three_nonces(alloc: Global) -> Result<Vec<u8>, Fail> {
+    let mut nonces = [1; 16].to_vec(alloc)?;
+    nonces.resize(32, 2)?;
+    nonces.resize(48, 3)?;
+    Ok(nonces)
 }
 
 #[test]
 fn three_digests_are_put_under_the_next_one(rt: HostRuntime) -> Result<(), Fail> {
     let journal = bytes_of(rt.alloc(), STORED)?;
-    let mut nonces = [1; 16].to_vec(rt.alloc())?;
-    nonces.resize(32, 2)?;
-    nonces.resize(48, 3)?;
+    let nonces = three_nonces(rt.alloc())?;
     let on = On::new(&journal, DIGESTS.as_bytes(), &nonces);
     let ended = run_on(&rt, &BATCH, &on)?;
     assert!(rt; ends(&ended, 0, TREES));
@@ -63,6 +70,16 @@ fn by_digests(
     refuses(rt, &BATCH, &on, number, line)
 }
 
+// A line of a digest of 65 bytes.
+fn long_line(alloc: Global) -> Result<String, Fail> {
+    let mut long = String::new(alloc);
+    for _ in 0..65 {
+        long.push_str("00")?;
+    }
+    long.push_str("\n")?;
+    Ok(long)
+}
+
 #[test]
 fn the_first_bad_line_is_told(rt: HostRuntime) -> Result<(), Fail> {
     assert!(rt; by_digests(&rt, "", 31, "bad digests line 1\n")?);
@@ -71,12 +88,7 @@ fn the_first_bad_line_is_told(rt: HostRuntime) -> Result<(), Fail> {
     assert!(rt; by_digests(&rt, "00\nabc\n", 31, "bad digests line 2\n")?);
     assert!(rt; by_digests(&rt, "00\n01\n0g\n02\n", 31, "bad digests line 3\n")?);
     assert!(rt; by_digests(&rt, "00\n01\r\n", 31, "bad digests line 2\n")?);
-    let mut long = String::new(rt.alloc());
-    for _ in 0..65 {
-        long.push_str("00")?;
-    }
-    long.push_str("\n")?;
-    assert!(rt; by_digests(&rt, &long, 31, "bad digests line 1\n")?);
+    assert!(rt; by_digests(&rt, &long_line(rt.alloc())?, 31, "bad digests line 1\n")?);
     Ok(())
 }
 
@@ -106,8 +118,7 @@ fn the_files_are_read_before_the_journal(rt: HostRuntime) -> Result<(), Fail> {
     let words = ["j", "batch", "--key", "k", "--uri", "http://a", "y"];
     let on = On::new(&[0x78; 20], DIGEST.as_bytes(), NONCE);
     assert!(rt; refuses(&rt, &words, &on, 4, "no file y\n")?);
-    let ended = run_on(&rt, &BATCH, &on)?;
-    assert!(rt; ends(&ended, 21, "not a journal\n"));
+    assert!(rt; does(&rt, &BATCH, &on, 21, "not a journal\n")?);
     Ok(())
 }
 
@@ -117,10 +128,8 @@ fn a_second_that_is_too_great_is_refused_before_a_nonce_is_drawn(
 ) -> Result<(), Fail> {
     let mut on = On::new(&[], DIGEST.as_bytes(), &[]);
     on.second = 4_294_967_296;
-    let ended = run_on(&rt, &BATCH, &on)?;
-    assert!(rt; ends(&ended, 33, "bad second 4294967296\n"));
+    assert!(rt; does(&rt, &BATCH, &on, 33, "bad second 4294967296\n")?);
     on.second = 4_294_967_295;
-    let ended = run_on(&rt, &BATCH, &on)?;
-    assert!(rt; ends(&ended, 11, "nonce fault\n"));
+    assert!(rt; does(&rt, &BATCH, &on, 11, "nonce fault\n")?);
     Ok(())
 }

@@ -1,21 +1,36 @@
 // Each call of the outside failing in turn.
 use crate::bytes::{DIGEST, MIGRATED, NONCE, OLD, STORED};
-use crate::runs::{BATCH, MIGRATE, On, bytes_of, ends, run_on};
+use crate::runs::{BATCH, Ended, MIGRATE, On, bytes_of, does, ends, holds, refuses, run_on};
 use std::sync::Wait;
 use std::test::Fail;
 use std::thread::Threads;
 
+// How many calls of the disk a run makes.
+fn calls_of(
+    rt: &(impl AllocGlobal + Threads + Wait + Sync),
+    words: &[&str],
+    on: &On<'_>,
+) -> Result<u64, Fail> {
+    Ok(run_on(rt, words, on)?.disk.calls().len() as u64)
+}
+
+// Whether a batch ends with a disk fault where this call fails.
+fn ends_at_the_disk(
+    rt: &(impl AllocGlobal + Threads + Wait + Sync),
+    call: u64,
+) -> Result<bool, Fail> {
+    let failing = [call];
+    let mut on = On::new(&[], DIGEST.as_bytes(), NONCE);
+    on.disk = &failing;
+    does(rt, &BATCH, &on, 25, "disk fault\n")
+}
+
 #[test]
 fn each_call_of_the_disk_fails_under_batch(rt: HostRuntime) -> Result<(), Fail> {
-    let on = On::new(&[], DIGEST.as_bytes(), NONCE);
-    let calls = run_on(&rt, &BATCH, &on)?.disk.calls().len() as u64;
+    let calls = calls_of(&rt, &BATCH, &On::new(&[], DIGEST.as_bytes(), NONCE))?;
     assert!(rt; calls > 4);
-    for call in 1..calls + 1 {
-        let failing = [call];
-        let mut on = on;
-        on.disk = &failing;
-        let ended = run_on(&rt, &BATCH, &on)?;
-        assert!(rt; ends(&ended, 25, "disk fault\n"));
+    for call in 1..=calls {
+        assert!(rt; ends_at_the_disk(&rt, call)?);
     }
     Ok(())
 }
@@ -29,56 +44,67 @@ fn resumes(
     let failing = [call];
     let ended = run_on(rt, &MIGRATE, &On::migrating(&[], old, &failing))?;
     let later = run_on(rt, &MIGRATE, &On::migrating(ended.disk.bytes(), old, &[]))?;
-    let whole = bytes_of(rt.alloc(), MIGRATED)?;
-    let stands = later.disk.bytes() == whole.as_slice();
+    let stands = holds(rt.alloc(), &later, MIGRATED)?;
     Ok(stands && ends(&ended, 25, "disk fault\n") && ends(&later, 0, "migrated 3\n"))
 }
 
 #[test]
 fn each_call_of_the_disk_fails_under_migrate(rt: HostRuntime) -> Result<(), Fail> {
     let old = bytes_of(rt.alloc(), OLD)?;
-    let well = run_on(&rt, &MIGRATE, &On::new(&[], &old, &[]))?;
-    let calls = well.disk.calls().len() as u64;
+    let calls = calls_of(&rt, &MIGRATE, &On::new(&[], &old, &[]))?;
     assert!(rt; calls > 4);
-    for call in 1..calls + 1 {
+    for call in 1..=calls {
         assert!(rt; resumes(&rt, &old, call)?);
     }
     Ok(())
 }
 
+// Whether a batch where this call of the shelf fails ends with this line, and calls no disk.
+fn ends_at_the_shelf(
+    rt: &(impl AllocGlobal + Threads + Wait + Sync),
+    call: u64,
+    line: &str,
+) -> Result<bool, Fail> {
+    let failing = [call];
+    let mut on = On::new(&[], DIGEST.as_bytes(), NONCE);
+    on.shelf = &failing;
+    refuses(rt, &BATCH, &on, 6, line)
+}
+
 #[test]
 fn each_call_of_the_shelf_fails(rt: HostRuntime) -> Result<(), Fail> {
-    for call in 1..7 {
-        let failing = [call];
-        let mut on = On::new(&[], DIGEST.as_bytes(), NONCE);
-        on.shelf = &failing;
-        let ended = run_on(&rt, &BATCH, &on)?;
-        let line = if call <= 3 {
-            "read fault k\n"
-        } else {
-            "read fault d\n"
-        };
-        assert!(rt; ends(&ended, 6, line));
-        assert!(rt; ended.disk.calls().is_empty());
+    for call in 1..4 {
+        assert!(rt; ends_at_the_shelf(&rt, call, "read fault k\n")?);
+    }
+    for call in 4..7 {
+        assert!(rt; ends_at_the_shelf(&rt, call, "read fault d\n")?);
     }
     Ok(())
+}
+
+// A migration where these calls of the shelf fail.
+fn migrate<'a>(
+    rt: &(impl AllocGlobal + Threads + Wait + Sync),
+    old: &'a [u8],
+    failing: &'a [u64],
+) -> Result<Ended, Fail> {
+    let mut on = On::new(&[], old, &[]);
+    on.shelf = failing;
+    run_on(rt, &MIGRATE, &on)
+}
+
+// Whether the file could not be read, and no disk was called.
+fn is_unread(ended: &Ended) -> bool {
+    ends(ended, 6, "read fault d\n") && ended.disk.calls().is_empty()
 }
 
 #[test]
 fn each_call_of_the_shelf_fails_under_migrate(rt: HostRuntime) -> Result<(), Fail> {
     let old = bytes_of(rt.alloc(), OLD)?;
     for call in 1..4 {
-        let failing = [call];
-        let mut on = On::new(&[], &old, &[]);
-        on.shelf = &failing;
-        let ended = run_on(&rt, &MIGRATE, &on)?;
-        assert!(rt; ends(&ended, 6, "read fault d\n"));
-        assert!(rt; ended.disk.calls().is_empty());
+        assert!(rt; is_unread(&migrate(&rt, &old, &[call])?));
     }
-    let failing = [4];
-    let mut on = On::new(&[], &old, &[]);
-    on.shelf = &failing;
-    assert!(rt; ends(&run_on(&rt, &MIGRATE, &on)?, 0, "migrated 3\n"));
+    assert!(rt; ends(&migrate(&rt, &old, &[4])?, 0, "migrated 3\n"));
     Ok(())
 }
 
@@ -97,7 +123,6 @@ fn the_sink_fails_once_the_commitment_is_stored(rt: HostRuntime) -> Result<(), F
     let mut on = On::new(&[], DIGEST.as_bytes(), NONCE);
     on.sink = &[1];
     let ended = run_on(&rt, &BATCH, &on)?;
-    assert!(rt; ends(&ended, 7, ""));
-    assert!(rt; ended.disk.bytes() == bytes_of(rt.alloc(), STORED)?.as_slice());
+    assert!(rt; ends(&ended, 7, "") && holds(rt.alloc(), &ended, STORED)?);
     Ok(())
 }

@@ -1,7 +1,12 @@
 // Runs of the calendar over objects in memory.
+ghost use Rattle.std.specs.Prelude.{◌≡◌, [], IfSome};
+
 use hex::decode;
-use ots_disk::{DiskRoom, MemoryDisk};
-use ots_io::{BytesLink, BytesSink, FixedClock, ListAccepter, ListNonces, MapShelf, ShelfRoom};
+use ots_disk::{Disk, DiskRoom, MemoryDisk};
+use ots_io::{
+    Accepter, BytesLink, BytesSink, Clock, FixedClock, ListAccepter, ListNonces, MapShelf, Nonces,
+    Shelf, ShelfRoom, Sink,
+};
 use ots_server::{DaemonStatus, run_calendar};
 use std::alloc::Global;
 use std::collections::VecDeque;
@@ -116,17 +121,17 @@ pub fn bytes_of(alloc: Global, digits: &str) -> Result<Vec<u8>, Fail> {
     }
 }
 
-/// A run on these objects.
-pub fn run_on(
-    rt: &(impl AllocGlobal + Threads + Wait + Sync),
-    words: &[&str],
-    on: &On<'_>,
-) -> Result<Ended, Fail> {
-    let alloc = rt.alloc();
+// The words, owned.
+fn words_of(alloc: Global, words: &[&str]) -> Result<Vec<String>, Fail> {
     let mut owned = Vec::new(alloc);
     for word in words {
         owned.push(word.to_string(alloc)?)?;
     }
+    Ok(owned)
+}
+
+// The shelf with the files `k` and `d`.
+fn shelf_of(alloc: Global, on: &On<'_>) -> Result<MapShelf, Fail> {
     let room = ShelfRoom {
         names: 3,
         name_length: 1,
@@ -136,9 +141,50 @@ pub fn run_on(
     let mut shelf = MapShelf::new(alloc, room, on.shelf)?;
     shelf.put("k", on.key)?;
     shelf.put("d", on.file)?;
+    Ok(shelf)
+}
+
+// A run on any objects: how it ended, and the disk.
+#[expect(clippy::too_many_arguments)]
+fn run_over<
+    D: Disk + Send,
+    S: Shelf,
+    K: Sink,
+    A: Accepter + Send + Drop,
+    C: Clock + Drop + Send,
+    N: Nonces + Send + Drop,
+    R: Threads + Wait + Sync,
+>(
+    rt: &R,
+    alloc: Global,
+    words: &[String],
+    disk: D,
+    shelf: &mut S,
+    out: &mut K,
+    accepter: A,
+    clock: C,
+    nonces: N,
+) -> (DaemonStatus, D)
+    requires { IfSome (A.returned accepter) (λ links. links ≡ []) }
+{
+    let (status, returned) = run_calendar(
+        rt, alloc, words, disk, shelf, out, accepter, clock, nonces,
+    );
+    (status, returned.disk)
+}
+
+/// A run on these objects.
+pub fn run_on(
+    rt: &(impl AllocGlobal + Threads + Wait + Sync),
+    words: &[&str],
+    on: &On<'_>,
+) -> Result<Ended, Fail> {
+    let alloc = rt.alloc();
+    let owned = words_of(alloc, words)?;
+    let mut shelf = shelf_of(alloc, on)?;
     let mut out = BytesSink::new(alloc, on.printed, on.sink)?;
     let links: VecDeque<BytesLink> = VecDeque::new(alloc);
-    let (status, returned) = run_calendar(
+    let (status, disk) = run_over(
         rt,
         alloc,
         &owned,
@@ -149,16 +195,28 @@ pub fn run_on(
         FixedClock { second: on.second },
         ListNonces::new(alloc, on.nonces, on.draws)?,
     );
-    Ok(Ended {
-        status,
-        out,
-        disk: returned.disk,
-    })
+    Ok(Ended { status, out, disk })
 }
 
 /// Whether a run ends with this number and prints this.
 pub fn ends(ended: &Ended, number: u8, text: &str) -> bool {
     ended.status.number() == number && ended.out.bytes() == text.as_bytes()
+}
+
+/// Whether its disk holds the bytes of these hexadecimal digits.
+pub fn holds(alloc: Global, ended: &Ended, digits: &str) -> Result<bool, Fail> {
+    Ok(ended.disk.bytes() == bytes_of(alloc, digits)?.as_slice())
+}
+
+/// Whether a run on these objects ends so.
+pub fn does(
+    rt: &(impl AllocGlobal + Threads + Wait + Sync),
+    words: &[&str],
+    on: &On<'_>,
+    number: u8,
+    text: &str,
+) -> Result<bool, Fail> {
+    Ok(ends(&run_on(rt, words, on)?, number, text))
 }
 
 /// Whether a run ends so, and calls no disk.
