@@ -20,7 +20,7 @@ for crate in "$top"/crates/*; do
     done
 done
 cp "$top/crates.txt" "$top/HANDLES" "$work"
-echo 'ots_cycle_tests tests_may=Threads+Wait: ots_cli_runs ots_cli ots_calendar_runs ots_service_tests ots_service ots_server ots_disk ots_io hex' >>"$work/crates.txt"
+echo 'ots_cycle_tests tests_may=Threads+Wait: ots_cli_runs ots_cli ots_calendar_runs ots_shared ots_service ots_outside ots_server ots_disk ots_io hex' >>"$work/crates.txt"
 mkdir -p "$work/crates/ots_cycle_tests/src" "$work/crates/ots_cycle_tests/specs"
 : >"$work/crates/ots_cycle_tests/specs/Lib.antt"
 for file in bytes calendar client cycle lib; do
