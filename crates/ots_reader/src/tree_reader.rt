@@ -15,11 +15,18 @@ use ots_tree::{Shape, Tree, TreeBuilder};
 use std::alloc::Global;
 use std::marker::Model;
 
+/// Before a piece is read, room is made for tokens of so many bytes. In most proofs they are longer: a
+/// hash takes one byte, and what is hashed with it, or attests it, many.
+const BYTES_OF_A_TOKEN: usize = 4;
+
 /// A tree that comes in pieces.
 ///
 /// It holds the tokens that have come, for each of them the number of operations before it, in four bytes, and
 /// what a `TokenReader` holds, which is all of its own memory: of the bytes only those of one token. However the
 /// bytes are cut, the time is that of reading each of them a few times.
+///
+/// Where memory allows, it makes room for a token for each four bytes of a piece before it reads them, so that
+/// what it holds is seldom moved. Where it doesn't, or more tokens come, its memory grows with them.
 ///
 /// Contracts see what the tree is read below, and what has become of the bytes so far.
 #[derive(Drop)]
@@ -126,6 +133,7 @@ fn read_piece(
     ensures shape { reader.new.shape ≡ reader.old.shape }
     ensures read { Reads reader.old piece.now reader.new tokens.new result }
 {
+    let _ = tokens.reserve(piece.len() / BYTES_OF_A_TOKEN);
     let alloc = tokens.allocator();
     let mut at = 0;
     loop {

@@ -52,6 +52,16 @@ impl TreeBuilder {
         *self.tokens.allocator()
     }
 
+    /// Makes room for so many more tokens at once. Without memory for that they need not be there: each
+    /// of them still takes its own.
+    pub fn reserve(&mut self, additional: usize) -> Result<(), OutOfMemory>
+        ensures { self.new ≡ self.old }
+    {
+        self.tokens.reserve(additional)?;
+        self.depths.reserve(additional)?;
+        Ok(())
+    }
+
     /// Puts the token behind the others. Without memory they stay as they are.
     pub fn push(&mut self, token: Token) -> Result<(), OutOfMemory>
         ensures pushed { IfOk result (λ _. self.new ≡ self.old ++ token ∷ []) }

@@ -137,6 +137,23 @@ fn a_fork_stands_before_each_item_but_the_last(rt: HostRuntime) -> Result<(), Fa
 }
 
 #[test]
+fn room_for_more_tokens_changes_no_tree(rt: HostRuntime) -> Result<(), Fail> {
+    let alloc = rt.alloc();
+    let mut tokens = begin(alloc);
+    tokens.reserve(100)?;
+    add_item(&mut tokens, Attestation::Bitcoin(0))?;
+    assert!(rt; tokens.reserve(usize::MAX).is_err());
+    let tree = end(tokens, Attestation::Bitcoin(7))?;
+    expect(
+        &rt,
+        alloc,
+        tree,
+        &[b"\xff", BITCOIN_0, BITCOIN_7],
+        &[0, 0, 0],
+    )
+}
+
+#[test]
 fn a_fork_below_an_operation_stays_below_it(rt: HostRuntime) -> Result<(), Fail> {
     let alloc = rt.alloc();
     let mut tokens = begin(alloc);
