@@ -1,10 +1,10 @@
 -- The one address of a word, and its URI.
-use Rattle.std.proofs.Common.{◌≡◌, ◌≤◌, ◌<◌, ◌/◌, ◌%◌, ◌^◌, ℕ, ◌+◌, zero, suc, Bool, true, false, inl, inr, List, [], ◌∷◌, ◌++◌, length, map, refl, sym, ap, subst, ◌∙◌, arith, length-append, le-ltb, cond}
-use Rattle.std.specs.Prelude.{Result, Ok, Err, MatchResult, IsTrue, Option, None, Some, codes, decimal, not, slice_index, ◌==◌}
+use Rattle.std.proofs.Common.{◌≡◌, ◌≤◌, ◌<◌, ◌%◌, ◌^◌, ℕ, ◌+◌, suc, Bool, true, false, inl, inr, List, [], ◌∷◌, ◌++◌, length, refl, sym, ap, subst, ◌∙◌, arith, length-append, le-ltb, cond}
+use Rattle.std.specs.Prelude.{Result, Ok, Err, MatchResult, IsTrue, None, codes, decimal, not, slice_index, ◌==◌}
 use Rattle.std.specs.List.{AllByRecursion, onto_first, position_from}
 use Rattle.std.proofs.lemmas.Bool.Decides.{nat_tests}
 use Rattle.std.proofs.lemmas.Fmt.{decimal_by_steps, length-decimal-le}
-use Rattle.ots_address.specs.Address.{AddressParts, IsAddress, IsHostAndPort, IsPortPart, colon, is_host_byte, text_of}
+use Rattle.ots_address.specs.Address.{AddressParts, IsAddress, IsPortPart, is_host_byte}
 use Rattle.ots_address.specs.AddressList.{IfBadAddress, IsListOf, comma, pieces_of}
 use Rattle.ots_address.specs.declared.list.AddressError.{AddressError}
 use Rattle.ots_address.specs.declared.list.AddressError.TheVariants as address

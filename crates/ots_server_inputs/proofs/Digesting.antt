@@ -1,6 +1,6 @@
 -- A file of digests, read to its end or to its first bad line.
-use Rattle.std.proofs.Common.{◌≡◌, ◌⊎◌, ◌<◌, ◌≤◌, ℕ, ◌+◌, suc, List, [], ◌∷◌, ◌++◌, length, Option, Some, None, refl, sym, ap, subst, ◌∙◌, inl, inr, arith, append-nil}
-use Rattle.std.specs.Prelude.{Result, Ok, Err, IsSome, IsErrAnd, IsErrOf, Vec}
+use Rattle.std.proofs.Common.{◌≡◌, ◌⊎◌, ◌≤◌, ℕ, List, [], ◌∷◌, ◌++◌, length, Option, Some, None, refl, sym, ap, subst, ◌∙◌, inl, inr, arith, append-nil}
+use Rattle.std.specs.Prelude.{Result, Ok, Err, IsSome, IsErrAnd, Vec}
 use Rattle.std.specs.FinMap as map
 use Rattle.std.specs.Option.{option_and_then}
 use Rattle.std.specs.Io.KnownBytes.{IsAtEnd}
@@ -8,15 +8,14 @@ use Rattle.std.specs.declared.alloc.Global.{Global}
 use Rattle.ots_base.specs.Told.{IfTold}
 use Rattle.ots_outside.specs.Shelf.{Names, ShelfFaults, ShelfTold}
 use Rattle.ots_outside.specs.Streams.{Gives}
-use Rattle.ots_server_text.specs.declared.status.DaemonStatus.{DaemonStatus}
 use Rattle.ots_server_text.specs.declared.status.DaemonStatus.TheVariants as status
 use Rattle.ots_server_inputs.specs.declared.digests.DigestsError.{DigestsError}
 use Rattle.ots_server_inputs.specs.declared.digests.DigestsError.TheVariants.{NoFile, BadDigests, ReadFault, OutOfMemory}
 use Rattle.ots_server_inputs.specs.declared.stop.Stop.{Stop}
-use Rattle.ots_server_inputs.specs.Digests.{BeginsLines, HasLine, IsBadLine, IsDigests, IsDigestsOf, RefusesDigests}
+use Rattle.ots_server_inputs.specs.Digests.{BeginsLines, IsBadLine, IsDigestsOf, RefusesDigests}
 use Rattle.ots_server_inputs.specs.DigestsFile.{DigestsAnswer, ReadsUnder, digests_status}
-use Rattle.ots_server_inputs.specs.File.{HasUnder, IsUnder}
-use Rattle.ots_server_inputs.specs.Input.{FaultAt, MayStop, not_there, is_refused, not_read, no_memory, OpensInput, RanOut, ReadsInput}
+use Rattle.ots_server_inputs.specs.File.{IsUnder}
+use Rattle.ots_server_inputs.specs.Input.{FaultAt, MayStop, not_there, is_refused, not_read, no_memory, ReadsInput}
 use Rattle.ots_server_inputs.specs.Lines.{CameTo, EndsLines, GivesDigests, IsOpen, ReadsDigests, ReadsPiece, StopsAtLine, StopsLines}
 use Rattle.ots_server_inputs.proofs.Lining.{came_bad, came_gave, came_lines, open_none}
 use Rattle.ots_server_inputs.proofs.Reading.{fault_at, opened_or}

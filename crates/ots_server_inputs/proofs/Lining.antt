@@ -1,14 +1,12 @@
 -- Lines of digests, one after another, and what is no line.
-use Rattle.std.proofs.Common.{◌≡◌, ◌≢◌, ◌<◌, ◌≤◌, ℕ, ◌+◌, ◌*◌, ◌-◌, zero, suc, true, false, inl, inr, List, [], ◌∷◌, ◌++◌, length, take, drop, get_or, Option, Some, None, min, refl, sym, ap, subst, ◌∙◌, arith, append_assoc, append-nil, length-append, length-drop, eqb-true, eq-eqb}
-use Rattle.std.specs.Prelude.{Result, Ok, Err}
+use Rattle.std.proofs.Common.{◌≡◌, ◌≢◌, ◌<◌, ◌≤◌, ℕ, ◌+◌, zero, suc, true, List, [], ◌∷◌, ◌++◌, length, take, drop, get_or, Option, refl, sym, ap, subst, ◌∙◌, arith, append_assoc, append-nil, length-append, length-drop, eqb-true, eq-eqb}
 use Rattle.std.specs.List.{AllByRecursion}
-use Rattle.std.proofs.lemmas.List.{get_or_append_left, get_or-append-add, take_at, take-append-le, take-append-drop, length-take, get_or-take, take-take, drop_more, drop-drop}
+use Rattle.std.proofs.lemmas.List.{get_or_append_left, take_at, take-append-le, take-append-drop, length-take, get_or-take, take-take, drop_more, drop-drop}
 use Rattle.hex.specs.Hex.{is_hex_digit}
 use Rattle.hex.proofs.HexLemmas.{decode_of-ok}
 use Rattle.memchr.specs.Find.{NoneBefore, Nowhere, Passes, is_byte}
-use Rattle.ots_base.specs.Told.{IfTold}
 use Rattle.ots_outside.specs.Streams.{Gives, Gives-nothing, Gives-trans}
-use Rattle.ots_server_inputs.specs.Digests.{BeginsLine, BeginsLines, HasLine, IsBadLine, IsDigest, IsDigests}
+use Rattle.ots_server_inputs.specs.Digests.{BeginsLine, BeginsLines, HasLine, IsBadLine, IsDigest}
 use Rattle.ots_server_inputs.specs.Lines.{CameTo, IsOpen, NoLine, ReadsPiece, StopsAtLine, TakenTo, TakesLines}
 
 -- ---- a line at the front

@@ -1,5 +1,5 @@
 -- A file that is no journal of version 1.
-use Rattle.std.proofs.Common.{◌≡◌, ℕ, List, inl, refl, sym, subst}
+use Rattle.std.proofs.Common.{◌≡◌, ◌≤◌, ℕ, List, inl, length, refl, sym, subst}
 use Rattle.std.specs.Prelude.{Result, Ok, Err, Vec}
 use Rattle.std.specs.declared.alloc.Global.{Global}
 use Rattle.ots_journal.specs.Version1.{Refuses1}
@@ -9,11 +9,12 @@ use Rattle.ots_journal.specs.declared.errors.OldError.TheVariants as old
 use Rattle.ots_journal.specs.declared.limits.TheConstants.{MAX_JOURNAL}
 use Rattle.ots_server_text.specs.declared.status.DaemonStatus.TheVariants.{Damaged}
 use Rattle.ots_server_inputs.specs.declared.file.FileError.{FileError}
-use Rattle.ots_server_inputs.specs.Input.{MeansInput}
+use Rattle.ots_server_inputs.specs.Input.{IsWithin, MeansInput}
 use Rattle.ots_server_inputs.specs.Old.{AreOldEntries, RefusesOld, damaged}
 
 pub old_damaged : (read : Result (Vec ℕ Global) FileError) (bytes : Vec ℕ Global) (items : List ℕ) (e : OldError) (place : ℕ) → read ≡ Ok bytes → items ≡ bytes.items
-    → e ≡ old.Damaged place → Refuses1 items e → MeansInput {A = Vec Entry Global} AreOldEntries RefusesOld MAX_JOURNAL read (Err (Damaged place))
-old_damaged read bytes items e place is same why refuses =
+    → e ≡ old.Damaged place → IsWithin MAX_JOURNAL read → Refuses1 items e → MeansInput {A = Vec Entry Global} AreOldEntries RefusesOld MAX_JOURNAL read (Err (Damaged place))
+old_damaged read bytes items e place is same why within refuses =
+    let few : length bytes.items ≤ MAX_JOURNAL = subst (IsWithin MAX_JOURNAL) is within in
     subst (λ (z : Result (Vec ℕ Global) FileError). MeansInput {A = Vec Entry Global} AreOldEntries RefusesOld MAX_JOURNAL z (Err (Damaged place))) (sym is)
-    (inl (damaged place (subst (λ (z : List ℕ). Refuses1 z (old.Damaged place)) same (subst (Refuses1 items) why refuses)) refl))
+    (inl (damaged place few (subst (λ (z : List ℕ). Refuses1 z (old.Damaged place)) same (subst (Refuses1 items) why refuses)) refl))

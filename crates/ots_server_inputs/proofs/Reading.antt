@@ -1,5 +1,5 @@
 -- What was read of a name is what is under it.
-use Rattle.std.proofs.Common.{◌≡◌, ◌≤◌, ◌<◌, ℕ, List, [], ◌∷◌, ◌++◌, length, Option, Some, None, refl, sym, ap, subst, ◌∙◌, inl, inr, arith, append-nil, length-append}
+use Rattle.std.proofs.Common.{◌≡◌, ◌≤◌, ℕ, List, ◌++◌, length, Option, Some, None, refl, sym, ap, subst, ◌∙◌, inl, inr, arith, append-nil, length-append}
 use Rattle.std.specs.Prelude.{Result, Ok, Err, IsSome, IsErrAnd, IsErrOf, Vec}
 use Rattle.std.specs.FinMap as map
 use Rattle.std.specs.Option.{option_and_then}
@@ -16,8 +16,8 @@ use Rattle.ots_server_text.specs.declared.status.DaemonStatus.TheVariants as sta
 use Rattle.ots_server_inputs.specs.declared.file.FileError.{FileError}
 use Rattle.ots_server_inputs.specs.declared.file.FileError.TheVariants.{NoFile, ReadFault, TooBig, OutOfMemory}
 use Rattle.ots_server_inputs.specs.declared.stop.Stop.{Stop}
-use Rattle.ots_server_inputs.specs.File.{FileAnswer, HasUnder, IsOpenedOrNot, IsUnder, Opens, OpensFile, ReadsFile, refused_read}
-use Rattle.ots_server_inputs.specs.Input.{FaultAt, InputAnswer, MayStop, not_there, is_refused, not_read, no_memory, MeansInput, OpensInput, ReadsInput}
+use Rattle.ots_server_inputs.specs.File.{FileAnswer, IsOpenedOrNot, IsUnder, ReadsFile, refused_read}
+use Rattle.ots_server_inputs.specs.Input.{FaultAt, MayStop, not_there, is_refused, not_read, no_memory, MeansInput, OpensInput, ReadsInput}
 
 -- The bytes that came begin what is under the name, and are all of it where the end was reached.
 record IsFront (told : Option Names) (name came : List ℕ) (whole : Type 0) : Type 0 where

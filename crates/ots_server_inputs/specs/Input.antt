@@ -1,5 +1,5 @@
 -- What a file's bytes mean, and why a name gave nothing.
-use Rattle.std.specs.Prelude.{◌≡◌, ◌⊎◌, ◌<◌, ℕ, List, [], ◌∷◌, length, take, Option, Some, None, Result, Ok, Err, Vec}
+use Rattle.std.specs.Prelude.{◌≡◌, ◌⊎◌, ◌<◌, ◌≤◌, ℕ, List, [], ◌∷◌, length, Option, None, Result, Ok, Err, Vec}
 use Rattle.std.specs.declared.alloc.Global.{Global}
 use Rattle.ots_base.specs.Cause.{Rose}
 use Rattle.ots_outside.specs.Shelf.{Names, NeverFalls, ShelfFaults, ShelfTold}
@@ -56,3 +56,8 @@ MeansInput Gives Refuses limit (Err file.NoFile) (Err s) = s ≡ NoFile
 MeansInput Gives Refuses limit (Err file.ReadFault) (Err s) = s ≡ ReadFault
 MeansInput Gives Refuses limit (Err file.TooBig) (Err s) = (bytes : List ℕ) → limit < length bytes → Refuses bytes s
 MeansInput Gives Refuses limit (Err file.OutOfMemory) (Err s) = s ≡ OutOfMemory
+
+-- What was read of a file has at most so many bytes.
+abbrev pub IsWithin : ℕ → Result (Vec ℕ Global) FileError → Type 0
+IsWithin limit (Ok bytes) = length bytes.items ≤ limit
+IsWithin limit (Err e) = Unit {0}

@@ -1,8 +1,7 @@
 //! The block file.
 
-ghost use Rattle.ots_server_inputs.specs.Block.{RefusesBlock};
-ghost use Rattle.ots_server_inputs.specs.Input.{MeansInput, ReadsInput};
-ghost use Rattle.ots_block.specs.Block.{IsBlock};
+ghost use Rattle.ots_server_inputs.specs.Block.{GivesBlock, RefusesBlock};
+ghost use Rattle.ots_server_inputs.specs.Input.{IsWithin, MeansInput, ReadsInput};
 ghost use Rattle.ots_base.specs.declared.limits.TheConstants.{MAX_PROOF_FILE};
 
 use crate::file::{FileError, read_file};
@@ -19,7 +18,7 @@ pub fn read_block<'a, S: Shelf>(
     name: &'a str,
     shelf: &mut S,
 ) -> Result<Block, Stop<'a>>
-    ensures { ReadsInput IsBlock RefusesBlock name.entry.now (S.told shelf.old) (S.told shelf.new) (S.faults shelf.old) (S.faults shelf.new) result }
+    ensures { ReadsInput GivesBlock RefusesBlock name.entry.now (S.told shelf.old) (S.told shelf.new) (S.faults shelf.old) (S.faults shelf.new) result }
 {
     let read = read_file(alloc, name, MAX_PROOF_FILE as u64, shelf);
     match block_of(alloc, read) {
@@ -28,9 +27,10 @@ pub fn read_block<'a, S: Shelf>(
     }
 }
 
-/// The block that these bytes are.
+/// The block that these bytes are, of which there are at most 4,194,304.
 fn block_of(alloc: Global, read: Result<Vec<u8>, FileError>) -> Result<Block, DaemonStatus>
-    ensures { MeansInput IsBlock RefusesBlock MAX_PROOF_FILE read result }
+    requires { IsWithin MAX_PROOF_FILE read }
+    ensures { MeansInput GivesBlock RefusesBlock MAX_PROOF_FILE read result }
 {
     match read {
         Ok(bytes) => match Block::read(alloc, &bytes) {

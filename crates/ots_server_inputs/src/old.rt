@@ -1,6 +1,6 @@
 //! The journal of version 1.
 ghost use Rattle.ots_journal.specs.declared.limits.TheConstants.{MAX_JOURNAL};
-ghost use Rattle.ots_server_inputs.specs.Input.{MeansInput, ReadsInput};
+ghost use Rattle.ots_server_inputs.specs.Input.{IsWithin, MeansInput, ReadsInput};
 ghost use Rattle.ots_server_inputs.specs.Old.{AreOldEntries, RefusesOld};
 
 use crate::file::{FileError, read_file};
@@ -25,8 +25,9 @@ pub fn read_old<'a, S: Shelf>(
     }
 }
 
-/// The entries that these bytes stand for.
+/// The entries that these bytes stand for, of which there are at most 1,073,741,824.
 fn entries_of(alloc: Global, read: Result<Vec<u8>, FileError>) -> Result<Vec<Entry>, DaemonStatus>
+    requires { IsWithin MAX_JOURNAL read }
     ensures { MeansInput AreOldEntries RefusesOld MAX_JOURNAL read result }
 {
     match read {

@@ -1,7 +1,3 @@
-use Rattle.std.proofs.Common.{inl, subst, sym, length}
-use Rattle.std.specs.Prelude.{Result}
-use Rattle.ots_address.specs.AddressList.{IfBadAddress}
-use Rattle.ots_server_inputs.specs.Address.{OneOf, bad}
 use Rattle.ots_server_inputs.proofs.Addressed.{address_bad, one_gives, some_addresses}
 use Rattle.ots_server_inputs.proofs.address.read_uri.Goals as goal
 
