@@ -4,3 +4,4 @@ mod Lining
 mod Olds
 mod Reading
 mod Digesting
+pub mod OneInput

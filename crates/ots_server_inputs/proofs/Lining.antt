@@ -18,12 +18,12 @@ digits_few digits digest is =
     let most = is.small.greatest in
     omega arith
 
-no_end : (digits digest : List ℕ) → IsDigest digits digest → (k : ℕ) → k < length digits → get_or digits k 0 ≡ 10 → ⊥
+pub no_end : (digits digest : List ℕ) → IsDigest digits digest → (k : ℕ) → k < length digits → get_or digits k 0 ≡ 10 → ⊥
 no_end digits digest is k less same =
     let digit : is_hex_digit 10 ≡ true = sym (ap is_hex_digit same) ∙ (decode_of-ok digits digest is.decoded).1 k 0 less in
     absurd cc
 
-behind_digits : (digits after : List ℕ) → get_or (digits ++ 10 ∷ after) (length digits) 0 ≡ 10
+pub behind_digits : (digits after : List ℕ) → get_or (digits ++ 10 ∷ after) (length digits) 0 ≡ 10
 behind_digits [] after = refl
 behind_digits (x ∷ digits) after = behind_digits digits after
 
