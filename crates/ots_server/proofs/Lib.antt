@@ -14,3 +14,8 @@ mod TreeLines
 mod Closing
 mod Carrying
 mod Migrating
+mod OneRound
+mod OneBook
+mod OneEnding
+mod OneAnchor
+mod OneAnswer

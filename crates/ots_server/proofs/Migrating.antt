@@ -22,7 +22,7 @@ use Rattle.ots_server_text.specs.declared.status.DaemonStatus.TheVariants.{Full}
 use Rattle.ots_server.specs.declared.migrate.MigrateError.{MigrateError}
 use Rattle.ots_server.specs.declared.migrate.MigrateError.TheVariants.{BadRecord, NotPrefix, NotStored}
 use Rattle.ots_outside.specs.Shelf.{Names}
-use Rattle.ots_server_inputs.specs.Old.{AreOldEntries, RefusesOld}
+use Rattle.ots_server_inputs.specs.Old.{AreOldEntries, GivesOld, RefusesOld}
 use Rattle.ots_server.specs.Answer.{WithInput, is_given, no_file, refuses, WithOld}
 use Rattle.ots_server.specs.Carrying.{Carries, CarriesOver, IsPrefix, StandsToFront, migrate_ending}
 use Rattle.ots_server.specs.Ending.{Comes, as_defined, disk_failed, no_memory, Ending, Ends, declined, nowhere}
@@ -130,9 +130,12 @@ pub carry_within : (limit most : ℕ) (all : List Entry) (gate : ℕ) (entries :
 carry_within limit most all gate entries disk images printing taken now r is h = subst (λ (z : ℕ). Ends (Comes (MigrateAnswers z all gate entries) nowhere disk) images printing taken now r) is h
 
 -- its payloads are those that a group may have
-pub old_fits : (bytes : List ℕ) (entries : List Entry) → Stands1 bytes entries → AllByRecursion FitsEntry entries
-old_fits bytes entries (inl none) = subst (AllByRecursion FitsEntry) (sym none.1) tt
-old_fits bytes entries (inr long) = long.begins.fit
+stands_fit : (bytes : List ℕ) (entries : List Entry) → Stands1 bytes entries → AllByRecursion FitsEntry entries
+stands_fit bytes entries (inl none) = subst (AllByRecursion FitsEntry) (sym none.1) tt
+stands_fit bytes entries (inr long) = long.begins.fit
+
+pub old_fits : (bytes : List ℕ) (entries : List Entry) → GivesOld bytes entries → AllByRecursion FitsEntry entries
+old_fits bytes entries is = stands_fit bytes entries is.stand
 
 -- ---- the entries that are missing, as a slice
 

@@ -1,5 +1,5 @@
 -- A task on the book of a disk, from opening it on; and a whole run.
-use Rattle.std.proofs.Common.{◌≡◌, ◌⊎◌, ◌≤◌, inl, inr, ℕ, List, [], length, Option, refl, sym, ap, subst, ◌∙◌, append-nil, ◌++◌, arith}
+use Rattle.std.proofs.Common.{◌≡◌, ◌⊎◌, ◌≤◌, inl, inr, ℕ, List, [], length, Option, refl, sym, ap, subst, ◌∙◌, append-nil, arith}
 use Rattle.ots_base.specs.Cause.{Rose}
 use Rattle.ots_block.specs.Block.{Contents}
 use Rattle.ots_disk.specs.Disk.{LeavesOnly}

@@ -1,11 +1,10 @@
 -- What serving names is read, and what comes of serving.
-use Rattle.std.proofs.Common.{◌≡◌, ◌≤◌, ◌+◌, ◌⊎◌, inl, inr, ℕ, Bool, true, false, List, [], ◌∷◌, ◌++◌, map, length, take, Option, Some, None, refl, sym, ap, subst, ◌∙◌, append-nil, append_assoc, length-append, arith}
+use Rattle.std.proofs.Common.{◌≡◌, ◌≤◌, ◌+◌, ◌⊎◌, inl, inr, ℕ, List, [], ◌∷◌, ◌++◌, map, length, take, Option, Some, None, refl, sym, ap, subst, ◌∙◌, append-nil, append_assoc, length-append, arith}
 use Rattle.std.proofs.Math.Seq.{take-append-add}
-use Rattle.std.specs.Prelude.{Result, Ok, Err}
+use Rattle.std.specs.Prelude.{Ok, Err}
 use Rattle.std.specs.List.{AllByRecursion}
-use Rattle.ots_base.specs.Cause.{Rose}
 use Rattle.ots_outside.specs.Shelf.{Names, ShelfFaults, ShelfTold}
-use Rattle.ots_outside.specs.Streams.{Takes, TakesFront, Takes-trans}
+use Rattle.ots_outside.specs.Streams.{Takes, Takes-trans}
 use Rattle.ots_journal.specs.declared.entry.Entry.{Entry}
 use Rattle.ots_journal.specs.Image.{Stands}
 use Rattle.ots_server_inputs.specs.Address.{IsOneAddress, MayRefuseAddress}
@@ -15,7 +14,7 @@ use Rattle.ots_server_inputs.specs.File.{HasUnder}
 use Rattle.ots_server_inputs.specs.declared.stop.Stop.{Stop}
 use Rattle.ots_server_words.specs.Words.{ServingAsked}
 use Rattle.ots_service.specs.declared.service.Service.{Service}
-use Rattle.ots_store.specs.Order.{AreRecords, records_of}
+use Rattle.ots_store.specs.Order.{records_of}
 use Rattle.ots_store.specs.Records.{IsRecord, Record, entry_of, record_of}
 use Rattle.ots_store.specs.Store.{InRecords, StoreStands, StoreTold}
 use Rattle.ots_shared.specs.Records.{StartsWith}

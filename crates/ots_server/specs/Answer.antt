@@ -1,6 +1,6 @@
 -- What a command answers: how it ends, by the words, by the files that they name, and by what the journal's file holds.
 use Rattle.std.specs.Prelude.{◌≡◌, ℕ, List, [], Option, Some, None}
-use Rattle.ots_block.specs.Block.{Contents, IsBlock}
+use Rattle.ots_block.specs.Block.{Contents}
 use Rattle.ots_outside.specs.Shelf.{Names}
 use Rattle.ots_journal.specs.declared.entry.Entry.{Entry}
 use Rattle.ots_journal.specs.declared.limits.TheConstants.{MAX_JOURNAL}
@@ -8,12 +8,11 @@ use Rattle.ots_store.specs.Order.{records_of}
 use Rattle.ots_server_text.specs.declared.status.DaemonStatus.{DaemonStatus}
 use Rattle.ots_server_text.specs.declared.status.DaemonStatus.TheVariants.{NoFile, Usage}
 use Rattle.ots_server_words.specs.Words.{AnchoringAsked, BatchAsked, ServingAsked, Command, serve, batch, tip, anchor, list, migrate}
-use Rattle.ots_journal.specs.Version1.{Stands1}
 use Rattle.ots_server_inputs.specs.Address.{IsOneAddress, RefusesAddress}
-use Rattle.ots_server_inputs.specs.Block.{RefusesBlock}
+use Rattle.ots_server_inputs.specs.Block.{GivesBlock, RefusesBlock}
 use Rattle.ots_server_inputs.specs.Digests.{IsDigests, RefusesDigests}
 use Rattle.ots_server_inputs.specs.Key.{GivesKey, RefusesKey}
-use Rattle.ots_server_inputs.specs.Old.{RefusesOld}
+use Rattle.ots_server_inputs.specs.Old.{GivesOld, RefusesOld}
 use Rattle.ots_server_inputs.specs.File.{HasUnder, IsUnder}
 use Rattle.ots_server.specs.Anchor.{AddsAnchor, AnchorAnswers}
 use Rattle.ots_server.specs.Batch.{AddsRound, DrawsFor, Outside, RoundAnswers}
@@ -47,11 +46,11 @@ pub data WithInput {A : Type 0} (names : Option Names) (name : List ℕ) (Gives 
 
 -- a block
 abbrev pub WithBlock : Option Names → List ℕ → (Contents → Ending → Type 0) → Ending → Type 0
-WithBlock names name = WithInput names name IsBlock RefusesBlock
+WithBlock names name = WithInput names name GivesBlock RefusesBlock
 
 -- a journal of version 1
 abbrev pub WithOld : Option Names → List ℕ → (List Entry → Ending → Type 0) → Ending → Type 0
-WithOld names name = WithInput names name Stands1 RefusesOld
+WithOld names name = WithInput names name GivesOld RefusesOld
 
 -- The word is one address, and the command goes on with its URI; or it is refused.
 pub data WithUri (word : List ℕ) (goes_on : List ℕ → Ending → Type 0) (e : Ending) : Type 0 where
@@ -90,6 +89,16 @@ Answers serves happens failed names told (Some (anchor asked)) e = WithBlock nam
 Answers serves happens failed names told (Some list) e = WithBook told ListAnswers e
 Answers serves happens failed names told (Some (migrate old)) e = WithOld names old (λ entries. WithStore told (MigrateAnswers MAX_JOURNAL entries)) e
 
+-- All commands but serving, which rests on who connects.
+abbrev pub IsAlone : Option Command → Type 0
+IsAlone None = Unit {0}
+IsAlone (Some (serve asked)) = ⊥
+IsAlone (Some (batch asked)) = Unit {0}
+IsAlone (Some tip) = Unit {0}
+IsAlone (Some (anchor asked)) = Unit {0}
+IsAlone (Some list) = Unit {0}
+IsAlone (Some (migrate old)) = Unit {0}
+
 -- No other command adds anything, but for serving, of which it is said apart.
 abbrev pub AddsNothing : List Entry → List Entry → Type 0
 AddsNothing entries added = ⊥
@@ -105,13 +114,13 @@ pub record AddsBatch (happens : Outside → Type 0) (names : Option Names) (aske
 -- The anchor of a tip in the block under its name.
 pub record AddsFound (names : Option Names) (asked : AnchoringAsked) (entries added : List Entry) : Type 0 where
   pub block : Contents
-  pub has_block : HasUnder names asked.block (λ bytes. IsBlock bytes block)
+  pub has_block : HasUnder names asked.block (λ bytes. GivesBlock bytes block)
   pub adds : AddsAnchor block asked.height entries added
 
 -- Entries of the old journal under its name.
 pub record AddsOld (names : Option Names) (name : List ℕ) (entries added : List Entry) : Type 0 where
   pub old : List Entry
-  pub has_old : HasUnder names name (λ bytes. Stands1 bytes old)
+  pub has_old : HasUnder names name (λ bytes. GivesOld bytes old)
   pub adds : AddsFront old entries added
 
 -- What the command may add to these entries.
@@ -162,9 +171,9 @@ IsReady names None = ⊥
 IsReady names (Some (serve asked)) = HasService names asked
 IsReady names (Some (batch asked)) = HasRound names asked
 IsReady names (Some tip) = Unit {0}
-IsReady names (Some (anchor asked)) = (block : Contents) × HasUnder names asked.block (λ bytes. IsBlock bytes block)
+IsReady names (Some (anchor asked)) = (block : Contents) × HasUnder names asked.block (λ bytes. GivesBlock bytes block)
 IsReady names (Some list) = Unit {0}
-IsReady names (Some (migrate old)) = (entries : List Entry) × HasUnder names old (λ bytes. Stands1 bytes entries)
+IsReady names (Some (migrate old)) = (entries : List Entry) × HasUnder names old (λ bytes. GivesOld bytes entries)
 
 -- Connections may be served: that is asked for, all that the words name is in order, and a book was opened.
 abbrev pub MayServe : Option Names → Option (List ℕ) → Option Command → Type 0

@@ -7,6 +7,7 @@
 
 mod anchor;
 mod batch;
+mod laws;
 mod list;
 mod migrate;
 mod opening;
@@ -18,5 +19,6 @@ mod task;
 mod tip;
 mod trees;
 
+pub use laws::one_answer;
 pub use ots_server_text::DaemonStatus;
 pub use run::{Returned, run_calendar};

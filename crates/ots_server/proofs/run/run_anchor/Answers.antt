@@ -1,6 +1,5 @@
 use Rattle.std.proofs.Common.{inr}
-use Rattle.ots_block.specs.Block.{IsBlock}
-use Rattle.ots_server_inputs.specs.Block.{RefusesBlock}
+use Rattle.ots_server_inputs.specs.Block.{GivesBlock, RefusesBlock}
 use Rattle.ots_server.specs.Answer.{is_given}
 use Rattle.ots_server.proofs.Inputs.{given_ends, given_moments, input_comes, reads_given, reads_refused, stop_ends}
 use Rattle.ots_server.proofs.Running.{idle_moments, uncalled}
@@ -8,7 +7,7 @@ use Rattle.ots_server.proofs.run.run_anchor.Goals as goal
 
 pub run_task-requires : goal.run_task-requires
 run_task-requires g c =
-    let is = c.in-Ok.ensures.answer.2 in
+    let is = c.in-Ok.ensures.answer.2.is_block in
     (c.args.asked.height_small, is.some, is.transactions.most)
 
 pub returns-in-Ok-clause-ends : goal.returns-in-Ok-clause-ends
@@ -22,7 +21,7 @@ pub returns-in-Ok-clause-shelf : goal.returns-in-Ok-clause-shelf
 returns-in-Ok-clause-shelf g c = reads_given c.in-Ok.block _ c.in-Ok.ensures
 
 pub returns-in-Err-clause-ends : goal.returns-in-Err-clause-ends
-returns-in-Err-clause-ends g c = stop_ends _ _ _ _ _ _ _ _ c.in-Err.stop (input_comes IsBlock RefusesBlock _ _ _ _ _ _ _ _ c.in-Err.stop c.in-Err.ensures.answer) c.refuse_input-status.ensures.printed
+returns-in-Err-clause-ends g c = stop_ends _ _ _ _ _ _ _ _ c.in-Err.stop (input_comes GivesBlock RefusesBlock _ _ _ _ _ _ _ _ c.in-Err.stop c.in-Err.ensures.answer) c.refuse_input-status.ensures.printed
 
 pub returns-in-Err-clause-moments : goal.returns-in-Err-clause-moments
 returns-in-Err-clause-moments g c = idle_moments g.D.Disk.clock g.D.Disk.images_since _ _ _ _ _ (uncalled g.D.Disk.clock g.D.Disk.images g.D.Disk.images_since g.met.D.Disk.only_now c.args.disk)

@@ -1,4 +1,4 @@
-use Rattle.std.proofs.Common.{inl, inr, refl, ⊎_elim}
+use Rattle.std.proofs.Common.{inl, inr, ⊎_elim}
 use Rattle.ots_server.specs.Answer.{is_given, is_uri}
 use Rattle.ots_server_words.specs.Words.{read_serving}
 use Rattle.ots_server.proofs.Serving.{service_stops}

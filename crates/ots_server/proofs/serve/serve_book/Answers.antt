@@ -1,4 +1,4 @@
-use Rattle.std.proofs.Common.{sym, subst}
+use Rattle.std.proofs.Common.{subst}
 use Rattle.ots_server_words.specs.Words.{read_serving}
 use Rattle.ots_serving.specs.Over.{IsDone}
 use Rattle.ots_server.proofs.Running.{rose_later}

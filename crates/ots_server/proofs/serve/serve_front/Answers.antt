@@ -1,5 +1,4 @@
 use Rattle.std.proofs.Common.{sym, subst}
-use Rattle.ots_server.specs.Moments.{StandsBehind}
 use Rattle.ots_server.proofs.Serving.{ends_so, store_keeps}
 use Rattle.ots_server.proofs.serve.serve_front.Goals as goal
 
