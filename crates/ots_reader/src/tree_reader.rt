@@ -15,8 +15,12 @@ use ots_tree::{Shape, Tree, TreeBuilder};
 use std::alloc::Global;
 use std::marker::Model;
 
-/// Before a piece is read, room is made for tokens of so many bytes. In most proofs they are longer: a
-/// hash takes one byte, and what is hashed with it, or attests it, many.
+/// For the tokens of a piece of so many bytes or more, room is made before they are read. The replies of
+/// calendars, of which many trees may be held at a time, are shorter.
+const LONG_PIECE: usize = 65_536;
+
+/// That room is for tokens of so many bytes. In most proofs they are longer: a hash takes one byte, and
+/// what is hashed with it, or attests it, many.
 const BYTES_OF_A_TOKEN: usize = 4;
 
 /// A tree that comes in pieces.
@@ -25,8 +29,8 @@ const BYTES_OF_A_TOKEN: usize = 4;
 /// what a `TokenReader` holds, which is all of its own memory: of the bytes only those of one token. However the
 /// bytes are cut, the time is that of reading each of them a few times.
 ///
-/// Where memory allows, it makes room for a token for each four bytes of a piece before it reads them, so that
-/// what it holds is seldom moved. Where it doesn't, or more tokens come, its memory grows with them.
+/// Before it reads a piece of 65,536 bytes or more it makes room for a token for each four of them, where memory
+/// allows, so that what it holds is seldom moved. Otherwise its memory grows with the tokens.
 ///
 /// Contracts see what the tree is read below, and what has become of the bytes so far.
 #[derive(Drop)]
@@ -133,7 +137,7 @@ fn read_piece(
     ensures shape { reader.new.shape ≡ reader.old.shape }
     ensures read { Reads reader.old piece.now reader.new tokens.new result }
 {
-    let _ = tokens.reserve(piece.len() / BYTES_OF_A_TOKEN);
+    make_room(tokens, piece);
     let alloc = tokens.allocator();
     let mut at = 0;
     loop {
@@ -145,6 +149,16 @@ fn read_piece(
         if next.last {
             return Ok(Fed::Done(at));
         }
+    }
+}
+
+/// Makes room for the tokens of a long piece. Without memory for it there is none, and each token takes
+/// its own.
+fn make_room(tokens: &mut TreeBuilder, piece: &[u8])
+    ensures { tokens.new ≡ tokens.old }
+{
+    if piece.len() >= LONG_PIECE {
+        let _ = tokens.reserve(piece.len() / BYTES_OF_A_TOKEN);
     }
 }
 
