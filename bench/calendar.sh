@@ -11,11 +11,11 @@ trap 'rm -rf "$work"' EXIT
 speed="$work/crates/calendar_speed"
 mkdir -p "$speed/src" "$speed/specs"
 for name in ots_base ots_outside ots_varint ots_ripemd ots_ops ots_attest ots_tree ots_merkle ots_bitcoin ots_block \
-    ots_anchor ots_disk ots_journal ots_store ots_round ots_tickets ots_calendar; do
+    ots_anchor ots_disk ots_file ots_journal ots_store ots_round ots_tickets ots_calendar; do
     cp -r "$here/../crates/$name" "$work/crates/$name"
     grep "^$name:" "$here/../crates.txt" >> "$work/crates.txt"
 done
-echo 'calendar_speed: ots_calendar ots_store ots_journal ots_disk ots_attest anyhow' >> "$work/crates.txt"
+echo 'calendar_speed: ots_calendar ots_store ots_journal ots_disk ots_file ots_attest anyhow' >> "$work/crates.txt"
 cp "$here/calendar/main.rt.in" "$speed/src/main.rt"
 : > "$speed/specs/Lib.antt"
 (cd "$speed" && rt run -- round "$work/first" 100 > "$work/log" 2>&1) || {

@@ -1,17 +1,17 @@
 #!/bin/sh
 # Measures ots_journal on a real file beside a C program that makes the same calls of the system: 2,000 appends
-# of a commitment, and the opening of a journal of 1 GiB. It needs rt, cc and 3 GB of room in FOLDER (the first
+# of a commitment, and the opening of a journal of 1 GiB, for which each syncs the file and drops its cached pages. It needs rt, cc and 3 GB of room in FOLDER (the first
 # word, else a temporary folder). The proved program is built in a folder of its own, outside the repository.
 set -eu
 here=$(cd "$(dirname "$0")" && pwd)
 work=$(mktemp -d -p "${1:-${TMPDIR:-/tmp}}")
 trap 'rm -rf "$work"' EXIT
 mkdir -p "$work/crates/journal_speed/src" "$work/crates/journal_speed/specs"
-for name in ots_base ots_outside ots_disk ots_journal; do
+for name in ots_base ots_outside ots_disk ots_file ots_journal; do
     cp -r "$here/../crates/$name" "$work/crates/$name"
     grep "^$name:" "$here/../crates.txt" >> "$work/crates.txt"
 done
-echo 'journal_speed: ots_journal ots_disk anyhow' >> "$work/crates.txt"
+echo 'journal_speed: ots_journal ots_file anyhow' >> "$work/crates.txt"
 cp "$here/journal/main.rt.in" "$work/crates/journal_speed/src/main.rt"
 : > "$work/crates/journal_speed/specs/Lib.antt"
 (cd "$work/crates/journal_speed" && rt run -- "$work/first" 1 > "$work/log" 2>&1) || {

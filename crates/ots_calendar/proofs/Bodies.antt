@@ -1,24 +1,23 @@
 -- How many bytes the trees have that a calendar answers.
-use Rattle.std.proofs.Common.{◌≡◌, ℕ, zero, suc, ◌+◌, ◌-◌, ◌*◌, ◌^◌, ◌<◌, ◌≤◌, Bool, true, false, List, [], ◌∷◌, ◌++◌, length, map, take, drop, get_or, nat_lt, refl, sym, ap, ◌∙◌, arith, length-append, length-drop}
+use Rattle.std.proofs.Common.{◌≡◌, ℕ, zero, suc, ◌+◌, ◌-◌, ◌*◌, ◌^◌, ◌<◌, ◌≤◌, Bool, true, false, List, [], ◌∷◌, ◌++◌, length, map, take, drop, get_or, nat_lt, refl, ap, arith, length-append, length-drop}
 use Rattle.std.proofs.lemmas.Bool.{ltb-true, ltb-false}
-use Rattle.std.proofs.lemmas.List.{length-map, length-take-le}
-use Rattle.std.specs.Prelude.{Option, Some, None, find, slice_get}
+use Rattle.std.proofs.lemmas.List.{length-map}
+use Rattle.std.specs.Prelude.{Option, Some, None, find}
 use Rattle.std.specs.Int.{w32, to_be_bytes}
 use Rattle.std.specs.List.{AllByRecursion}
 use Rattle.sha2.specs.Sha256.{sha256}
 use Rattle.sha2.proofs.Facts256.{length-sha256}
 use Rattle.ots_anchor.specs.Path.{hashed, before, behind, twice, climb, complete_path, AreSteps}
-use Rattle.ots_attest.specs.Attestation.{IsAttestation, payload, spell as spell_attestation}
+use Rattle.ots_attest.specs.Attestation.{payload, spell as spell_attestation}
 use Rattle.ots_attest.specs.Uri.{IsUri}
 use Rattle.ots_attest.specs.declared.attestation.Attestation.{Attestation}
 use Rattle.ots_attest.specs.declared.attestation.Attestation.TheVariants as ending
 use Rattle.ots_attest.proofs.Lengths.{spelled_length}
 use Rattle.ots_journal.specs.declared.entry.Entry.{Entry}
 use Rattle.ots_merkle.specs.CalendarTree.{root, root_within, path_within, path}
-use Rattle.ots_merkle.specs.Hashes.{AreHashes}
 use Rattle.ots_merkle.specs.declared.branch.Side.{Side}
 use Rattle.ots_merkle.specs.declared.branch.Side.TheVariants.{Left, Right}
-use Rattle.ots_merkle.proofs.PathLaws.{path_at_height, path_lower, path_left, path_right, path_short, root_lower, root_split}
+use Rattle.ots_merkle.proofs.PathLaws.{path_at_height, path_lower, path_left, path_right, root_lower, root_split}
 use Rattle.ots_ops.specs.Operation.{spell as spell_op}
 use Rattle.ots_ops.specs.declared.op.Op.{Op}
 use Rattle.ots_ops.specs.declared.op.Op.TheVariants.{Sha256, Append, Prepend}

@@ -9,17 +9,24 @@ use Rattle.ots_journal.specs.declared.errors.AppendError.TheVariants.{DiskFault,
 use Rattle.ots_journal.specs.Journal.{JournalTold, Refreshed, Unrefreshed}
 use Rattle.ots_store.specs.declared.anchor.Anchor.{Anchor}
 use Rattle.ots_store.specs.declared.tip.Tip.{Tip}
-use Rattle.ots_store.specs.Store.{StoreTold, Added, Adds}
+use Rattle.ots_store.specs.Store.{StoreTold, Added, Adds, MakesRoom, with_room}
 use Rattle.ots_calendar.specs.declared.errors.AnchorError.{AnchorError}
 use Rattle.ots_calendar.specs.declared.errors.TipError.{TipError}
 use Rattle.ots_calendar.specs.Anchors.{AnchorsIn, AsksAnchor}
-use Rattle.ots_calendar.specs.Book.{BookTold, Grows}
+use Rattle.ots_calendar.specs.Book.{BookTold, Grows, StopsInRoom}
 use Rattle.ots_calendar.specs.Rounds.{Closes}
 use Rattle.ots_calendar.specs.Tips.{TipAfter, AsksTip}
 
 -- nothing changes
 pub stays : {D : Type 0} (old new : JournalTold D) → new ≡ old → Grows old new
 stays old new same = record { limit = ap (λ (j : JournalTold _). j.limit) same; more = []; entries = ap (λ (j : JournalTold _). j.entries) same ∙ sym (append-nil old.entries) }
+
+-- only room is made
+pub room_grows : {D : Type 0} (old new : JournalTold D) → MakesRoom old new → Grows old new
+room_grows old new room = record { limit = ap (λ (j : JournalTold _). j.limit) room.same; more = []; entries = ap (λ (j : JournalTold _). j.entries) room.same ∙ sym (append-nil old.entries) }
+
+in_room : {D : Type 0} (old new : JournalTold D) (spare_entries spare_bytes : ℕ) → Grows (with_room old spare_entries spare_bytes) new → Grows old new
+in_room old new spare_entries spare_bytes grows = record { limit = grows.limit; more = grows.more; entries = grows.entries }
 
 -- one call behind the other
 pub onward : {D : Type 0} (old mid new : JournalTold D) → Grows old mid → Grows mid new → Grows old new
@@ -49,21 +56,33 @@ added clock since old new group (Err (Full need limit)) a = stays old new a.outc
 added clock since old new group (Err OutOfMemory) a = stays old new a.outcome
 
 pub adds : {D A : Type 0} (bytes : D → Option (List ℕ)) (clock : D → ℕ) (since : D → ℕ → List ℕ → Type 0) (old new : JournalTold D) (group : List Entry) (result : Result A AppendError) → Adds bytes clock since old new group result → Grows old new
-adds bytes clock since old new group result (inl after) = onward old after.mid new (refreshed bytes old after.mid after.refreshed) (added clock since after.mid new group result after.added)
-adds bytes clock since old new group result (inr nothing) = unrefreshed bytes old new nothing.unrefreshed
+adds bytes clock since old new group result (inl after) =
+    let roomy = with_room old after.spare_entries after.spare_bytes in
+    onward old after.mid new (in_room old after.mid after.spare_entries after.spare_bytes (refreshed bytes roomy after.mid after.refreshed)) (added clock since after.mid new group result after.added)
+adds bytes clock since old new group result (inr (inl nothing)) =
+    in_room old new nothing.spare_entries nothing.spare_bytes (unrefreshed bytes (with_room old nothing.spare_entries nothing.spare_bytes) new nothing.unrefreshed)
+adds bytes clock since old new group result (inr (inr untouched)) = room_grows old new untouched.room
 
 module _ {D : Type 0} (bytes : D → Option (List ℕ)) (clock : D → ℕ) (since : D → ℕ → List ℕ → Type 0) where
   tip_after : (mid new : JournalTold D) (result : Result Tip TipError) → TipAfter clock since new result mid → Grows mid new
   tip_after mid new result (inl nothing) = stays mid new nothing.1
-  tip_after mid new result (inr (inl gives)) = elim gives.stores [
+  tip_after mid new result (inr gives) = elim gives.stores [
     | inl there ↦ stays mid new there.1
     | inr more ↦ added clock since mid new _ gives.stored more.1
   ]
-  tip_after mid new result (inr (inr short)) = stays mid new short.0
+
+  pub on_grows : (old mid : JournalTold D) (spare_entries spare_bytes : ℕ) → Refreshed bytes (with_room old spare_entries spare_bytes) mid → Grows old mid
+  on_grows old mid spare_entries spare_bytes r = in_room old mid spare_entries spare_bytes (refreshed bytes (with_room old spare_entries spare_bytes) mid r)
+
+  pub stop_grows : (old new : JournalTold D) → StopsInRoom bytes clock since old new → Grows old new
+  stop_grows old new stop = in_room old new stop.spare_entries stop.spare_bytes (unrefreshed bytes (with_room old stop.spare_entries stop.spare_bytes) new stop.stops.unrefreshed)
 
   pub tip_grows : (old new : JournalTold D) (result : Result Tip TipError) → AsksTip bytes clock since old new result → Grows old new
-  tip_grows old new result (inl on) = onward old on.mid new (refreshed bytes old on.mid on.refreshed) (tip_after on.mid new result on.goes_on)
-  tip_grows old new result (inr stop) = unrefreshed bytes old new (stop.0).unrefreshed
+  tip_grows old new result (inl on) =
+      let g = on.goes_on in
+      onward old g.mid new (on_grows old g.mid on.spare_entries on.spare_bytes g.refreshed) (tip_after g.mid new result g.goes_on)
+  tip_grows old new result (inr (inl stop)) = stop_grows old new stop.0
+  tip_grows old new result (inr (inr short)) = room_grows old new short.0
 
   anchor_in : (block : Contents) (height : ℕ) (old new : JournalTold D) (result : Result Anchor AnchorError) → AnchorsIn bytes clock since block height old new result → Grows old new
   anchor_in block height old new result (inl on) = elim on.goes_on [

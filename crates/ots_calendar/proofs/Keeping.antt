@@ -12,8 +12,8 @@ use Rattle.ots_store.specs.declared.anchor.Anchor.{Anchor}
 use Rattle.ots_store.specs.declared.tip.Tip.{Tip}
 use Rattle.ots_store.specs.Order.{commits_of, records_of, Follows, FollowsTip, FollowsAnchor}
 use Rattle.ots_store.specs.Records.{Record, CommitRecord, TipRecord, AnchorRecord, entry_of, record_of, FitsTip, FitsAnchor}
-use Rattle.ots_store.specs.Store.{InRecords, StoreTold, StoreStands, Added, Adds}
-use Rattle.ots_store.proofs.Adding.{nothing_flies}
+use Rattle.ots_store.specs.Store.{InRecords, StoreTold, StoreStands, Added, Adds, MakesRoom, with_room}
+use Rattle.ots_store.proofs.Adding.{nothing_flies, room_leaves}
 use Rattle.ots_store.proofs.Ordered.{commits_append, orderly, records_push}
 use Rattle.ots_store.proofs.Spellings.{record_read, is_record}
 use Rattle.ots_calendar.specs.Book.{StandsForBook, Keeps}
@@ -79,6 +79,57 @@ module _ {D : Type 0} (bytes : D → Option (List ℕ)) (images : D → List ℕ
   refresh_readable (Ok x) ok err = readable_at s.journal.is_sure refl (nothing_flies bytes s.journal new ok)
   refresh_readable (Err e) ok err = readable_at s.journal.is_sure refl (λ sure. not_both s.journal.is_sure sure err.was_unsure)
 
+-- ---- room
+
+-- a store whose journal has so much room
+abbrev roomy : {D : Type 0} → StoreTold D → ℕ → ℕ → StoreTold D
+roomy s spare_entries spare_bytes = record s { journal = with_room s.journal spare_entries spare_bytes }
+
+roomy_keeps : {D : Type 0} (j : JournalTold D) (tree : TreeTold) (spare_entries spare_bytes : ℕ) → Keeps j tree → Keeps (with_room j spare_entries spare_bytes) tree
+roomy_keeps j tree spare_entries spare_bytes k = record { are_true = k.are_true; flying = k.flying; over = k.over }
+
+roomy_stands : {D : Type 0} (bytes : D → Option (List ℕ)) (images : D → List ℕ → Type 0) (s : StoreTold D) (spare_entries spare_bytes : ℕ) → StoreStands bytes images s → StoreStands bytes images (roomy s spare_entries spare_bytes)
+roomy_stands bytes images s spare_entries spare_bytes stands = record {
+  journal = record { either = stands.journal.either; sure = stands.journal.sure; read = stands.journal.read; within = stands.journal.within };
+  records = stands.records;
+  are = stands.are;
+  flying = stands.flying;
+  each = stands.each;
+}
+
+pub room_keeps : {D : Type 0} (old new : JournalTold D) (tree : TreeTold) → Keeps old tree → MakesRoom old new → Keeps new tree
+room_keeps old new tree k room = subst (λ (j : JournalTold _). Keeps j tree) (sym room.same) (roomy_keeps old tree new.spare_entries new.spare_bytes k)
+
+module _ {D : Type 0} (bytes : D → Option (List ℕ)) (images : D → List ℕ → Type 0) (s : StoreTold D) (tree : TreeTold) (k : Keeps s.journal tree) (stands : StoreStands bytes images s) where
+  image_at : (b : Bool) → s.journal.is_sure ≡ b → (c : List ℕ) → images s.journal.disk c → StandsForBook c
+  image_at true sure c image = record { entries = s.journal.entries; stands = stands.journal.sure sure c image; records = stands.are; are_true = k.are_true }
+  image_at false unsure c image = either_books s.journal.entries s.journal.flight stands.are (stands.flying unsure) k.are_true (k.flying unsure) c (stands.journal.either c image)
+
+  -- where the disk is not called, a book can be opened on what it has
+  pub room_readable : (clock : D → ℕ) (since : D → ℕ → List ℕ → Type 0) (only_now : (d : D) (c : List ℕ) → since d (clock d) c → images d c) (new : JournalTold D) → MakesRoom s.journal new
+      → LeavesOnly clock since s.journal.disk new.disk StandsForBook
+  room_readable clock since only_now new room = room_leaves clock images since only_now s.journal new StandsForBook room (image_at s.journal.is_sure refl)
+
+-- a refresh in a journal in which room was made
+module _ {D : Type 0} (bytes : D → Option (List ℕ)) (old new : JournalTold D) (tree : TreeTold) (spare_entries spare_bytes : ℕ) (k : Keeps old tree) where
+  pub on_keeps : Refreshed bytes (with_room old spare_entries spare_bytes) new → Keeps new tree
+  on_keeps r = refresh_keeps bytes (with_room old spare_entries spare_bytes) new tree (roomy_keeps old tree spare_entries spare_bytes k) {A = Unit {0}} {E = Unit {0}} (Ok tt) r tt
+
+  pub off_keeps : Unrefreshed bytes (with_room old spare_entries spare_bytes) new → Keeps new tree
+  off_keeps r = refresh_keeps bytes (with_room old spare_entries spare_bytes) new tree (roomy_keeps old tree spare_entries spare_bytes k) {A = Unit {0}} {E = Unit {0}} (Err tt) tt r
+
+module _ {D : Type 0} (bytes : D → Option (List ℕ)) (images : D → List ℕ → Type 0) (clock : D → ℕ) (since : D → ℕ → List ℕ → Type 0) (s : StoreTold D) (new : JournalTold D) (tree : TreeTold)
+    (k : Keeps s.journal tree) (stands : StoreStands bytes images s) (spare_entries spare_bytes : ℕ) (run : LeavesOnly clock since s.journal.disk new.disk (StandsForEither s.journal.entries s.journal.flight)) where
+  pub on_readable : Refreshed bytes (with_room s.journal spare_entries spare_bytes) new → LeavesOnly clock since s.journal.disk new.disk StandsForBook
+  on_readable r =
+      refresh_readable bytes images clock since (roomy s spare_entries spare_bytes) new tree (roomy_keeps s.journal tree spare_entries spare_bytes k) (roomy_stands bytes images s spare_entries spare_bytes stands) run
+      {A = Unit {0}} {E = Unit {0}} (Ok tt) r tt
+
+  pub off_readable : Unrefreshed bytes (with_room s.journal spare_entries spare_bytes) new → LeavesOnly clock since s.journal.disk new.disk StandsForBook
+  off_readable r =
+      refresh_readable bytes images clock since (roomy s spare_entries spare_bytes) new tree (roomy_keeps s.journal tree spare_entries spare_bytes k) (roomy_stands bytes images s spare_entries spare_bytes stands) run
+      {A = Unit {0}} {E = Unit {0}} (Err tt) tt r
+
 -- ---- a record more
 
 module _ {D A : Type 0} (clock : D → ℕ) (since : D → ℕ → List ℕ → Type 0) (old new : JournalTold D) (tree : TreeTold) (e : Entry)
@@ -130,9 +181,10 @@ anchor_records records entries a same are fits follows =
 
 -- ---- a commitment more, behind a refresh
 
-found_at : {D : Type 0} (bytes : D → Option (List ℕ)) (images : D → List ℕ → Type 0) (s : StoreTold D) (mid : JournalTold D) (b : Bool) → StoreStands bytes images s → s.journal.is_sure ≡ b → Refreshed bytes s.journal mid → InRecords mid.entries
-found_at bytes images s mid true stands sure r = subst (λ (j : JournalTold _). InRecords j.entries) (sym (r.already sure)) stands.are
-found_at bytes images s mid false stands unsure r = elim (r.decided unsure) [
+found_at : {D : Type 0} (bytes : D → Option (List ℕ)) (images : D → List ℕ → Type 0) (s : StoreTold D) (mid : JournalTold D) (spare_entries spare_bytes : ℕ) (b : Bool) → StoreStands bytes images s → s.journal.is_sure ≡ b
+    → Refreshed bytes (with_room s.journal spare_entries spare_bytes) mid → InRecords mid.entries
+found_at bytes images s mid spare_entries spare_bytes true stands sure r = subst (λ (j : JournalTold _). InRecords j.entries) (sym (r.already sure)) stands.are
+found_at bytes images s mid spare_entries spare_bytes false stands unsure r = elim (r.decided unsure) [
   | inl same ↦ subst InRecords (sym same.0) stands.are
   | inr more ↦ subst InRecords (sym more.0) (stands.flying unsure)
 ]
@@ -144,15 +196,17 @@ module _ {D A : Type 0} (bytes : D → Option (List ℕ)) (images : D → List �
     (k : Keeps s.journal tree) (stands : StoreStands bytes images s) where
   pub adds_keeps : (result : Result A AppendError) → Adds bytes clock since s.journal new (entry_of (CommitRecord c) ∷ []) result → Keeps new tree
   adds_keeps result (inl after) =
-      let mid : Keeps after.mid tree = refresh_keeps bytes s.journal after.mid tree k {A = Unit {0}} {E = Unit {0}} (Ok tt) after.refreshed tt in
-      add_keeps clock since after.mid new tree (entry_of (CommitRecord c)) after.refreshed.sure (found_at bytes images s after.mid s.journal.is_sure stands refl after.refreshed) mid tt result after.added
-  adds_keeps result (inr nothing) = refresh_keeps bytes s.journal new tree k {A = Unit {0}} {E = Unit {0}} (Err tt) tt nothing.unrefreshed
+      let mid : Keeps after.mid tree = on_keeps bytes s.journal after.mid tree after.spare_entries after.spare_bytes k after.refreshed in
+      add_keeps clock since after.mid new tree (entry_of (CommitRecord c)) after.refreshed.sure (found_at bytes images s after.mid after.spare_entries after.spare_bytes s.journal.is_sure stands refl after.refreshed) mid tt result after.added
+  adds_keeps result (inr (inl nothing)) = off_keeps bytes s.journal new tree nothing.spare_entries nothing.spare_bytes k nothing.unrefreshed
+  adds_keeps result (inr (inr untouched)) = room_keeps s.journal new tree k untouched.room
 
-  pub adds_readable : (result : Result A AppendError) → length c ≡ 44 → Adds bytes clock since s.journal new (entry_of (CommitRecord c) ∷ []) result → LeavesOnly clock since s.journal.disk new.disk StandsForBook
-  adds_readable result long (inl after) =
-      let mid : Keeps after.mid tree = refresh_keeps bytes s.journal after.mid tree k {A = Unit {0}} {E = Unit {0}} (Ok tt) after.refreshed tt in
-      let are : InRecords after.mid.entries = found_at bytes images s after.mid s.journal.is_sure stands refl after.refreshed in
+  pub adds_readable : (only_now : (d : D) (f : List ℕ) → since d (clock d) f → images d f) (result : Result A AppendError) → length c ≡ 44 → Adds bytes clock since s.journal new (entry_of (CommitRecord c) ∷ []) result → LeavesOnly clock since s.journal.disk new.disk StandsForBook
+  adds_readable only_now result long (inl after) =
+      let mid : Keeps after.mid tree = on_keeps bytes s.journal after.mid tree after.spare_entries after.spare_bytes k after.refreshed in
+      let are : InRecords after.mid.entries = found_at bytes images s after.mid after.spare_entries after.spare_bytes s.journal.is_sure stands refl after.refreshed in
       joined clock since s.journal.disk after.mid.disk new.disk StandsForBook StandsForBook StandsForBook
-      (refresh_readable bytes images clock since s after.mid tree k stands after.refreshing {A = Unit {0}} {E = Unit {0}} (Ok tt) after.refreshed tt)
+      (on_readable bytes images clock since s after.mid tree k stands after.spare_entries after.spare_bytes after.refreshing after.refreshed)
       (add_readable clock since after.mid new tree (entry_of (CommitRecord c)) after.refreshed.sure are mid tt result (commit_follows c after.mid.entries long are) after.added) (λ b h. h) (λ b h. h)
-  adds_readable result long (inr nothing) = refresh_readable bytes images clock since s new tree k stands nothing.refreshing {A = Unit {0}} {E = Unit {0}} (Err tt) tt nothing.unrefreshed
+  adds_readable only_now result long (inr (inl nothing)) = off_readable bytes images clock since s new tree k stands nothing.spare_entries nothing.spare_bytes nothing.refreshing nothing.unrefreshed
+  adds_readable only_now result long (inr (inr untouched)) = room_readable bytes images s tree k stands clock since only_now new untouched.room

@@ -1,15 +1,12 @@
 -- What becomes of a ticket that is put, by its number.
-use Rattle.std.proofs.Common.{◌≡◌, ◌≢◌, inl, inr, ℕ, suc, ◌+◌, ◌<◌, List, [], ◌∷◌, ◌++◌, length, refl, sym, ap, subst, ◌∙◌, arith, length-append}
+use Rattle.std.proofs.Common.{◌≡◌, ◌≢◌, inl, inr, ℕ, suc, List, [], ◌∷◌, ◌++◌, length, refl, sym, ap, subst, ◌∙◌, arith, length-append}
 use Rattle.std.specs.List.{AllByRecursion}
 use Rattle.std.specs.Prelude.{Bool, true, false}
-use Rattle.ots_round.specs.declared.ticket.Receipt.{Receipt}
 use Rattle.ots_round.specs.declared.ticket.Ticket.{Ticket}
 use Rattle.ots_tickets.specs.declared.settled.Settled.{Settled}
 use Rattle.ots_tickets.specs.declared.tickets.Taken.{Taken}
-use Rattle.ots_tickets.specs.declared.tickets.Taken.TheVariants as taken
 use Rattle.ots_tickets.specs.Calls.{Takes, Withdraws}
 use Rattle.ots_tickets.specs.Tickets.{TicketsTold, IsNew, IsSettled, NoneIs, Waits, settles, settles_from}
-use Rattle.ots_tree.specs.declared.token.Token.{Token}
 use Rattle.ots_calendar.specs.Book.{IsGone, IsTaken}
 use Rattle.ots_calendar.proofs.Standing.{all_one}
 

@@ -2,9 +2,7 @@
 use Rattle.std.proofs.Common.{◌≡◌, inl, inr, ℕ, zero, suc, ◌+◌, List, [], ◌∷◌, ◌++◌, ◌≤◌, length, map, refl, sym, ap, subst, ◌∙◌, arith, length-append}
 use Rattle.std.specs.List.{AllByRecursion}
 use Rattle.std.specs.Prelude.{Option, Some, MatchOption, slice_get, Result, Ok, Err, IfOk, OnOk, OnErr, Bool, true, false}
-use Rattle.ots_journal.specs.declared.errors.AppendError.{AppendError}
 use Rattle.ots_journal.specs.Journal.{JournalTold, Refreshed, Unrefreshed}
-use Rattle.ots_round.specs.declared.ticket.Receipt.{Receipt}
 use Rattle.ots_round.specs.declared.ticket.Ticket.{Ticket}
 use Rattle.ots_round.specs.Round.{leaves, round_commitment}
 use Rattle.ots_store.specs.Order.{commits_of, records_of}
@@ -13,12 +11,10 @@ use Rattle.ots_store.specs.Store.{Added, Adds}
 use Rattle.ots_tickets.specs.declared.rounds.Ready.{Ready}
 use Rattle.ots_tickets.specs.declared.settled.Settled.{Settled}
 use Rattle.ots_tickets.specs.declared.tickets.Taken.{Taken}
-use Rattle.ots_tickets.specs.declared.tickets.Taken.TheVariants as taken
 use Rattle.ots_tickets.specs.Calls.{IfSettled, LeadsTo, Takes, Withdraws}
 use Rattle.ots_tickets.specs.Ready.{at_index, IsReady}
 use Rattle.ots_tickets.specs.Tickets.{IsSettled, TicketsTold, TakesOne, settles_from}
 use Rattle.ots_tickets.proofs.Places.{all_joined, settles_index}
-use Rattle.ots_tree.specs.declared.token.Token.{Token}
 use Rattle.ots_calendar.specs.Book.{AllStand, StandsAt, Gives, Grows}
 use Rattle.ots_calendar.proofs.Growing.{refreshed, unrefreshed}
 use Rattle.ots_calendar.proofs.Keeping.{commits_more}
@@ -60,7 +56,8 @@ added_last clock since mid new c index added last =
 pub stands_added : {D : Type 0} (bytes : D → Option (List ℕ)) (clock : D → ℕ) (since : D → ℕ → List ℕ → Type 0) (old new : JournalTold D) (c : List ℕ) (index : ℕ)
     → Adds bytes clock since old new (entry_of (CommitRecord c) ∷ []) (Ok index) → index + 1 ≡ length (commits_of (records_of new.entries)) → slice_get (commits_of (records_of new.entries)) index ≡ Some c
 stands_added bytes clock since old new c index (inl after) last = added_last clock since after.mid new c index after.added last
-stands_added bytes clock since old new c index (inr nothing) last = absurd (let no = nothing.fault in cc)
+stands_added bytes clock since old new c index (inr (inl nothing)) last = absurd (let no = nothing.fault in cc)
+stands_added bytes clock since old new c index (inr (inr untouched)) last = absurd (let no = untouched.no_memory in cc)
 
 all_settle : (commits : List (List ℕ)) (index : ℕ) (c : List ℕ) (leaves : List (List ℕ)) (s : ℕ) (tickets : List Ticket) → slice_get commits index ≡ Some c → AllStand commits (settles_from index c leaves s tickets)
 all_settle commits index c leaves s [] at = tt

@@ -3,7 +3,7 @@ use Rattle.std.specs.Prelude.{◌≡◌, ◌≢◌, ◌⊎◌, ℕ, ◌+◌, Lis
 use Rattle.std.specs.List.{filter}
 use Rattle.ots_journal.specs.declared.errors.AppendError.{AppendError}
 use Rattle.ots_journal.specs.declared.errors.AppendError.TheVariants as append
-use Rattle.ots_journal.specs.Journal.{JournalTold}
+use Rattle.ots_journal.specs.Journal.{JournalTold, Refreshed}
 use Rattle.ots_anchor.specs.declared.search.Found.{Found}
 use Rattle.ots_anchor.specs.declared.search.FindError.{FindError}
 use Rattle.ots_anchor.specs.declared.search.FindError.TheVariants as find
@@ -109,6 +109,10 @@ pub record AnchorsNothing {D : Type 0} (block : Contents) (old new : JournalTold
   pub why : HasBadRoot block error ⊎ (error ≡ OutOfMemory)
   pub same : new ≡ old
   pub answer : result ≡ Err error
+
+-- Nothing was done, or nothing but a refresh.
+abbrev pub OnlyRefreshed : {D : Type 0} → (D → Option (List ℕ)) → JournalTold D → JournalTold D → Type 0
+OnlyRefreshed bytes old new = (new ≡ old) ⊎ Refreshed bytes old new
 
 -- The block's root is tested before all else.
 abbrev pub AsksAnchor : {D : Type 0} → (D → Option (List ℕ)) → (D → ℕ) → (D → ℕ → List ℕ → Type 0) → Contents → ℕ → JournalTold D → JournalTold D → Result Anchor AnchorError → Type 0

@@ -9,7 +9,7 @@ use Rattle.ots_round.specs.declared.ticket.Receipt.{Receipt}
 use Rattle.ots_round.specs.declared.ticket.Ticket.{Ticket}
 use Rattle.ots_store.specs.Order.{commits_of, records_of}
 use Rattle.ots_store.specs.Records.{Record}
-use Rattle.ots_store.specs.Store.{StoreTold, InRecords}
+use Rattle.ots_store.specs.Store.{StoreTold, InRecords, with_room}
 use Rattle.ots_tickets.specs.Calls.{LeadsTo}
 use Rattle.ots_tickets.specs.Tickets.{TicketsTold}
 use Rattle.ots_tickets.specs.declared.settled.Settled.{Settled}
@@ -83,6 +83,19 @@ pub record GoesOn {D : Type 0} (bytes : D → Option (List ℕ)) (clock : D → 
 pub record Stops {D : Type 0} (bytes : D → Option (List ℕ)) (clock : D → ℕ) (images_since : D → ℕ → List ℕ → Type 0) (old new : JournalTold D) : Type 0 where
   pub unrefreshed : Unrefreshed bytes old new
   pub refreshing : LeavesOnly clock images_since old.disk new.disk (StandsForEither old.entries old.flight)
+
+-- The same in a journal in which room was made for what the call adds.
+pub record GoesOnInRoom {D : Type 0} (bytes : D → Option (List ℕ)) (clock : D → ℕ) (images_since : D → ℕ → List ℕ → Type 0) (old : JournalTold D) (then : JournalTold D → Type 0) : Type 0 where
+  -- the room that the journal has at the refresh
+  pub spare_entries : ℕ
+  pub spare_bytes : ℕ
+  pub goes_on : GoesOn bytes clock images_since (with_room old spare_entries spare_bytes) then
+
+pub record StopsInRoom {D : Type 0} (bytes : D → Option (List ℕ)) (clock : D → ℕ) (images_since : D → ℕ → List ℕ → Type 0) (old new : JournalTold D) : Type 0 where
+  -- the room that the journal has at the refresh
+  pub spare_entries : ℕ
+  pub spare_bytes : ℕ
+  pub stops : Stops bytes clock images_since (with_room old spare_entries spare_bytes) new
 
 -- The journal's limit stays, and its entries begin with those before.
 pub record Grows {D : Type 0} (old new : JournalTold D) : Type 0 where

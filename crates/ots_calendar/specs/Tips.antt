@@ -6,10 +6,10 @@ use Rattle.ots_journal.specs.Journal.{JournalTold}
 use Rattle.ots_store.specs.declared.tip.Tip.{Tip}
 use Rattle.ots_store.specs.Order.{commits_of, tips_of, covered_of, records_of, HasSpan, FollowsTip}
 use Rattle.ots_store.specs.Records.{Record, TipRecord, entry_of}
-use Rattle.ots_store.specs.Store.{Added}
+use Rattle.ots_store.specs.Store.{Added, MakesRoom}
 use Rattle.ots_calendar.specs.declared.errors.TipError.{TipError}
 use Rattle.ots_calendar.specs.declared.errors.TipError.TheVariants.{NothingNew, DiskFault, Full, OutOfMemory}
-use Rattle.ots_calendar.specs.Book.{GoesOn, Stops}
+use Rattle.ots_calendar.specs.Book.{GoesOnInRoom, StopsInRoom}
 use Rattle.ots_calendar.specs.Values.{IsTrueTip}
 
 abbrev pub AllCovered : List Record → Type 0
@@ -42,16 +42,27 @@ pub record GivesTip {D : Type 0} (clock : D → ℕ) (images_since : D → ℕ �
   pub next : IsNextTip (records_of mid.entries) tip
   pub stored : Result (Unit {0}) AppendError
   pub stores : StoresTip clock images_since tip mid new stored
+  -- there was room for it
+  pub has_room : stored ≡ Err append.OutOfMemory → ⊥
   pub answer : result ≡ tip_answer tip stored
 
--- Behind the refresh: there is nothing new, or the next tip is given, or memory ran out.
+-- Behind the refresh: there is nothing new, or the next tip is given.
 abbrev pub TipAfter : {D : Type 0} → (D → ℕ) → (D → ℕ → List ℕ → Type 0) → JournalTold D → Result Tip TipError → JournalTold D → Type 0
 TipAfter clock images_since new result mid =
     (AllCovered (records_of mid.entries) × (new ≡ mid) × (result ≡ Err NothingNew))
     ⊎ GivesTip clock images_since new result mid
-    ⊎ ((new ≡ mid) × (result ≡ Err OutOfMemory))
 
+-- Memory runs out only before the disk is called.
 abbrev pub AsksTip : {D : Type 0} → (D → Option (List ℕ)) → (D → ℕ) → (D → ℕ → List ℕ → Type 0) → JournalTold D → JournalTold D → Result Tip TipError → Type 0
 AsksTip bytes clock images_since old new result =
-    GoesOn bytes clock images_since old (TipAfter clock images_since new result)
-    ⊎ (Stops bytes clock images_since old new × (result ≡ Err DiskFault))
+    GoesOnInRoom bytes clock images_since old (TipAfter clock images_since new result)
+    ⊎ (StopsInRoom bytes clock images_since old new × (result ≡ Err DiskFault))
+    ⊎ (MakesRoom old new × (result ≡ Err OutOfMemory))
+
+-- What finding the next tip leaves of the journal, by its answer: there is room, and it is refreshed.
+abbrev pub FindsTip : {D : Type 0} → (D → Option (List ℕ)) → (D → ℕ) → (D → ℕ → List ℕ → Type 0) → JournalTold D → JournalTold D → Result (Option Tip) TipError → Type 0
+FindsTip bytes clock images_since old new (Ok found) = GoesOnInRoom bytes clock images_since old (λ mid. new ≡ mid)
+FindsTip bytes clock images_since old new (Err DiskFault) = StopsInRoom bytes clock images_since old new
+FindsTip bytes clock images_since old new (Err OutOfMemory) = MakesRoom old new
+FindsTip bytes clock images_since old new (Err NothingNew) = ⊥
+FindsTip bytes clock images_since old new (Err (Full need limit)) = ⊥

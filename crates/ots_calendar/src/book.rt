@@ -1,9 +1,10 @@
-ghost use Rattle.std.specs.Prelude.{◌≡◌, ◌⊎◌, ◌<◌, ◌≤◌, ◌^◌, ◌+◌, ◌++◌, ◌∷◌, [], List, ℕ, true, false, length, Some, Err, IfOk, IfErr, IsErrOf, IfSome, OnOk, OnErr, MatchOption};
+ghost use Rattle.std.specs.Prelude.{◌≡◌, ◌⊎◌, ◌<◌, ◌≤◌, ◌^◌, ◌+◌, ◌++◌, ◌∷◌, [], List, ℕ, true, false, length, Some, Err, IsOk, IfOk, IfErr, IsErrOf, IfSome, OnOk, OnErr, MatchOption};
 ghost use Rattle.std.specs.List.{AllByRecursion};
 ghost use Rattle.ots_base.specs.Cause.{HasCause, HasCauseWhere};
 ghost use Rattle.ots_disk.specs.Disk.{LeavesOnly};
 ghost use Rattle.ots_journal.specs.Image.{Stands};
 ghost use Rattle.ots_journal.specs.Journal.{StandsForEither, Refreshed, Unrefreshed};
+ghost use Rattle.ots_journal.specs.Within.{StaysWithin};
 ghost use Rattle.ots_store.specs.Order.{commits_of, tips_of, covered_of, records_of, HasSpan, FollowsTip};
 ghost use Rattle.ots_store.specs.Opening.{IfBad};
 ghost use Rattle.ots_store.specs.Records.{AnchorRecord, CommitRecord, entry_of, FitsTip};
@@ -15,10 +16,11 @@ ghost use Rattle.ots_calendar.specs.Rounds.{Closes};
 ghost use Rattle.ots_block.specs.Block.{txids};
 ghost use Rattle.ots_block.specs.declared.limits.TheConstants.{MAX_COMPACT};
 ghost use Rattle.ots_merkle.specs.BlockTree.{block_root};
-ghost use Rattle.ots_calendar.specs.Anchors.{AnchorsIn, AsksAnchor, FindsAnchor, FindsNone, MayStand};
+ghost use Rattle.ots_calendar.specs.Anchors.{AnchorsIn, AsksAnchor, FindsAnchor, FindsNone, MayStand, OnlyRefreshed};
 ghost use Rattle.ots_calendar.specs.Answer.{answer};
 ghost use Rattle.ots_calendar.specs.Book.{AllStand, Gives, Grows, StandsForBook, Stops};
-ghost use Rattle.ots_calendar.specs.Tips.{AllCovered, IsNextTip, StoresTip, TipAfter, AsksTip};
+ghost use Rattle.ots_calendar.specs.Tips.{AllCovered, IsNextTip, StoresTip, FindsTip, AsksTip};
+ghost use Rattle.ots_calendar.specs.Tree.{HasRoom, IsOver};
 ghost use Rattle.ots_calendar.specs.Values.{AreTrue, FirstUntrue};
 
 use crate::anchoring::{check_root, find_anchor, ids_of};
@@ -193,10 +195,11 @@ impl<D: Disk> Book<D> {
     /// stored, they are settled, and its index is answered. `None` comes exactly where nothing
     /// waits, and the disk is not called then. Where it is refused, every ticket waits as before.
     ///
-    /// It takes the memory of the round, one hash a ticket and the paths of all, before it calls the
-    /// disk.
+    /// It takes all its memory, that of the round, one hash a ticket and the paths of all, and that
+    /// of the commitment, before it calls the disk: `OutOfMemory` comes only before that.
     pub fn close(&mut self, second: u32, key: &Key) -> Result<Option<u64>, AppendError>
         ensures closes { Closes D.bytes D.clock D.images_since key.now second self.old self.new result }
+        ensures untouched { result ≡ Err AppendError.OutOfMemory → self.new.store.journal.disk ≡ self.old.store.journal.disk }
         ensures grows { Grows self.old.store.journal self.new.store.journal }
         ensures waiting { IfOk result (λ _. self.new.tickets.waiting ≡ []) }
         ensures settled { IfOk result (λ index. IfSome index (λ i. self.new.tickets.settled ≡ self.old.tickets.settled ++ settles key.now second i self.old.tickets.waiting)) }
@@ -206,6 +209,7 @@ impl<D: Disk> Book<D> {
         ensures acknowledged { IfOk result (λ index. IfSome index (λ _. (c : List ℕ) → D.images self.new.store.journal.disk c → Stands c self.new.store.journal.entries)) }
         ensures readable { LeavesOnly D.clock D.images_since self.old.store.journal.disk self.new.store.journal.disk StandsForBook }
         ensures cause { HasCauseWhere (result ≡ Err AppendError.DiskFault) (D.faults self.old.store.journal.disk) (D.faults self.new.store.journal.disk) }
+        ensures within { StaysWithin D.clock D.images_since self.old.store.journal self.new.store.journal }
     {
         let closed = self.close_round(second, key);
         // Where memory runs out, the next tip catches up.
@@ -215,17 +219,20 @@ impl<D: Disk> Book<D> {
 
     /// The tip from the first commitment that no anchor covers to the last one. It is stored where
     /// none over these commitments is. `NothingNew` comes exactly where every commitment is covered.
+    ///
+    /// It takes all its memory before it calls the disk: `OutOfMemory` comes only before that.
     pub fn tip(&mut self) -> Result<Tip, TipError>
         ensures asks { AsksTip D.bytes D.clock D.images_since self.old.store.journal self.new.store.journal result }
+        ensures untouched { result ≡ Err TipError.OutOfMemory → self.new.store.journal.disk ≡ self.old.store.journal.disk }
         ensures grows { Grows self.old.store.journal self.new.store.journal }
         ensures tickets { self.new.tickets ≡ self.old.tickets }
         ensures records { self.new.store.records ≡ records_of self.new.store.journal.entries }
         ensures acknowledged { OnOk result ((c : List ℕ) → D.images self.new.store.journal.disk c → Stands c self.new.store.journal.entries) }
         ensures readable { LeavesOnly D.clock D.images_since self.old.store.journal.disk self.new.store.journal.disk StandsForBook }
         ensures cause { HasCauseWhere (result ≡ Err TipError.DiskFault) (D.faults self.old.store.journal.disk) (D.faults self.new.store.journal.disk) }
+        ensures within { StaysWithin D.clock D.images_since self.old.store.journal self.new.store.journal }
     {
-        self.refresh()?;
-        match self.next_tip()? {
+        match self.find_tip()? {
             None => Err(TipError::NothingNew),
             Some(tip) => {
                 self.store_tip(&tip)?;
@@ -241,17 +248,23 @@ impl<D: Disk> Book<D> {
     /// `BadRoot` comes exactly where the block's header has another root than its transactions, and
     /// before all others. `NoTip` comes exactly where no transaction has such a root in it, and
     /// `TransactionTooLong` exactly where only longer ones do.
+    ///
+    /// Where memory runs out, the disk has made no call but those of a refresh, and none where it
+    /// was known that nothing is in flight.
     pub fn anchor(&mut self, block: &Block, height: u64) -> Result<Anchor, AnchorError>
         requires height { height < 2 ^ 63 }
         requires some { 1 ≤ length block.now.transactions }
         requires most { length block.now.transactions ≤ MAX_COMPACT }
         ensures asks { AsksAnchor D.bytes D.clock D.images_since block.now height self.old.store.journal self.new.store.journal result }
+        ensures untouched { self.old.store.journal.is_sure ≡ true → result ≡ Err AnchorError.OutOfMemory → self.new.store.journal.disk ≡ self.old.store.journal.disk }
+        ensures only_refreshed { result ≡ Err AnchorError.OutOfMemory → OnlyRefreshed D.bytes self.old.store.journal self.new.store.journal }
         ensures grows { Grows self.old.store.journal self.new.store.journal }
         ensures tickets { self.new.tickets ≡ self.old.tickets }
         ensures records { self.new.store.records ≡ records_of self.new.store.journal.entries }
         ensures acknowledged { OnOk result ((c : List ℕ) → D.images self.new.store.journal.disk c → Stands c self.new.store.journal.entries) }
         ensures readable { LeavesOnly D.clock D.images_since self.old.store.journal.disk self.new.store.journal.disk StandsForBook }
         ensures cause { HasCauseWhere (result ≡ Err AnchorError.DiskFault) (D.faults self.old.store.journal.disk) (D.faults self.new.store.journal.disk) }
+        ensures within { StaysWithin D.clock D.images_since self.old.store.journal self.new.store.journal }
     {
         self.start();
         let ids = ids_of(self.alloc, block)?;
@@ -279,6 +292,7 @@ impl<D: Disk> Book<D> {
         ensures acknowledged { OnOk result ((c : List ℕ) → D.images self.new.store.journal.disk c → Stands c self.new.store.journal.entries) }
         ensures readable { LeavesOnly D.clock D.images_since self.old.store.journal.disk self.new.store.journal.disk StandsForBook }
         ensures cause { HasCauseWhere (result ≡ Err AnchorError.DiskFault) (D.faults self.old.store.journal.disk) (D.faults self.new.store.journal.disk) }
+        ensures within { StaysWithin D.clock D.images_since self.old.store.journal self.new.store.journal }
     {
         self.refresh()?;
         let anchor = self.find_anchor(block, ids, height)?;
@@ -291,6 +305,7 @@ impl<D: Disk> Book<D> {
         ensures same { self.new ≡ self.old }
         ensures records { self.new.store.records ≡ records_of self.new.store.journal.entries }
         ensures readable { LeavesOnly D.clock D.images_since self.old.store.journal.disk self.new.store.journal.disk StandsForBook }
+        ensures within { StaysWithin D.clock D.images_since self.old.store.journal self.new.store.journal }
     {
         self.store.stands();
     }
@@ -303,6 +318,7 @@ impl<D: Disk> Book<D> {
         ensures acknowledged { IfOk result (λ index. IfSome index (λ _. (c : List ℕ) → D.images self.new.store.journal.disk c → Stands c self.new.store.journal.entries)) }
         ensures readable { LeavesOnly D.clock D.images_since self.old.store.journal.disk self.new.store.journal.disk StandsForBook }
         ensures cause { HasCauseWhere (result ≡ Err AppendError.DiskFault) (D.faults self.old.store.journal.disk) (D.faults self.new.store.journal.disk) }
+        ensures within { StaysWithin D.clock D.images_since self.old.store.journal self.new.store.journal }
     {
         self.start();
         match self.tickets.ready(second, key) {
@@ -325,6 +341,7 @@ impl<D: Disk> Book<D> {
         ensures acknowledged { OnOk result ((c : List ℕ) → D.images self.new.store.journal.disk c → Stands c self.new.store.journal.entries) }
         ensures readable { LeavesOnly D.clock D.images_since self.old.store.journal.disk self.new.store.journal.disk StandsForBook }
         ensures cause { HasCauseWhere (IsErrOf result AppendError.DiskFault) (D.faults self.old.store.journal.disk) (D.faults self.new.store.journal.disk) }
+        ensures within { StaysWithin D.clock D.images_since self.old.store.journal self.new.store.journal }
     {
         self.store.stands();
         self.store.add_commit(commitment)
@@ -339,9 +356,27 @@ impl<D: Disk> Book<D> {
         ensures tickets { self.new.tickets ≡ self.old.tickets }
         ensures records { self.new.store.records ≡ records_of self.new.store.journal.entries }
         ensures cause { HasCause (D.faults self.old.store.journal.disk) (D.faults self.new.store.journal.disk) result }
+        ensures within { StaysWithin D.clock D.images_since self.old.store.journal self.new.store.journal }
     {
         self.store.stands();
         self.store.refresh()
+    }
+
+    // Takes the memory for a tip, refreshes, and finds the next tip, where there is one.
+    fn find_tip(&mut self) -> Result<Option<Tip>, TipError>
+        ensures finds { FindsTip D.bytes D.clock D.images_since self.old.store.journal self.new.store.journal result }
+        ensures sure { OnOk result (self.new.store.journal.is_sure ≡ true) }
+        ensures spare { OnOk result (0 < self.new.store.spare) }
+        ensures next { IfOk result (λ next. MatchOption next (AllCovered self.new.store.records) (IsNextTip self.new.store.records)) }
+        ensures fits { IfOk result (λ next. IfSome next FitsTip) }
+        ensures tickets { self.new.tickets ≡ self.old.tickets }
+        ensures records { self.new.store.records ≡ records_of self.new.store.journal.entries }
+        ensures readable { LeavesOnly D.clock D.images_since self.old.store.journal.disk self.new.store.journal.disk StandsForBook }
+        ensures cause { HasCauseWhere (result ≡ Err TipError.DiskFault) (D.faults self.old.store.journal.disk) (D.faults self.new.store.journal.disk) }
+        ensures within { StaysWithin D.clock D.images_since self.old.store.journal self.new.store.journal }
+    {
+        self.store.stands();
+        find_tip(&mut self.store, &mut self.tree)
     }
 
     // The next tip, where there is one.
@@ -351,14 +386,7 @@ impl<D: Disk> Book<D> {
         ensures fits { IfOk result (λ next. IfSome next FitsTip) }
     {
         self.store.stands();
-        let first = self.store.covered();
-        let count = self.store.commits() - first;
-        self.tree
-            .catch_up(self.store.commitments(), first as usize)?;
-        match self.tree.root() {
-            None => Ok(None),
-            Some(root) => Ok(Some(Tip { first, count, root })),
-        }
+        next_tip(&self.store, &mut self.tree)
     }
 
     // Stores the next tip where none over the same commitments is.
@@ -367,11 +395,13 @@ impl<D: Disk> Book<D> {
         requires next { IsNextTip self.old.store.records tip.now }
         requires fits { FitsTip tip.now }
         ensures stores { StoresTip D.clock D.images_since tip.now self.old.store.journal self.new.store.journal result }
+        ensures not_refused { 0 < self.old.store.spare → result ≡ Err AppendError.OutOfMemory → ⊥ }
         ensures tickets { self.new.tickets ≡ self.old.tickets }
         ensures records { self.new.store.records ≡ records_of self.new.store.journal.entries }
         ensures acknowledged { OnOk result ((c : List ℕ) → D.images self.new.store.journal.disk c → Stands c self.new.store.journal.entries) }
         ensures readable { LeavesOnly D.clock D.images_since self.old.store.journal.disk self.new.store.journal.disk StandsForBook }
         ensures cause { HasCauseWhere (result ≡ Err AppendError.DiskFault) (D.faults self.old.store.journal.disk) (D.faults self.new.store.journal.disk) }
+        ensures within { StaysWithin D.clock D.images_since self.old.store.journal self.new.store.journal }
     {
         self.store.stands();
         if has_tip(self.store.tips(), tip) {
@@ -410,9 +440,49 @@ impl<D: Disk> Book<D> {
         ensures acknowledged { OnOk result ((c : List ℕ) → D.images self.new.store.journal.disk c → Stands c self.new.store.journal.entries) }
         ensures readable { LeavesOnly D.clock D.images_since self.old.store.journal.disk self.new.store.journal.disk StandsForBook }
         ensures cause { HasCauseWhere (result ≡ Err AppendError.DiskFault) (D.faults self.old.store.journal.disk) (D.faults self.new.store.journal.disk) }
+        ensures within { StaysWithin D.clock D.images_since self.old.store.journal self.new.store.journal }
     {
         self.store.stands();
         self.store.add_anchor(anchor)
+    }
+}
+
+// Takes the memory for a tip, refreshes, and finds the next tip, where there is one.
+fn find_tip<D: Disk>(store: &mut Store<D>, tree: &mut OpenTree) -> Result<Option<Tip>, TipError>
+    requires over { IsOver (commits_of store.old.records) tree.old }
+    requires records { store.old.records ≡ records_of store.old.journal.entries }
+    ensures finds { FindsTip D.bytes D.clock D.images_since store.old.journal store.new.journal result }
+    ensures over { IsOver (commits_of store.new.records) tree.new }
+    ensures sure { OnOk result (store.new.journal.is_sure ≡ true) }
+    ensures spare { OnOk result (0 < store.new.spare) }
+    ensures next { IfOk result (λ next. MatchOption next (AllCovered store.new.records) (IsNextTip store.new.records)) }
+    ensures fits { IfOk result (λ next. IfSome next FitsTip) }
+    ensures records { store.new.records ≡ records_of store.new.journal.entries }
+    ensures cause { HasCauseWhere (result ≡ Err TipError.DiskFault) (D.faults store.old.journal.disk) (D.faults store.new.journal.disk) }
+    ensures within { StaysWithin D.clock D.images_since store.old.journal store.new.journal }
+{
+    store.stands();
+    tree.reserve()?;
+    store.reserve()?;
+    store.refresh()?;
+    Ok(next_tip(store, tree)?)
+}
+
+// The next tip, where there is one.
+fn next_tip<D: Disk>(store: &Store<D>, tree: &mut OpenTree) -> Result<Option<Tip>, OutOfMemory>
+    requires over { IsOver (commits_of store.now.records) tree.old }
+    ensures over { IsOver (commits_of store.now.records) tree.new }
+    ensures next { IfOk result (λ next. MatchOption next (AllCovered store.now.records) (IsNextTip store.now.records)) }
+    ensures fits { IfOk result (λ next. IfSome next FitsTip) }
+    ensures not_refused { HasRoom tree.old → IsOk result }
+{
+    store.stands();
+    let first = store.covered();
+    let count = store.commits() - first;
+    tree.catch_up(store.commitments(), first as usize)?;
+    match tree.root() {
+        None => Ok(None),
+        Some(root) => Ok(Some(Tip { first, count, root })),
     }
 }
 

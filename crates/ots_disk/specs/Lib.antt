@@ -1,6 +1,5 @@
 pub mod Choice
 pub mod Disk
-pub mod FileDisk
 pub mod History
 pub mod Laws
 pub mod MemoryDisk

@@ -1,9 +1,5 @@
 //! The disk that a journal lies on: one file, and what a crash at any moment may leave of it.
-//!
-//! | form | what it is |
-//! |---|---|
-//! | [`MemoryDisk`] | bytes in memory with a list of all calls, which gives images of any moment |
-//! | [`FileDisk`] | a file of the system, which one process at a time may hold |
+//! [`MemoryDisk`] is one in memory, with a list of all calls, which gives images of any moment.
 #![tactic(auto)]
 
 mod choice;
@@ -11,8 +7,6 @@ mod contents;
 mod disk;
 mod disk_call;
 mod disk_room;
-mod file_calls;
-mod file_disk;
 mod image;
 mod memory_disk;
 mod notes;
@@ -22,5 +16,4 @@ pub use choice::Choice;
 pub use disk::Disk;
 pub use disk_call::{DiskCall, MadeCall};
 pub use disk_room::DiskRoom;
-pub use file_disk::FileDisk;
 pub use memory_disk::MemoryDisk;

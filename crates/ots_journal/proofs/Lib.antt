@@ -11,3 +11,4 @@ pub mod Sizes
 pub mod Staging
 pub mod Standing
 pub mod Unique
+pub mod Within

@@ -29,6 +29,10 @@ pub record JournalTold (D : Type 0) : Type 0 where
 abbrev pub size_with : ℕ → List Entry → ℕ
 size_with gate group = gate + 8 + length (entries_bytes group)
 
+-- These bytes are no more than the limit.
+abbrev pub IsAtMost : ℕ → List ℕ → Type 0
+IsAtMost limit bytes = length bytes ≤ limit
+
 -- ---- images
 
 -- These bytes stand for the acknowledged entries, or for these and the group in flight.
@@ -36,11 +40,12 @@ abbrev pub StandsForEither : List Entry → List Entry → List ℕ → Type 0
 StandsForEither entries flight bytes = Stands bytes entries ⊎ Stands bytes (entries ++ flight)
 
 -- Every image stands for the acknowledged entries, or for these and all of the group in flight. Every image of a sure
--- journal stands for its entries, and so do the bytes that are read.
+-- journal stands for its entries, and so do the bytes that are read. No image has more bytes than the limit.
 pub record StandsNow {D : Type 0} (bytes : D → Option (List ℕ)) (images : D → List ℕ → Type 0) (j : JournalTold D) : Type 0 where
   pub either : (c : List ℕ) → images j.disk c → StandsForEither j.entries j.flight c
   pub sure : j.is_sure ≡ true → (c : List ℕ) → images j.disk c → Stands c j.entries
   pub read : j.is_sure ≡ true → IfTold (bytes j.disk) (λ b. Stands b j.entries)
+  pub within : (c : List ℕ) → images j.disk c → IsAtMost j.limit c
 
 -- ---- what every journal keeps
 

@@ -3,3 +3,4 @@ pub mod Journal
 pub mod Opening
 pub mod Stored
 pub mod Version1
+pub mod Within

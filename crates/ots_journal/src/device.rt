@@ -4,7 +4,7 @@ ghost use Rattle.ots_base.specs.Cause.{HasCause};
 ghost use Rattle.ots_base.specs.Told.{IfTold};
 ghost use Rattle.ots_disk.specs.Disk.{Torn, After, LeavesOnly, put};
 ghost use Rattle.ots_journal.specs.Image.{open_gate, FitsGroup};
-ghost use Rattle.ots_journal.specs.Journal.{Keeps, StandsForEither, size_with};
+ghost use Rattle.ots_journal.specs.Journal.{IsAtMost, Keeps, StandsForEither, size_with};
 ghost use Rattle.ots_journal.specs.Stored.{staged_bytes};
 
 use crate::spelling::OPEN_GATE;
@@ -47,6 +47,9 @@ pub fn put_staged<D: Disk>(disk: &mut D, stored: &Stored) -> Result<(), Failed>
     requires staged { stored.now.staged ≡ staged_bytes stored.now.flight }
     requires fits { FitsGroup stored.now.flight }
     ensures any_moment { LeavesOnly D.clock D.images_since disk.old disk.new (StandsForEither stored.now.entries stored.now.flight) }
+    ensures within { (limit : ℕ) → size_with stored.now.size stored.now.flight ≤ limit
+        → ((c : List ℕ) → D.images disk.old c → IsAtMost limit c)
+        → LeavesOnly D.clock D.images_since disk.old disk.new (IsAtMost limit) }
     ensures failed { OnErr result (Keeps (D.images disk.new) stored.now.entries stored.now.flight false stored.now.size) }
     ensures put { OnOk result ((next : ℕ) → next + 1 ≡ size_with stored.now.size stored.now.flight → Keeps (D.images disk.new) (stored.now.entries ++ stored.now.flight) [] true next) }
     ensures cause { HasCause (D.faults disk.old) (D.faults disk.new) result }

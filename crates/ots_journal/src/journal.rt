@@ -5,8 +5,9 @@ ghost use Rattle.ots_disk.specs.Disk.{LeavesOnly};
 ghost use Rattle.ots_journal.specs.declared.entry.Entry.{Entry};
 ghost use Rattle.ots_journal.specs.Image.{Stands, FitsGroup};
 ghost use Rattle.ots_journal.specs.Opening.{Refuses, OpenedFrom, StoodFor, IsFullOrCause, IsGate, IsOfBytes};
-ghost use Rattle.ots_journal.specs.Journal.{JournalTold, StandsForEither, StandsNow, Refreshed, Unrefreshed, Appends, UsesRoom, Keeps, Puts, Settles};
+ghost use Rattle.ots_journal.specs.Journal.{JournalTold, IsAtMost, size_with, StandsForEither, StandsNow, Refreshed, Unrefreshed, Appends, UsesRoom, Keeps, Puts, Settles};
 ghost use Rattle.ots_journal.specs.Stored.{staged_bytes};
+ghost use Rattle.ots_journal.specs.Within.{StaysWithin};
 
 use crate::device::{is_gate_open, put_staged};
 use crate::opening::find_journal;
@@ -31,8 +32,8 @@ pub struct Journal<D: Disk> {
 }
 
 impl<D: Disk> Model for Journal<D> {
-    ghost use Rattle.std.specs.Prelude.{◌≡◌, [], true, false};
-    ghost use Rattle.ots_journal.specs.Journal.{JournalTold, Keeps, IsWithin};
+    ghost use Rattle.std.specs.Prelude.{◌≡◌, ℕ, List, [], true, false};
+    ghost use Rattle.ots_journal.specs.Journal.{JournalTold, Keeps, IsAtMost, IsWithin};
     ghost use Rattle.ots_journal.specs.Stored.{staged_bytes};
 
     ghost Value = { JournalTold D };
@@ -51,7 +52,8 @@ impl<D: Disk> Model for Journal<D> {
     ghost invariant = { λ j. Keeps (D.images j.disk) j.stored.entries j.stored.flight j.sure j.stored.size
         × IsWithin j.limit j.stored.size j.stored.flight j.sure
         × (j.sure ≡ true → j.stored.staged ≡ [])
-        × (j.sure ≡ false → j.stored.staged ≡ staged_bytes j.stored.flight) };
+        × (j.sure ≡ false → j.stored.staged ≡ staged_bytes j.stored.flight)
+        × ((c : List ℕ) → D.images j.disk c → IsAtMost j.limit c) };
 }
 
 impl<D: Disk> Journal<D> {
@@ -126,7 +128,9 @@ impl<D: Disk> Journal<D> {
     }
 
     /// Every image of the disk stands for the entries, or for these and the group in flight; of a
-    /// sure journal, for the entries. It does nothing: its clause is what each journal keeps.
+    /// sure journal, for the entries. No image has more bytes than the limit, so none is refused as
+    /// `Full` when it is opened with that limit. It does nothing: its clause is what each journal
+    /// keeps.
     pub fn stands(&self)
         ensures { StandsNow D.bytes D.images self.now }
     {
@@ -140,6 +144,7 @@ impl<D: Disk> Journal<D> {
         ensures ok { OnOk result ((entries ≤ self.new.spare_entries) × (bytes ≤ self.new.spare_bytes)) }
         ensures more { (self.old.spare_entries ≤ self.new.spare_entries) × (self.old.spare_bytes ≤ self.new.spare_bytes) }
         ensures enough { entries ≤ self.old.spare_entries → bytes ≤ self.old.spare_bytes → IsOk result }
+        ensures err { OnErr result (self.new ≡ self.old) }
     {
         self.stored.reserve(entries, bytes)
     }
@@ -149,6 +154,7 @@ impl<D: Disk> Journal<D> {
         ensures ok { OnOk result (Refreshed D.bytes self.old self.new) }
         ensures err { OnErr result (Unrefreshed D.bytes self.old self.new) }
         ensures any_moment { LeavesOnly D.clock D.images_since self.old.disk self.new.disk (StandsForEither self.old.entries self.old.flight) }
+        ensures within { StaysWithin D.clock D.images_since self.old self.new }
         ensures cause { HasCause (D.faults self.old.disk) (D.faults self.new.disk) result }
     {
         if self.sure {
@@ -173,6 +179,7 @@ impl<D: Disk> Journal<D> {
         ensures appends { Appends D.bytes D.clock D.images_since self.old self.new entries.now result }
         ensures room { UsesRoom self.old self.new entries.now result }
         ensures stands { StandsNow D.bytes D.images self.new }
+        ensures within { StaysWithin D.clock D.images_since self.old self.new }
         ensures acknowledged { OnOk result ((c : List ℕ) → D.images self.new.disk c → Stands c self.new.entries) }
         ensures cause { HasCauseWhere (IsErrOf result AppendError.DiskFault) (D.faults self.old.disk) (D.faults self.new.disk) }
     {
@@ -192,6 +199,7 @@ impl<D: Disk> Journal<D> {
         ensures appends { Appends D.bytes D.clock D.images_since self.old self.new ((record { kind = kind; payload = payload.now }) ∷ []) result }
         ensures room { UsesRoom self.old self.new ((record { kind = kind; payload = payload.now }) ∷ []) result }
         ensures stands { StandsNow D.bytes D.images self.new }
+        ensures within { StaysWithin D.clock D.images_since self.old self.new }
         ensures acknowledged { OnOk result ((c : List ℕ) → D.images self.new.disk c → Stands c self.new.entries) }
         ensures cause { HasCauseWhere (IsErrOf result AppendError.DiskFault) (D.faults self.old.disk) (D.faults self.new.disk) }
     {
@@ -216,6 +224,7 @@ impl<D: Disk> Journal<D> {
         requires sure { self.old.is_sure ≡ true }
         requires fits { FitsGroup entries.now }
         ensures puts { Puts D.clock D.images_since self.old self.new entries.now result }
+        ensures within { StaysWithin D.clock D.images_since self.old self.new }
         ensures cause { HasCauseWhere (IsErrOf result AppendError.DiskFault) (D.faults self.old.disk) (D.faults self.new.disk) }
     {
         let size = entries_size(entries);
@@ -240,6 +249,7 @@ impl<D: Disk> Journal<D> {
         requires least { 44 ≤ length payload.now }
         requires most { length payload.now ≤ 1048576 }
         ensures puts { Puts D.clock D.images_since self.old self.new ((record { kind = kind; payload = payload.now }) ∷ []) result }
+        ensures within { StaysWithin D.clock D.images_since self.old self.new }
         ensures cause { HasCauseWhere (IsErrOf result AppendError.DiskFault) (D.faults self.old.disk) (D.faults self.new.disk) }
     {
         let need = self.stored.size() as u64 + 13 + payload.len() as u64;
@@ -264,6 +274,9 @@ fn settle<D: Disk>(disk: &mut D, stored: &mut Stored, sure: &mut bool) -> Result
     requires staged { stored.old.staged ≡ staged_bytes stored.old.flight }
     requires fits { FitsGroup stored.old.flight }
     ensures any_moment { LeavesOnly D.clock D.images_since disk.old disk.new (StandsForEither stored.old.entries stored.old.flight) }
+    ensures within { (limit : ℕ) → size_with stored.old.size stored.old.flight ≤ limit
+        → ((c : List ℕ) → D.images disk.old c → IsAtMost limit c)
+        → LeavesOnly D.clock D.images_since disk.old disk.new (IsAtMost limit) }
     ensures ok { IfOk result (λ first. Settles (D.images disk.new) stored.old stored.new first) }
     ensures ok_sure { OnOk result (sure.new ≡ true) }
     ensures err { IfErr result (λ e. e ≡ AppendError.DiskFault) }

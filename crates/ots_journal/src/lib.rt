@@ -30,6 +30,7 @@ pub use errors::{AppendError, DiskFault, JournalError, OldError, Refused};
 pub use journal::Journal;
 pub use laws::{
     bytes_stand_once, bytes_stand_once_1, one_gate, one_refusal, standing_is_not_refused,
+    within_is_not_full,
 };
 pub use limits::{EMPTY_JOURNAL, MAX_GROUP, MAX_JOURNAL, MAX_PAYLOAD, MIN_PAYLOAD};
 pub use version1::read_version1;

@@ -3,7 +3,7 @@ ghost use Rattle.ots_base.specs.Cause.{HasCause, HasCauseWhere};
 ghost use Rattle.ots_base.specs.Told.{IfTold};
 ghost use Rattle.ots_disk.specs.Disk.{LeavesOnly};
 ghost use Rattle.ots_journal.specs.Image.{Stands};
-ghost use Rattle.ots_journal.specs.Journal.{Keeps};
+ghost use Rattle.ots_journal.specs.Journal.{IsAtMost, Keeps};
 ghost use Rattle.ots_journal.specs.Opening.{Refuses, OpenedFrom, IsFullOrCause, IsGate};
 
 use crate::device::write_durably;
@@ -29,6 +29,7 @@ pub fn find_journal<D: Disk>(
     requires most { limit ≤ 2 ^ 30 }
     ensures keeps { IfOk result (λ s. Keeps (D.images disk.new) s.entries s.flight true s.size) }
     ensures within { IfOk result (λ s. s.size < limit) }
+    ensures at_most { OnOk result ((c : List ℕ) → D.images disk.new c → IsAtMost limit c) }
     ensures settled { IfOk result (λ s. (s.flight ≡ []) × (s.staged ≡ [])) }
     ensures list { IfTold (D.bytes disk.old) (λ b. IfOk result (λ s. Stands b s.entries)) }
     ensures gate { IfTold (D.bytes disk.old) (λ b. IfOk result (λ s. IsGate b s.size)) }

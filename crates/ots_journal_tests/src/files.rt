@@ -1,13 +1,18 @@
 // A journal on a real file.
 use crate::steps::{opened, refusal};
-use ots_disk::{Disk, FileDisk};
+use ots_disk::Disk;
+use ots_file::{FileDisk, SystemFile};
 use ots_journal::{Journal, JournalError};
 use std::fs;
 use std::test::Fail;
 
 // The disk of a file.
-fn file<'a>(rt: &'a HostRuntime, name: &str) -> Result<FileDisk<&'a HostRuntime>, Fail> {
-    Ok(FileDisk::new(rt, String::from_str(rt.alloc(), name)?))
+fn file<'a>(
+    rt: &'a HostRuntime,
+    name: &str,
+) -> Result<FileDisk<SystemFile<&'a HostRuntime>>, Fail> {
+    let name = String::from_str(rt.alloc(), name)?;
+    Ok(FileDisk::new(SystemFile::new(rt, name)))
 }
 
 // Whether so many entries are there, each of 50 bytes of its index.

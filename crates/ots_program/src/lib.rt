@@ -5,6 +5,7 @@
 
 use ots_cli::{Status, run_client};
 use ots_io::{DirShelf, RngNonces, StdSink, TcpDialer};
+use ots_standard_streams::StandardStreams;
 use rand::rngs::SysRng;
 use std::alloc::{AllocError, Global};
 use std::io::ErrorKind;
@@ -12,29 +13,33 @@ use std::process::ExitCode;
 use std::rt::Env;
 use std::{env, io};
 
-/// Runs the client on the words behind the program's name, over the files, standard output, sockets
-/// to calendars and the system's random source, and answers the number of its status as an exit
-/// code.
+/// Runs the client on the words behind the program's name, and answers the number of its status as an
+/// exit code.
 pub fn run_program(rt: &HostRuntime) -> ExitCode {
-    let status = run(rt, rt.alloc()).unwrap_or(Status::OutOfMemory);
+    let status = match read_words(rt, rt.alloc()) {
+        Ok(words) => run_words(rt, rt.alloc(), &words),
+        Err(AllocError) => Status::OutOfMemory,
+    };
     ExitCode::from(status.number())
 }
 
+/// Runs the client on these words, over the files, standard output, sockets to calendars and the
+/// system's random source. `WriteFault` also where the standard descriptors can't be kept from files
+/// and sockets: then nothing is done.
+pub fn run_words(rt: &HostRuntime, alloc: Global, words: &[String]) -> Status {
+    match StandardStreams::keep(rt) {
+        Ok(_streams) => run(rt, alloc, words),
+        Err(_) => Status::WriteFault,
+    }
+}
+
 // Runs the client over the real objects.
-fn run(rt: &HostRuntime, alloc: Global) -> Result<Status, AllocError> {
-    let words = read_words(rt, alloc)?;
+fn run(rt: &HostRuntime, alloc: Global, words: &[String]) -> Status {
     let mut shelf = DirShelf::new(rt, alloc);
     let mut out = StdSink::new(io::writer(rt));
     let mut dialer = TcpDialer::new(rt, alloc);
     let mut nonces = RngNonces::new(SysRng::new(rt));
-    Ok(run_client(
-        alloc,
-        &words,
-        &mut shelf,
-        &mut out,
-        &mut dialer,
-        &mut nonces,
-    ))
+    run_client(alloc, words, &mut shelf, &mut out, &mut dialer, &mut nonces)
 }
 
 // The words after the program's name. Where one of them is not UTF-8 there are none, which is a

@@ -5,6 +5,8 @@
 #[cfg(test)]
 mod bytes;
 #[cfg(test)]
+mod failing_file;
+#[cfg(test)]
 mod loopback;
 #[cfg(test)]
 mod runs;

@@ -5,6 +5,7 @@ ghost use Rattle.ots_outside.specs.Link.{IsFresh};
 
 use hex::decode;
 use ots_disk::{Disk, DiskRoom, MemoryDisk};
+use ots_file::{FileDisk, MemoryFile};
 use ots_io::{
     Accepter, BytesLink, BytesSink, Clock, FixedClock, ListAccepter, ListNonces, MapShelf, Nonces,
     OutOfMemory, Shelf, ShelfRoom, Sink,
@@ -263,5 +264,57 @@ pub fn run_with<A: Accepter + Send + Drop>(
         out,
         disk,
         accepter,
+    })
+}
+
+/// What is left of serving over a file in memory: the reply on each link that was given back, and what
+/// the device holds.
+#[derive(Drop)]
+pub struct Served {
+    pub replies: Vec<Vec<u8>>,
+    pub device: Vec<u8>,
+}
+
+/// Serves so many links with this request over a new file in memory, of which this call fails, the
+/// first being 1. A read or a write takes at most seven bytes. The nonces are the bytes from 0 on.
+pub fn serve_on_file(
+    rt: &(impl AllocGlobal + Threads + Wait + Sync),
+    request: &[u8],
+    links: u32,
+    failing: u64,
+) -> Result<Served, Fail> {
+    let alloc = rt.alloc();
+    let words = words_of(alloc, &SERVE_IN_TURN)?;
+    let mut shelf = new_shelf(alloc, &[b'k'; 64])?;
+    let mut out = BytesSink::new(alloc, 1000, &[])?;
+    let nonces: Vec<u8> = (0..160).collect(alloc)?;
+    let (_, disk, accepter) = run_over(
+        rt,
+        alloc,
+        &words,
+        FileDisk::new(MemoryFile::new(alloc, &[], &[failing], 7)?),
+        &mut shelf,
+        &mut out,
+        ListAccepter::new(alloc, new_links(alloc, request, links)?, &[])?,
+        FixedClock {
+            second: 1_700_000_000,
+        },
+        ListNonces::new(alloc, &nonces, &[])?,
+    );
+    what_is_left(alloc, disk, &accepter)
+}
+
+fn what_is_left(
+    alloc: Global,
+    disk: FileDisk<MemoryFile>,
+    accepter: &ListAccepter<BytesLink>,
+) -> Result<Served, Fail> {
+    let mut replies = Vec::new(alloc);
+    for link in accepter.returned() {
+        replies.push(link.taken().to_vec(alloc)?)?;
+    }
+    Ok(Served {
+        replies,
+        device: disk.into_file().device().to_vec(alloc)?,
     })
 }

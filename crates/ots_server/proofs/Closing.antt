@@ -7,7 +7,7 @@ use Rattle.ots_journal.specs.Image.{Stands}
 use Rattle.ots_journal.specs.Journal.{JournalTold}
 use Rattle.ots_outside.specs.Streams.{Gives, Gives-nothing}
 use Rattle.ots_round.specs.declared.ticket.Ticket.{Ticket}
-use Rattle.ots_store.specs.Store.{StoreTold}
+use Rattle.ots_store.specs.Store.{with_room}
 use Rattle.ots_tickets.specs.Calls.{tree_of}
 use Rattle.ots_tickets.specs.Tickets.{settles}
 use Rattle.ots_tickets.specs.declared.settled.Settled.{Settled}
@@ -19,7 +19,7 @@ use Rattle.ots_server.specs.Batch.{AreTickets, DrawsFor, Happens, Outside, trees
 use Rattle.ots_server.specs.Round.{AreSettled, ClosesTo, PutsAll, PutsOutcome, RoundEnds, SecondOf, TakesAll}
 use Rattle.ots_server.specs.Trees.{trees_lines}
 use Rattle.ots_server.proofs.Putting.{many_tickets}
-use Rattle.ots_server.proofs.Rounding.{late_second, short_after, short_before, short_within, stored, undrawn, unstored}
+use Rattle.ots_server.proofs.Rounding.{ends_in_room, late_second, short_after, short_before, short_within, stored, undrawn, unstored}
 use Rattle.ots_server.proofs.Taking.{settled_tickets, trees_lines_are}
 
 module _ {D : Type 0} (clock : D → ℕ) (images : D → List ℕ → Type 0) (images_since : D → ℕ → List ℕ → Type 0) (only_now : (d : D) (c : List ℕ) → images_since d (clock d) c → images d c)
@@ -77,11 +77,11 @@ module _ {D : Type 0} (clock : D → ℕ) (images : D → List ℕ → Type 0) (
         pub close_ends : (e : BatchError) → ClosesTo clock images images_since disk key second mid closed (Err e) → Shown closed.store.journal (Err e)
         close_ends (BadSecond s) c = absurd c
         close_ends NonceFault c = absurd c
-        close_ends (NotStored why) (inl a, rose) = over (Err (NotStored why))
-            (unstored clock images images_since only_now (Happens coming left now) failed disk key uri digests mid.store.journal each_mid outside happened s.0 mid.tickets.waiting are_mid closed.store.journal why a rose)
-        close_ends (NotStored why) (inr (short, same), rose) = over (Err (NotStored why))
+        close_ends (NotStored why) (inl (entries, bytes, a), rose) = over (Err (NotStored why)) (ends_in_room mid.store.journal closed.store.journal entries bytes (Err (NotStored why))
+            (unstored clock images images_since only_now (Happens coming left now) failed disk key uri digests (with_room mid.store.journal entries bytes) each_mid outside happened s.0 mid.tickets.waiting are_mid closed.store.journal why a rose))
+        close_ends (NotStored why) (inr (short, room), rose) = over (Err (NotStored why))
             (short_within clock images images_since only_now (Happens coming left now) failed disk key uri digests mid.store.journal closed.store.journal each_mid (NotStored why)
-            (ap (λ (z : AppendError). NotStored z) short) (ap (λ (z : StoreTold D). z.journal) same))
+            (ap (λ (z : AppendError). NotStored z) short) room)
         close_ends OutOfMemory c = absurd c
 
         module _ (index : ℕ) (c : ClosesTo clock images images_since disk key second mid closed (Ok index)) where

@@ -1,6 +1,6 @@
 -- What a round comes to.
 use Rattle.std.proofs.Common.{◌≡◌, ◌<◌, ◌≤◌, ◌^◌, inl, inr, ℕ, ◌+◌, List, [], ◌∷◌, ◌++◌, length, true, false, Option, None, Some, refl, sym, ap, subst, ◌∙◌, arith, length-append}
-use Rattle.std.specs.Prelude.{Result, Ok, Err, IsErrAnd}
+use Rattle.std.specs.Prelude.{◌⊎◌, Result, Ok, Err, IsErrAnd}
 use Rattle.std.proofs.lemmas.List.{map-append}
 use Rattle.ots_disk.specs.Disk.{LeavesOnly}
 use Rattle.ots_disk.specs.Moments.{started, weaker}
@@ -13,7 +13,7 @@ use Rattle.ots_round.specs.declared.ticket.Ticket.{Ticket}
 use Rattle.ots_round.specs.Round.{round_commitment}
 use Rattle.ots_store.specs.Order.{commits_of, records_of}
 use Rattle.ots_store.specs.Records.{CommitRecord, Record, record_of}
-use Rattle.ots_store.specs.Store.{Added, Adds, StoreTold}
+use Rattle.ots_store.specs.Store.{Added, Adds, StoreTold, MakesRoom, with_room}
 use Rattle.ots_tickets.specs.Tickets.{settles}
 use Rattle.ots_tickets.specs.declared.settled.Settled.{Settled}
 use Rattle.ots_calendar.specs.Book.{BookTold}
@@ -35,9 +35,30 @@ use Rattle.ots_server.proofs.Listing.{commits-append}
 
 module _ {D : Type 0} (bytes : D → Option (List ℕ)) (clock : D → ℕ) (images : D → List ℕ → Type 0) (images_since : D → ℕ → List ℕ → Type 0) where
   -- a sure journal needs no refresh
-  adds_sure : {A : Type 0} (old new : JournalTold D) (group : List Entry) (r : Result A AppendError) → old.is_sure ≡ true → Adds bytes clock images_since old new group r → Added clock images_since old new group r
-  adds_sure {A} old new group r sure (inl a) = subst (λ (z : JournalTold D). Added {A = A} clock images_since z new group r) (a.refreshed.already sure) a.added
-  adds_sure old new group r sure (inr n) = absurd (let unsure = n.unrefreshed.was_unsure in let clash : true ≡ false = sym sure ∙ unsure in cc)
+  adds_sure : {A : Type 0} (old new : JournalTold D) (group : List Entry) (r : Result A AppendError) → old.is_sure ≡ true → Adds bytes clock images_since old new group r
+      → ((spare_entries : ℕ) × (spare_bytes : ℕ) × Added {A = A} clock images_since (with_room old spare_entries spare_bytes) new group r) ⊎ (MakesRoom old new × (r ≡ Err append.OutOfMemory))
+  adds_sure {A} old new group r sure (inl a) = inl (a.spare_entries, a.spare_bytes, subst (λ (z : JournalTold D). Added {A = A} clock images_since z new group r) (a.refreshed.already sure) a.added)
+  adds_sure old new group r sure (inr (inl n)) = absurd (let unsure = n.unrefreshed.was_unsure in let clash : true ≡ false = sym sure ∙ unsure in cc)
+  adds_sure old new group r sure (inr (inr n)) = inr (n.room, n.no_memory)
+
+  -- where it is stored, room in memory is no matter
+  in_room : {A : Type 0} (old new : JournalTold D) (group : List Entry) (spare_entries spare_bytes : ℕ) (x : A) → Added {A = A} clock images_since (with_room old spare_entries spare_bytes) new group (Ok x) → Added {A = A} clock images_since old new group (Ok x)
+  in_room old new group spare_entries spare_bytes x a =
+      let put = a.outcome in
+      record {
+        outcome = record { first_index = put.first_index; entries = put.entries; none_in_flight = put.none_in_flight; sure = put.sure; gate = put.gate; limit = put.limit };
+        full = a.full;
+        at_any_moment = a.at_any_moment;
+      }
+
+  adds_stored : {A : Type 0} (old new : JournalTold D) (group : List Entry) (x : A) → old.is_sure ≡ true → Adds {A = A} bytes clock images_since old new group (Ok x) → Added {A = A} clock images_since old new group (Ok x)
+  adds_stored {A} old new group x sure adds = elim (adds_sure {A = A} old new group (Ok x) sure adds) [
+    | inl a ↦ in_room {A = A} old new group a.0 a.1 x a.2
+    | inr short ↦ absurd (let e = short.1 in cc)
+  ]
+
+  same_room : (old new : JournalTold D) → new ≡ old → MakesRoom old new
+  same_room old new same = subst (λ (j : JournalTold D). MakesRoom old j) (sym same) (record { same = refl; more_entries = omega arith; more_bytes = omega arith })
 
   module _ (disk : Type 0) (key : List ℕ) (second : ℕ) (old new : BookTold D) (sure : old.store.journal.is_sure ≡ true) where
     abbrev group : List Entry
@@ -62,7 +83,7 @@ module _ {D : Type 0} (bytes : D → Option (List ℕ)) (clock : D → ℕ) (ima
             let same : i ≡ index = cc in
             let ok : c.added ≡ Ok index = is ∙ ap (λ (z : ℕ). Ok z) same in
             let a : Added {A = ℕ} clock images_since old.store.journal new.store.journal group (Ok index) =
-            adds_sure old.store.journal new.store.journal group (Ok index) sure (subst (Adds bytes clock images_since old.store.journal new.store.journal group) ok c.adds) in
+            adds_stored old.store.journal new.store.journal group index sure (subst (Adds bytes clock images_since old.store.journal new.store.journal group) ok c.adds) in
             let l : (new.tickets.waiting ≡ []) × (new.tickets.settled ≡ old.tickets.settled ++ settles key second index old.tickets.waiting) =
             subst (RoundLeaves key second old.tickets new.tickets) ok c.leaves in
             record {
@@ -83,10 +104,13 @@ module _ {D : Type 0} (bytes : D → Option (List ℕ)) (clock : D → ℕ) (ima
         by (Ok i) is answer = absurd cc
         by (Err e) is answer =
             let same : e ≡ why = cc in
-            inl (adds_sure old.store.journal new.store.journal group (Err why) sure
-            (subst (Adds bytes clock images_since old.store.journal new.store.journal group) (is ∙ ap (λ (z : AppendError). Err z) same) c.adds))
+            elim (adds_sure {A = ℕ} old.store.journal new.store.journal group (Err why) sure
+            (subst (Adds bytes clock images_since old.store.journal new.store.journal group) (is ∙ ap (λ (z : AppendError). Err z) same) c.adds)) [
+              | inl a ↦ inl a
+              | inr short ↦ inr (let answer = short.1 in let is : why ≡ append.OutOfMemory = cc in is, short.0)
+            ]
     close_refused why (inr (inl n)) rose = absurd (let answer = n.answer in cc)
-    close_refused why (inr (inr n)) rose = (inr (let answer = n.answer in let is : why ≡ append.OutOfMemory = cc in is, n.store), rose)
+    close_refused why (inr (inr n)) rose = (inr (let answer = n.answer in let is : why ≡ append.OutOfMemory = cc in is, same_room old.store.journal new.store.journal (ap (λ (s : StoreTold D). s.journal) n.store)), rose)
 
     pub close_some : 0 < length old.tickets.waiting → Closes bytes clock images_since key second old new (Ok None) → ⊥
     close_some some (inl c) = by c.added c.answer
@@ -160,11 +184,20 @@ module _ {D : Type 0} (clock : D → ℕ) (images : D → List ℕ → Type 0) (
 -- memory ran out as the commitment was to be stored
 pub short_within : {D : Type 0} (clock : D → ℕ) (images : D → List ℕ → Type 0) (images_since : D → ℕ → List ℕ → Type 0) (only_now : (d : D) (c : List ℕ) → images_since d (clock d) c → images d c)
     (happens : Outside → Type 0) (failed disk : Type 0) (key uri : List ℕ) (digests : List (List ℕ)) (old new : JournalTold D) (each : (c : List ℕ) → images old.disk c → Stands c old.entries)
-    (e : BatchError) → e ≡ NotStored append.OutOfMemory → new ≡ old → RoundEnds clock images images_since happens failed disk key uri digests old new (Err e)
-short_within clock images images_since only_now happens failed disk key uri digests old new each e is same =
-    subst (λ (z : BatchError). RoundEnds clock images images_since happens failed disk key uri digests old new (Err z)) (sym is)
-    (subst (λ (j : JournalTold _). RoundEnds clock images images_since happens failed disk key uri digests old j (Err (NotStored append.OutOfMemory))) (sym same)
-    (record { comes = no_memory refl; stand = tt; moments = started clock images_since old.disk _ (λ c left. inl (each c (only_now old.disk c left))) }))
+    (e : BatchError) → e ≡ NotStored append.OutOfMemory → MakesRoom old new → RoundEnds clock images images_since happens failed disk key uri digests old new (Err e)
+short_within clock images images_since only_now happens failed disk key uri digests old new each e is room =
+    subst (λ (z : BatchError). RoundEnds clock images images_since happens failed disk key uri digests old new (Err z)) (sym is) (record {
+      comes = no_memory refl;
+      stand = tt;
+      moments = subst (λ (j : JournalTold _). LeavesOnly clock images_since old.disk j.disk (StandsWith (AddsRound happens key digests old.entries) old.entries)) (sym room.same)
+          (started clock images_since old.disk _ (λ c left. inl (each c (only_now old.disk c left))));
+    })
+
+-- room in memory is no matter
+pub ends_in_room : {D : Type 0} {clock : D → ℕ} {images : D → List ℕ → Type 0} {images_since : D → ℕ → List ℕ → Type 0} {happens : Outside → Type 0} {failed disk : Type 0} {key uri : List ℕ} {digests : List (List ℕ)}
+    (old new : JournalTold D) (spare_entries spare_bytes : ℕ) (r : Result Trees BatchError) → RoundEnds clock images images_since happens failed disk key uri digests (with_room old spare_entries spare_bytes) new r
+    → RoundEnds clock images images_since happens failed disk key uri digests old new r
+ends_in_room old new spare_entries spare_bytes r h = record { comes = h.comes; stand = h.stand; moments = h.moments }
 
 -- an error that `?` made of one
 pub ends_as : {D : Type 0} {clock : D → ℕ} {images : D → List ℕ → Type 0} {images_since : D → ℕ → List ℕ → Type 0} {happens : Outside → Type 0} {failed disk : Type 0} {key uri : List ℕ} {digests : List (List ℕ)} {old new : JournalTold D}

@@ -10,7 +10,7 @@ use Rattle.ots_journal.specs.Image.{Stands}
 use Rattle.ots_journal.specs.Journal.{JournalTold, size_with}
 use Rattle.ots_store.specs.declared.tip.Tip.{Tip}
 use Rattle.ots_store.specs.Order.{records_of}
-use Rattle.ots_store.specs.Store.{Added}
+use Rattle.ots_store.specs.Store.{Added, MakesRoom, with_room}
 use Rattle.ots_calendar.specs.declared.errors.TipError.{TipError}
 use Rattle.ots_calendar.specs.declared.errors.TipError.TheVariants as why
 use Rattle.ots_calendar.specs.Tips.{AsksTip, IsNextTip, StoresTip, TipAfter, tip_answer}
@@ -108,15 +108,33 @@ module _ {D : Type 0} (bytes : D → Option (List ℕ)) (clock : D → ℕ) (ima
     stand = all_stand same;
     moments = still same;
   })
-  answered r (inr (inl g)) kept rose = subst Shown (sym g.answer) (stored_or_put g.tip g.next g.stored g.stores
+  answered r (inr g) kept rose = subst Shown (sym g.answer) (stored_or_put g.tip g.next g.stored g.stores
       (kept_of g.tip g.stored (subst (λ (z : Result Tip TipError). OnOk z ((c : List ℕ) → images new.disk c → Stands c new.entries)) g.answer kept))
       (fault_of g.tip g.stored (λ is. rose (g.answer ∙ is))))
-  answered r (inr (inr (same, is))) kept rose = subst Shown (sym is) (record { comes = no_memory refl; stand = tt; moments = still same })
+
+  short : MakesRoom old new → (r : Result Tip TipError) → r ≡ Err why.OutOfMemory → Shown r
+  short room r is = subst Shown (sym is) (record {
+    comes = no_memory refl;
+    stand = tt;
+    moments = subst (λ (j : JournalTold D). LeavesOnly clock images_since old.disk j.disk (StandsWith (AddsTip old.entries) old.entries)) (sym room.same)
+        (started clock images_since old.disk _ (λ c left. inl (each c (only_now old.disk c left))));
+  })
+
+module _ {D : Type 0} (bytes : D → Option (List ℕ)) (clock : D → ℕ) (images : D → List ℕ → Type 0) (images_since : D → ℕ → List ℕ → Type 0) (disk : Type 0)
+    (only_now : (d : D) (c : List ℕ) → images_since d (clock d) c → images d c) (old new : JournalTold D)
+    (each : (c : List ℕ) → images old.disk c → Stands c old.entries) where
+  -- room in memory is no matter
+  in_room : (spare_entries spare_bytes : ℕ) (r : Result Tip TipError) → TipEnds clock images images_since disk (with_room old spare_entries spare_bytes) new r → TipEnds clock images images_since disk old new r
+  in_room spare_entries spare_bytes r h = record { comes = h.comes; stand = h.stand; moments = h.moments }
 
   pub tip_ends : (r : Result Tip TipError) → old.is_sure ≡ true → AsksTip bytes clock images_since old new r
       → OnOk r ((c : List ℕ) → images new.disk c → Stands c new.entries) → (r ≡ Err why.DiskFault → disk) → TipEnds clock images images_since disk old new r
-  tip_ends r sure (inl g) kept rose = answered r (subst (TipAfter clock images_since new r) (g.refreshed.already sure) g.goes_on) kept rose
-  tip_ends r sure (inr (stops, is)) kept rose = absurd (let unsure = stops.unrefreshed.was_unsure in let clash : true ≡ false = sym sure ∙ unsure in cc)
+  tip_ends r sure (inl on) kept rose =
+      let g = on.goes_on in
+      in_room on.spare_entries on.spare_bytes r
+      (answered bytes clock images images_since disk only_now (with_room old on.spare_entries on.spare_bytes) new each r (subst (TipAfter clock images_since new r) (g.refreshed.already sure) g.goes_on) kept rose)
+  tip_ends r sure (inr (inl (stop, is))) kept rose = absurd (let unsure = (stop.stops).unrefreshed.was_unsure in let clash : true ≡ false = sym sure ∙ unsure in cc)
+  tip_ends r sure (inr (inr (room, is))) kept rose = short bytes clock images images_since disk only_now old new each room r is
 
 -- the answer is printed
 pub tip_printed : {D : Type 0} {clock : D → ℕ} {images : D → List ℕ → Type 0} {images_since : D → ℕ → List ℕ → Type 0} {disk : Type 0} {old new : JournalTold D} {a : Result Tip TipError}

@@ -11,7 +11,7 @@ use Rattle.ots_journal.specs.declared.errors.AppendError.TheVariants as append
 use Rattle.ots_journal.specs.Image.{Stands}
 use Rattle.ots_journal.specs.Journal.{JournalTold}
 use Rattle.ots_round.specs.declared.ticket.Ticket.{Ticket}
-use Rattle.ots_store.specs.Store.{Added}
+use Rattle.ots_store.specs.Store.{Added, MakesRoom, with_room}
 use Rattle.ots_tickets.specs.Calls.{tree_of}
 use Rattle.ots_tickets.specs.Tickets.{IsNew, TicketsTold, settles}
 use Rattle.ots_tickets.specs.declared.settled.Settled.{Settled}
@@ -104,11 +104,11 @@ pub record RoundStored {D : Type 0} (clock : D → ℕ) (images : D → List ℕ
   pub settled : new.tickets.settled ≡ settles key second index old.tickets.waiting
   pub at : index ≡ next_index old.store.journal.entries
 
--- it is not stored
+-- It is not stored, in a journal that has this room for it, or memory ran out before the disk was called.
 abbrev pub RoundRefused : {D : Type 0} → (D → ℕ) → (D → ℕ → List ℕ → Type 0) → List ℕ → ℕ → BookTold D → BookTold D → AppendError → Type 0
 RoundRefused clock images_since key second old new why =
-    Added {A = ℕ} clock images_since old.store.journal new.store.journal (round_entries key second old.tickets.waiting) (Err why)
-    ⊎ ((why ≡ append.OutOfMemory) × (new.store ≡ old.store))
+    ((spare_entries : ℕ) × (spare_bytes : ℕ) × Added {A = ℕ} clock images_since (with_room old.store.journal spare_entries spare_bytes) new.store.journal (round_entries key second old.tickets.waiting) (Err why))
+    ⊎ ((why ≡ append.OutOfMemory) × MakesRoom old.store.journal new.store.journal)
 
 abbrev pub ClosesTo : {D : Type 0} → (D → ℕ) → (D → List ℕ → Type 0) → (D → ℕ → List ℕ → Type 0) → Type 0 → List ℕ → ℕ → BookTold D → BookTold D → Result ℕ BatchError → Type 0
 ClosesTo clock images images_since disk key second old new (Ok index) = RoundStored clock images images_since key second old new index

@@ -3,9 +3,10 @@
 //! this body holds of the other too.
 #![tactic(auto)]
 
-use ots_disk::FileDisk;
+use ots_file::{FileDisk, SystemFile};
 use ots_io::{DirShelf, RngNonces, StdSink, SystemClock, TcpAccepter};
 use ots_server::{DaemonStatus, run_calendar};
+use ots_standard_streams::StandardStreams;
 use rand::rngs::SysRng;
 use std::alloc::{AllocError, Global};
 use std::io::ErrorKind;
@@ -15,13 +16,30 @@ use std::sync::Wait;
 use std::thread::Threads;
 use std::{env, io};
 
-/// Runs the calendar on the words behind the program's name, over the file that the first of them
-/// names, the files, standard output, the system's sockets, clock and random source, and answers the
-/// number of its status as an exit code. Connections are served in threads of `threads`, which is the
-/// same runtime as `main` has it: only there can it start any.
+/// Runs the calendar on the words behind the program's name, and answers the number of its status as
+/// an exit code. Connections are served in threads of `threads`, which is the same runtime as `main`
+/// has it: only there can it start any.
 pub fn run_program(rt: &HostRuntime, threads: &(impl Threads + Wait + Sync)) -> ExitCode {
-    let status = run(rt, threads, rt.alloc()).unwrap_or(DaemonStatus::OutOfMemory);
+    let status = match read_words(rt, rt.alloc()) {
+        Ok(words) => run_words(rt, threads, rt.alloc(), &words),
+        Err(AllocError) => DaemonStatus::OutOfMemory,
+    };
     ExitCode::from(status.number())
+}
+
+/// Runs the calendar on these words, over the file that the first of them names, the files, standard
+/// output, the system's sockets, clock and random source. `WriteFault` also where the standard
+/// descriptors can't be kept from files and sockets: then nothing is done.
+pub fn run_words(
+    rt: &HostRuntime,
+    threads: &(impl Threads + Wait + Sync),
+    alloc: Global,
+    words: &[String],
+) -> DaemonStatus {
+    match StandardStreams::keep(rt) {
+        Ok(_streams) => run(rt, threads, alloc, words).unwrap_or(DaemonStatus::OutOfMemory),
+        Err(_) => DaemonStatus::WriteFault,
+    }
 }
 
 // Runs the calendar over the real objects.
@@ -29,15 +47,15 @@ fn run(
     rt: &HostRuntime,
     threads: &(impl Threads + Wait + Sync),
     alloc: Global,
+    words: &[String],
 ) -> Result<DaemonStatus, AllocError> {
-    let words = read_words(rt, alloc)?;
-    let disk = FileDisk::new(rt, journal_name(alloc, &words)?);
+    let disk = FileDisk::new(SystemFile::new(rt, journal_name(alloc, words)?));
     let mut shelf = DirShelf::new(rt, alloc);
     let mut out = StdSink::new(io::writer(rt));
     let (status, _returned) = run_calendar(
         threads,
         alloc,
-        &words,
+        words,
         disk,
         &mut shelf,
         &mut out,

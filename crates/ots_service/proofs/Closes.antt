@@ -71,7 +71,8 @@ module _ {D : Type 0} (bytes : D → Option (List ℕ)) (clock : D → ℕ) (sin
         long = long;
         past = let past = out.3 in let same = after.refreshed.limit in omega arith;
       }
-  adds_full old new c need limit long (inr nothing) = let e = nothing.fault in absurd cc
+  adds_full old new c need limit long (inr (inl nothing)) = let e = nothing.fault in absurd cc
+  adds_full old new c need limit long (inr (inr untouched)) = let e = untouched.no_memory in absurd cc
 
   pub closes_full : (key : List ℕ) (second : ℕ) (old new : BookTold D) (need limit : ℕ)
       → Closes bytes clock since key second old new (Err (Full need limit)) → IsFull old.store.journal.limit new.store.journal.gate
@@ -107,7 +108,8 @@ fits_of bytes clock since old new group i (inl after) =
     dite (dec_le (size_with after.mid.gate group) after.mid.limit)
     (λ fits. let gate = out.gate in let same = after.refreshed.limit in omega arith)
     (λ not. elim (after.added.full (omega arith)) [ inl is ↦ absurd cc | inr is ↦ absurd cc ])
-fits_of bytes clock since old new group i (inr nothing) = let e = nothing.fault in absurd cc
+fits_of bytes clock since old new group i (inr (inl nothing)) = let e = nothing.fault in absurd cc
+fits_of bytes clock since old new group i (inr (inr untouched)) = let e = untouched.no_memory in absurd cc
 
 index_of : (added : Result ℕ AppendError) (o : Option ℕ) → Ok o ≡ round_answer added → (i : ℕ) × (added ≡ Ok i)
 index_of (Ok i) o is = (i, refl)

@@ -4,16 +4,16 @@ use Rattle.std.proofs.lemmas.List.{append-nil, map-append}
 use Rattle.std.specs.Prelude.{Option, Result, Ok, Err, OnOk}
 use Rattle.std.specs.List.{flat_map}
 use Rattle.ots_disk.specs.Disk.{LeavesOnly}
-use Rattle.ots_disk.specs.Moments.{weaker}
+use Rattle.ots_disk.specs.Moments.{started, weaker}
 use Rattle.ots_journal.specs.declared.entry.Entry.{Entry}
 use Rattle.ots_journal.specs.declared.errors.AppendError.{AppendError}
 use Rattle.ots_journal.specs.declared.errors.AppendError.TheVariants.{DiskFault, Full, OutOfMemory}
 use Rattle.ots_journal.specs.Image.{FitsEntry}
-use Rattle.ots_journal.specs.Journal.{JournalTold, StandsForEither, Refreshed, Appends, Puts, size_with}
+use Rattle.ots_journal.specs.Journal.{JournalTold, StandsForEither, Refreshed, Unrefreshed, Appends, Puts, UsesRoom, size_with}
 use Rattle.ots_store.specs.Held.{HeldTold, Holds}
 use Rattle.ots_store.specs.Order.{records_of, AreRecords}
 use Rattle.ots_store.specs.Records.{Record, CommitRecord, TipRecord, AnchorRecord, entry_of, record_of, IsRecord, HasForm, step_bytes, anchor_rest, anchor_payload, sized, branch_bytes}
-use Rattle.ots_store.specs.Store.{InRecords, StandsForRecords, Keeps, Added, AddOutcome, Settles}
+use Rattle.ots_store.specs.Store.{InRecords, StandsForRecords, Keeps, MakesRoom, spare_in, Added, AddOutcome, Adds, Settles}
 use Rattle.ots_store.proofs.Formed.{steps_long}
 use Rattle.ots_store.proofs.Ordered.{records_append}
 use Rattle.ots_store.proofs.Storing.{held_few}
@@ -144,3 +144,60 @@ module _ {D A B : Type 0} (clock : D → ℕ) (since : D → ℕ → List ℕ �
     full = λ lt. elim (added.full lt) [ inl e ↦ inl (same_why why (Full (size_with old.gate group) old.limit) is is' e) | inr e ↦ inr (same_why why OutOfMemory is is' e) ];
     at_any_moment = added.at_any_moment;
   }
+
+-- ---- memory
+
+settled_memory : (outcome : Result ℕ AppendError) (result : Result (Unit {0}) AppendError) (staged held : HeldTold) → Settles outcome result staged held → result ≡ Err OutOfMemory → outcome ≡ Err OutOfMemory
+settled_memory (Ok first) result staged held settles is = absurd (let h = settles.0 in cc)
+settled_memory (Err DiskFault) result staged held settles is = absurd (let h = settles.0 in cc)
+settled_memory (Err (Full need limit)) result staged held settles is = absurd (let h = settles.0 in cc)
+settled_memory (Err OutOfMemory) result staged held settles is = refl
+
+-- a record that there is room for is not refused for want of memory
+pub add_not_refused : {D : Type 0} (old new : JournalTold D) (e : Entry) (before staged held : HeldTold) (outcome : Result ℕ AppendError) (result : Result (Unit {0}) AppendError)
+    → UsesRoom old new (e ∷ []) outcome → Settles outcome result staged held → 0 < spare_in old before → length e.payload ≤ 48 → result ≡ Err OutOfMemory → ⊥
+add_not_refused old new e before staged held outcome result room settles spare short is =
+    room.enough (omega (arith, spare)) (omega (arith, spare, short)) (settled_memory outcome result staged held settles is)
+
+-- a group that is refused so leaves all as it was
+pub put_memory : {D : Type 0} (clock : D → ℕ) (since : D → ℕ → List ℕ → Type 0) (old new : JournalTold D) (group : List Entry) (staged held : HeldTold) (outcome : Result ℕ AppendError) (result : Result (Unit {0}) AppendError)
+    → Puts clock since old new group outcome → Settles outcome result staged held → result ≡ Err OutOfMemory → new ≡ old
+put_memory clock since old new group staged held outcome result puts settles is =
+    (subst (λ (o : Result ℕ AppendError). Puts clock since old new group o) (settled_memory outcome result staged held settles is) puts).outcome
+
+-- room is made before the refresh
+module _ {D A : Type 0} (bytes : D → Option (List ℕ)) (clock : D → ℕ) (since : D → ℕ → List ℕ → Type 0) (old roomy : JournalTold D) (group : List Entry) (room : MakesRoom old roomy) where
+  pub adds_after : (mid new : JournalTold D) (result : Result A AppendError) → Refreshed bytes roomy mid → LeavesOnly clock since roomy.disk mid.disk (StandsForEither roomy.entries roomy.flight)
+      → Added clock since mid new group result → (result ≡ Err OutOfMemory → ⊥) → Adds bytes clock since old new group result
+  adds_after mid new result refreshed run added has_room = inl (record {
+    spare_entries = roomy.spare_entries;
+    spare_bytes = roomy.spare_bytes;
+    mid = mid;
+    refreshed = subst (λ (j : JournalTold D). Refreshed bytes j mid) room.same refreshed;
+    refreshing = subst (λ (j : JournalTold D). LeavesOnly clock since j.disk mid.disk (StandsForEither j.entries j.flight)) room.same run;
+    added = added;
+    has_room = has_room;
+  })
+
+  pub adds_nothing : (new : JournalTold D) (result : Result A AppendError) → Unrefreshed bytes roomy new → LeavesOnly clock since roomy.disk new.disk (StandsForEither roomy.entries roomy.flight)
+      → result ≡ Err DiskFault → Adds bytes clock since old new group result
+  adds_nothing new result unrefreshed run fault = inr (inl (record {
+    spare_entries = roomy.spare_entries;
+    spare_bytes = roomy.spare_bytes;
+    unrefreshed = subst (λ (j : JournalTold D). Unrefreshed bytes j new) room.same unrefreshed;
+    fault = fault;
+    refreshing = subst (λ (j : JournalTold D). LeavesOnly clock since j.disk new.disk (StandsForEither j.entries j.flight)) room.same run;
+  }))
+
+-- memory that runs out does so before the disk is called
+pub adds_untouched : {D A : Type 0} (bytes : D → Option (List ℕ)) (clock : D → ℕ) (since : D → ℕ → List ℕ → Type 0) (old new : JournalTold D) (group : List Entry) (result : Result A AppendError)
+    → Adds bytes clock since old new group result → result ≡ Err OutOfMemory → new.disk ≡ old.disk
+adds_untouched bytes clock since old new group result (inl after) is = absurd (after.has_room is)
+adds_untouched bytes clock since old new group result (inr (inl nothing)) is = absurd (let h = nothing.fault in cc)
+adds_untouched bytes clock since old new group result (inr (inr untouched)) is = ap (λ (j : JournalTold _). j.disk) untouched.room.same
+
+-- where the disk is not called, it leaves what it has
+pub room_leaves : {D : Type 0} (clock : D → ℕ) (images : D → List ℕ → Type 0) (since : D → ℕ → List ℕ → Type 0) (only_now : (d : D) (c : List ℕ) → since d (clock d) c → images d c) (old new : JournalTold D) (P : List ℕ → Type 0)
+    → MakesRoom old new → ((c : List ℕ) → images old.disk c → P c) → LeavesOnly clock since old.disk new.disk P
+room_leaves clock images since only_now old new P room here =
+    subst (λ (d : _). LeavesOnly clock since old.disk d P) (ap (λ (j : JournalTold _). j.disk) (sym room.same)) (started clock since old.disk P (λ c left. here c (only_now old.disk c left)))

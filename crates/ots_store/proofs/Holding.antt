@@ -8,7 +8,7 @@ use Rattle.ots_store.specs.declared.anchor.Anchor.{Anchor}
 use Rattle.ots_store.specs.declared.tip.Tip.{Tip}
 use Rattle.ots_store.specs.Forms.{IsAnchor}
 use Rattle.ots_store.specs.Held.{HeldTold, Holds}
-use Rattle.ots_store.specs.Marked.{MarkedTold}
+use Rattle.ots_store.specs.Marked.{MarkedTold, IsPushed}
 use Rattle.ots_store.specs.Order.{commits_of, tips_of, anchors_of}
 use Rattle.ots_store.specs.Records.{Record, CommitRecord, TipRecord, AnchorRecord, tip_at, anchor_at, entry_of, record_of, IsRecord, HasForm}
 use Rattle.ots_store.proofs.Ordered.{commits_append, tips_append, anchors_append}
@@ -38,11 +38,11 @@ anchor_spelled kind payload one two r =
     }
 
 pub commit_held : (r : Record) (commitment : List ℕ) (old new : HeldTold) (kept flight : List Record) → r ≡ CommitRecord commitment
-    → new.commitments ≡ record { kept = old.commitments.kept; flight = old.commitments.flight ++ commitment ∷ [] } → new.tips ≡ old.tips → new.anchors ≡ old.anchors
+    → IsPushed old.commitments new.commitments commitment → new.tips ≡ old.tips → new.anchors ≡ old.anchors
     → Holds kept flight old → Holds kept (flight ++ r ∷ []) new
 commit_held r commitment old new kept flight is commitments tips anchors h = subst (λ (x : Record). Holds kept (flight ++ x ∷ []) new) (sym is) (record {
-  commitments = ap (λ (m : MarkedTold (List ℕ)). m.kept) commitments ∙ h.commitments;
-  commitments_flight = ap (λ (m : MarkedTold (List ℕ)). m.flight) commitments ∙ ap (λ (l : List (List ℕ)). l ++ commitment ∷ []) h.commitments_flight ∙ sym (commits_append flight (CommitRecord commitment ∷ []));
+  commitments = commitments.kept ∙ h.commitments;
+  commitments_flight = commitments.flight ∙ ap (λ (l : List (List ℕ)). l ++ commitment ∷ []) h.commitments_flight ∙ sym (commits_append flight (CommitRecord commitment ∷ []));
   tips = ap (λ (m : MarkedTold Tip). m.kept) tips ∙ h.tips;
   tips_flight = ap (λ (m : MarkedTold Tip). m.flight) tips ∙ h.tips_flight ∙ sym (tips_append flight (CommitRecord commitment ∷ []) ∙ append-nil (tips_of flight));
   anchors = ap (λ (m : MarkedTold Anchor). m.kept) anchors ∙ h.anchors;
@@ -50,29 +50,50 @@ commit_held r commitment old new kept flight is commitments tips anchors h = sub
 })
 
 pub tip_held : (r : Record) (tip : Tip) (old new : HeldTold) (kept flight : List Record) → r ≡ TipRecord tip
-    → new.tips ≡ record { kept = old.tips.kept; flight = old.tips.flight ++ tip ∷ [] } → new.commitments ≡ old.commitments → new.anchors ≡ old.anchors
+    → IsPushed old.tips new.tips tip → new.commitments ≡ old.commitments → new.anchors ≡ old.anchors
     → Holds kept flight old → Holds kept (flight ++ r ∷ []) new
 tip_held r tip old new kept flight is tips commitments anchors h = subst (λ (x : Record). Holds kept (flight ++ x ∷ []) new) (sym is) (record {
   commitments = ap (λ (m : MarkedTold (List ℕ)). m.kept) commitments ∙ h.commitments;
   commitments_flight = ap (λ (m : MarkedTold (List ℕ)). m.flight) commitments ∙ h.commitments_flight ∙ sym (commits_append flight (TipRecord tip ∷ []) ∙ append-nil (commits_of flight));
-  tips = ap (λ (m : MarkedTold Tip). m.kept) tips ∙ h.tips;
-  tips_flight = ap (λ (m : MarkedTold Tip). m.flight) tips ∙ ap (λ (l : List Tip). l ++ tip ∷ []) h.tips_flight ∙ sym (tips_append flight (TipRecord tip ∷ []));
+  tips = tips.kept ∙ h.tips;
+  tips_flight = tips.flight ∙ ap (λ (l : List Tip). l ++ tip ∷ []) h.tips_flight ∙ sym (tips_append flight (TipRecord tip ∷ []));
   anchors = ap (λ (m : MarkedTold Anchor). m.kept) anchors ∙ h.anchors;
   anchors_flight = ap (λ (m : MarkedTold Anchor). m.flight) anchors ∙ h.anchors_flight ∙ sym (anchors_append flight (TipRecord tip ∷ []) ∙ append-nil (anchors_of flight));
 })
 
 pub anchor_held : (r : Record) (anchor : Anchor) (old new : HeldTold) (kept flight : List Record) → r ≡ AnchorRecord anchor
-    → new.anchors ≡ record { kept = old.anchors.kept; flight = old.anchors.flight ++ anchor ∷ [] } → new.commitments ≡ old.commitments → new.tips ≡ old.tips
+    → IsPushed old.anchors new.anchors anchor → new.commitments ≡ old.commitments → new.tips ≡ old.tips
     → Holds kept flight old → Holds kept (flight ++ r ∷ []) new
 anchor_held r anchor old new kept flight is anchors commitments tips h = subst (λ (x : Record). Holds kept (flight ++ x ∷ []) new) (sym is) (record {
   commitments = ap (λ (m : MarkedTold (List ℕ)). m.kept) commitments ∙ h.commitments;
   commitments_flight = ap (λ (m : MarkedTold (List ℕ)). m.flight) commitments ∙ h.commitments_flight ∙ sym (commits_append flight (AnchorRecord anchor ∷ []) ∙ append-nil (commits_of flight));
   tips = ap (λ (m : MarkedTold Tip). m.kept) tips ∙ h.tips;
   tips_flight = ap (λ (m : MarkedTold Tip). m.flight) tips ∙ h.tips_flight ∙ sym (tips_append flight (AnchorRecord anchor ∷ []) ∙ append-nil (tips_of flight));
-  anchors = ap (λ (m : MarkedTold Anchor). m.kept) anchors ∙ h.anchors;
-  anchors_flight = ap (λ (m : MarkedTold Anchor). m.flight) anchors ∙ ap (λ (l : List Anchor). l ++ anchor ∷ []) h.anchors_flight ∙ sym (anchors_append flight (AnchorRecord anchor ∷ []));
+  anchors = anchors.kept ∙ h.anchors;
+  anchors_flight = anchors.flight ∙ ap (λ (l : List Anchor). l ++ anchor ∷ []) h.anchors_flight ∙ sym (anchors_append flight (AnchorRecord anchor ∷ []));
 })
 
 pub on_ok : {A E P Q : Type 0} (r : Result A E) → (P → Q) → OnOk r P → OnOk r Q
 on_ok (Ok a) f p = f p
 on_ok (Err e) f p = tt
+
+-- how much memory is spare is no matter
+pub spared : (kept flight : List Record) (held : HeldTold) (spare : ℕ) → Holds kept flight (record held { spare = spare }) → Holds kept flight held
+spared kept flight held spare h = record {
+  commitments = h.commitments;
+  commitments_flight = h.commitments_flight;
+  tips = h.tips;
+  tips_flight = h.tips_flight;
+  anchors = h.anchors;
+  anchors_flight = h.anchors_flight;
+}
+
+pub sparing : (kept flight : List Record) (held : HeldTold) (spare : ℕ) → Holds kept flight held → Holds kept flight (record held { spare = spare })
+sparing kept flight held spare h = record {
+  commitments = h.commitments;
+  commitments_flight = h.commitments_flight;
+  tips = h.tips;
+  tips_flight = h.tips_flight;
+  anchors = h.anchors;
+  anchors_flight = h.anchors_flight;
+}

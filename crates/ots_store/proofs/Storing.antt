@@ -12,7 +12,7 @@ use Rattle.ots_store.specs.Opening.{IfBad}
 use Rattle.ots_store.specs.Order.{commits_of, anchors_of, covered_by, records_of, FirstBad}
 use Rattle.ots_store.specs.Ranges.{RisesFrom}
 use Rattle.ots_store.specs.Records.{Record, CommitRecord, TipRecord, AnchorRecord, record_of}
-use Rattle.ots_store.specs.Store.{InRecords, StandsForRecords, StoreStands, Keeps}
+use Rattle.ots_store.specs.Store.{InRecords, StandsForRecords, StoreStands, Keeps, MakesRoom, spare_in}
 use Rattle.ots_store.proofs.Bad.{not_bad}
 use Rattle.ots_store.proofs.Ordered.{orderly, records_append}
 
@@ -44,7 +44,7 @@ image_stands bytes images j false is now are flying c image = elim (now.either c
 ]
 
 pub store_stands : {D : Type 0} (bytes : D → Option (List ℕ)) (images : D → List ℕ → Type 0) (j : JournalTold D) (held : HeldTold) → Keeps j held → StandsNow bytes images j
-    → StoreStands bytes images (record { journal = j; records = records_of j.entries })
+    → StoreStands bytes images (record { journal = j; records = records_of j.entries; spare = spare_in j held })
 store_stands bytes images j held k now =
     let flying : j.is_sure ≡ false → InRecords (j.entries ++ j.flight) = λ unsure. records_append [] j.entries j.flight k.are (k.flying unsure).0 in
     record {
@@ -114,3 +114,10 @@ left_out bytes old new held held' k r same forgotten =
       settled = λ sure. refl;
       flying = λ unsure. absurd (let h : true ≡ false = sym r.sure ∙ unsure in cc);
     }
+
+-- the same records in memory, and a journal with more room
+pub held_again : {D : Type 0} (j : JournalTold D) (held held' : HeldTold) → Keeps j held → ((kept flight : List Record) → Holds kept flight held → Holds kept flight held') → Keeps j held'
+held_again j held held' k holds = record { are = k.are; flight = k.flight; holds = holds (records_of j.entries) k.flight k.holds; settled = k.settled; flying = k.flying }
+
+pub room_keeps : {D : Type 0} (old new : JournalTold D) (held : HeldTold) → Keeps old held → MakesRoom old new → Keeps new held
+room_keeps old new held k room = subst (λ (j : JournalTold _). Keeps j held) (sym room.same) (record { are = k.are; flight = k.flight; holds = k.holds; settled = k.settled; flying = k.flying })

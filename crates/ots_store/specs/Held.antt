@@ -10,6 +10,8 @@ pub record HeldTold : Type 0 where
   pub commitments : MarkedTold (List ℕ)
   pub tips : MarkedTold Tip
   pub anchors : MarkedTold Anchor
+  -- how many commitments or tips more can be put in flight without taking memory
+  pub spare : ℕ
 
 -- These records are acknowledged, and those in flight behind them.
 pub record Holds (kept flight : List Record) (held : HeldTold) : Type 0 where

@@ -1,5 +1,5 @@
 -- What contracts see of a store.
-use Rattle.std.specs.Prelude.{◌≡◌, ◌⊎◌, ◌<◌, ℕ, true, false, List, [], ◌++◌, length, Option, Result, Ok, Err}
+use Rattle.std.specs.Prelude.{◌≡◌, ◌⊎◌, ◌<◌, ◌≤◌, ℕ, ◌/◌, min, true, false, List, [], ◌++◌, length, Option, Result, Ok, Err}
 use Rattle.ots_disk.specs.Disk.{LeavesOnly}
 use Rattle.ots_journal.specs.declared.entry.Entry.{Entry}
 use Rattle.ots_journal.specs.declared.errors.AppendError.{AppendError}
@@ -14,6 +14,8 @@ pub record StoreTold (D : Type 0) : Type 0 where
   pub journal : JournalTold D
   -- the records that its acknowledged entries spell
   pub records : List Record
+  -- how many commitments or tips can be added without taking memory
+  pub spare : ℕ
 
 -- Entries spell records, in order.
 abbrev pub InRecords : List Entry → Type 0
@@ -42,6 +44,22 @@ pub record Keeps {D : Type 0} (journal : JournalTold D) (held : HeldTold) : Type
   pub settled : journal.is_sure ≡ true → flight ≡ []
   pub flying : journal.is_sure ≡ false → AreRecords (records_of journal.entries) journal.flight × (flight ≡ records_of journal.flight)
 
+-- ---- room
+
+-- The journal with so much room.
+abbrev pub with_room : {D : Type 0} → JournalTold D → ℕ → ℕ → JournalTold D
+with_room journal spare_entries spare_bytes = record journal { spare_entries = spare_entries; spare_bytes = spare_bytes }
+
+-- A journal may have more room, and else it is as before: its disk made no call.
+pub record MakesRoom {D : Type 0} (old new : JournalTold D) : Type 0 where
+  pub same : new ≡ with_room old new.spare_entries new.spare_bytes
+  pub more_entries : old.spare_entries ≤ new.spare_entries
+  pub more_bytes : old.spare_bytes ≤ new.spare_bytes
+
+-- How many commitments or tips, of at most 48 bytes, a journal and the records in memory have room for.
+abbrev pub spare_in : {D : Type 0} → JournalTold D → HeldTold → ℕ
+spare_in journal held = min held.spare (min journal.spare_entries (journal.spare_bytes / 48))
+
 -- ---- what the calls that add records do
 
 -- What is left by the answer: the group was added, or it is in flight, or all is as before.
@@ -58,22 +76,35 @@ pub record Added {D A : Type 0} (clock : D → ℕ) (images_since : D → ℕ �
   pub full : old.limit < size_with old.gate group → (result ≡ Err (Full (size_with old.gate group) old.limit)) ⊎ (result ≡ Err OutOfMemory)
   pub at_any_moment : LeavesOnly clock images_since old.disk new.disk (StandsForEither old.entries group)
 
--- The same behind a refresh of its own that answered Ok.
+-- The same behind a refresh of its own that answered Ok, before which it took the memory that it needs.
 pub record AddsAfter {D A : Type 0} (bytes : D → Option (List ℕ)) (clock : D → ℕ) (images_since : D → ℕ → List ℕ → Type 0) (old new : JournalTold D) (group : List Entry) (result : Result A AppendError) : Type 0 where
+  -- the room that the journal has at the refresh
+  pub spare_entries : ℕ
+  pub spare_bytes : ℕ
   -- the journal after the refresh
   pub mid : JournalTold D
-  pub refreshed : Refreshed bytes old mid
+  pub refreshed : Refreshed bytes (with_room old spare_entries spare_bytes) mid
   pub refreshing : LeavesOnly clock images_since old.disk mid.disk (StandsForEither old.entries old.flight)
   pub added : Added clock images_since mid new group result
+  pub has_room : result ≡ Err OutOfMemory → ⊥
 
 -- A refresh of its own that failed adds nothing, and puts nothing in flight.
 pub record AddsNothing {D A : Type 0} (bytes : D → Option (List ℕ)) (clock : D → ℕ) (images_since : D → ℕ → List ℕ → Type 0) (old new : JournalTold D) (result : Result A AppendError) : Type 0 where
-  pub unrefreshed : Unrefreshed bytes old new
+  -- the room that the journal has at the refresh
+  pub spare_entries : ℕ
+  pub spare_bytes : ℕ
+  pub unrefreshed : Unrefreshed bytes (with_room old spare_entries spare_bytes) new
   pub fault : result ≡ Err DiskFault
   pub refreshing : LeavesOnly clock images_since old.disk new.disk (StandsForEither old.entries old.flight)
 
+-- Memory ran out before the disk was called.
+pub record AddsUntouched {D A : Type 0} (old new : JournalTold D) (result : Result A AppendError) : Type 0 where
+  pub room : MakesRoom old new
+  pub no_memory : result ≡ Err OutOfMemory
+
 abbrev pub Adds : {D A : Type 0} → (D → Option (List ℕ)) → (D → ℕ) → (D → ℕ → List ℕ → Type 0) → JournalTold D → JournalTold D → List Entry → Result A AppendError → Type 0
-Adds bytes clock images_since old new group result = AddsAfter bytes clock images_since old new group result ⊎ AddsNothing bytes clock images_since old new result
+Adds bytes clock images_since old new group result =
+    AddsAfter bytes clock images_since old new group result ⊎ AddsNothing bytes clock images_since old new result ⊎ AddsUntouched old new result
 
 -- What is in flight in memory after an append: all of it is acknowledged, or stays in flight, or is taken away.
 abbrev pub Settles : Result ℕ AppendError → Result (Unit {0}) AppendError → HeldTold → HeldTold → Type 0

@@ -13,6 +13,9 @@ pub const TIP: u8 = 2;
 
 pub const ANCHOR: u8 = 3;
 
+/// The bytes of a tip's payload; a commitment has fewer.
+pub const TIP_PAYLOAD: usize = 48;
+
 /// Commitments from one index on.
 #[derive(Clone, Copy)]
 pub struct Span {

@@ -1,5 +1,5 @@
 //! The records in memory, and the index of their commitments.
-ghost use Rattle.std.specs.Prelude.{◌≡◌, ◌≤◌, ◌<◌, ◌^◌, ◌++◌, ◌∷◌, [], List, length, find, IfOk, OnOk, OnErr};
+ghost use Rattle.std.specs.Prelude.{◌≡◌, ◌≢◌, ◌≤◌, ◌<◌, ◌^◌, ◌++◌, ◌∷◌, [], List, length, find, IsOk, IfOk, OnOk, OnErr};
 ghost use Rattle.std.specs.Option.{option_copied};
 ghost use Rattle.ots_store.specs.Records.{Record, record_of, IsRecord};
 ghost use Rattle.ots_store.specs.Order.{covers, covered_by};
@@ -24,13 +24,15 @@ pub struct Held {
 }
 
 impl Model for Held {
-    ghost use Rattle.std.specs.Prelude.{◌≤◌, ◌+◌, length, vec_len, vec_capacity};
+    ghost use Rattle.std.specs.Prelude.{◌≤◌, ◌+◌, ◌-◌, min, length, vec_len, vec_capacity};
     ghost use Rattle.ots_store.specs.Held.{HeldTold};
     ghost use Rattle.ots_store.specs.Places.{Indexes};
 
     ghost Value = { HeldTold };
 
-    ghost view = { λ h. h.lists };
+    ghost view = { λ h. record h.lists {
+      spare = min h.lists.spare (vec_capacity h.index.places - (length h.lists.commitments.kept + length h.lists.commitments.flight));
+    } };
 
     ghost invariant = { λ h. Indexes (length h.lists.commitments.kept) h.index.places.items h.lists.commitments.kept
         × (length h.lists.commitments.kept + length h.lists.commitments.flight ≤ vec_capacity h.index.places) };
@@ -41,7 +43,7 @@ impl Held {
     pub fn of(alloc: Global, lists: Lists) -> Result<Held, OutOfMemory>
         requires few { length lists.commitments.kept ≤ 2 ^ 32 }
         requires none { lists.commitments.flight ≡ [] }
-        ensures { IfOk result (λ held. held ≡ lists) }
+        ensures { IfOk result (λ held. (kept flight : List Record) → Holds kept flight lists → Holds kept flight held) }
     {
         let index = Index::of(alloc, lists.commitments())?;
         Ok(Held { lists, index })
@@ -85,11 +87,23 @@ impl Held {
         find_range(self.lists.anchors(), i)
     }
 
-    /// Puts a record in flight behind those that are.
+    /// Takes the memory for one commitment or one tip more.
+    pub fn reserve(&mut self) -> Result<(), OutOfMemory>
+        ensures holds { (kept flight : List Record) → Holds kept flight self.old → Holds kept flight self.new }
+        ensures ok { OnOk result (0 < self.new.spare) }
+    {
+        self.lists.reserve(1)?;
+        let more = self.lists.commitments_in_flight() + 1;
+        self.index.reserve(more)
+    }
+
+    /// Puts a record in flight behind those that are. A commitment and a tip take memory only where
+    /// none is spare.
     pub fn stage(&mut self, kind: u8, payload: &[u8]) -> Result<(), OutOfMemory>
         requires { IsRecord (record { kind = kind; payload = payload.now }) }
         ensures ok { OnOk result ((kept flight : List Record) → Holds kept flight self.old → Holds kept (flight ++ record_of (record { kind = kind; payload = payload.now }) ∷ []) self.new) }
         ensures err { OnErr result ((kept flight : List Record) → Holds kept flight self.old → Holds kept flight self.new) }
+        ensures not_refused { 0 < self.old.spare → kind ≢ 3 → IsOk result }
     {
         let more = self.lists.commitments_in_flight() + 1;
         self.index.reserve(more)?;
@@ -99,7 +113,8 @@ impl Held {
     /// Acknowledges all records in flight. It takes no memory.
     pub fn keep(&mut self)
         requires few { length (self.old.commitments.kept ++ self.old.commitments.flight) ≤ 2 ^ 32 }
-        ensures { (kept flight : List Record) → Holds kept flight self.old → Holds (kept ++ flight) [] self.new }
+        ensures holds { (kept flight : List Record) → Holds kept flight self.old → Holds (kept ++ flight) [] self.new }
+        ensures spare { self.old.spare ≤ self.new.spare }
     {
         self.lists.keep();
         self.index.catch_up(self.lists.commitments());
@@ -107,7 +122,8 @@ impl Held {
 
     /// Takes all records in flight away.
     pub fn forget(&mut self)
-        ensures { (kept flight : List Record) → Holds kept flight self.old → Holds kept [] self.new }
+        ensures holds { (kept flight : List Record) → Holds kept flight self.old → Holds kept [] self.new }
+        ensures spare { self.old.spare ≤ self.new.spare }
     {
         self.lists.forget();
     }

@@ -1,5 +1,5 @@
 //! The commitments in order, each as the place at which it stands.
-ghost use Rattle.std.specs.Prelude.{◌≡◌, ◌≤◌, ◌<◌, ◌+◌, ◌-◌, ◌^◌, ℕ, length, true, false, vec_len, vec_capacity, IfOk, OnOk, OnErr, slice_index, slice_index_or};
+ghost use Rattle.std.specs.Prelude.{◌≡◌, ◌≤◌, ◌<◌, ◌+◌, ◌-◌, ◌^◌, ℕ, length, true, false, vec_len, vec_capacity, IsOk, IfOk, OnOk, OnErr, slice_index, slice_index_or};
 ghost use Rattle.std.specs.List.Sorted.{IsPermutation};
 ghost use Rattle.std.specs.Ordering.{is_lt, is_gt};
 ghost use Rattle.ots_store.specs.Index.{least};
@@ -47,6 +47,7 @@ impl Index {
         ensures items { self.new.places.items ≡ self.old.places.items }
         ensures capacity { vec_capacity self.old.places ≤ vec_capacity self.new.places }
         ensures ok { OnOk result (vec_len self.old.places + more ≤ vec_capacity self.new.places) }
+        ensures enough { vec_len self.old.places + more ≤ vec_capacity self.old.places → IsOk result }
     {
         self.places.reserve(more)?;
         Ok(())

@@ -9,6 +9,7 @@
 //! | [`Store::open`] | the records of a journal, or the first entry that is none |
 //! | [`Store::add_commit`], [`Store::add_tip`], [`Store::add_anchor`] | one record more |
 //! | [`Store::first_bad`], [`Store::add_group`] | which of some entries may not follow; all of them |
+//! | [`Store::reserve`] | memory for one commitment or tip, taken before the disk is called |
 //! | [`Store::refresh`] | after a fault: whether the records in flight are kept |
 //! | [`Store::index_of`], [`Store::anchor_of`] | by the index and the ranges, with no walk |
 //!

@@ -1,10 +1,11 @@
 //! The records in memory, a list of each kind.
-ghost use Rattle.std.specs.Prelude.{◌≡◌, ◌≤◌, ◌+◌, ◌^◌, ◌<◌, ◌++◌, ◌∷◌, [], List, length, OnOk, OnErr};
+ghost use Rattle.std.specs.Prelude.{◌≡◌, ◌≢◌, ◌≤◌, ◌+◌, ◌^◌, ◌<◌, ◌++◌, ◌∷◌, [], List, length, IsOk, OnOk, OnErr};
 ghost use Rattle.ots_store.specs.Records.{Record, tip_at, anchor_at, record_of, IsRecord};
 ghost use Rattle.ots_store.specs.Forms.{IsAnchor};
 ghost use Rattle.ots_store.specs.Order.{covered_by};
 ghost use Rattle.ots_store.specs.Ranges.{RisesFrom};
 ghost use Rattle.ots_store.specs.Held.{Holds};
+ghost use Rattle.ots_store.specs.Marked.{IsPushed, IsSame};
 
 use crate::form::{COMMIT, TIP};
 use crate::marked::Marked;
@@ -24,11 +25,17 @@ pub struct Lists {
 }
 
 impl Model for Lists {
+    ghost use Rattle.std.specs.Prelude.{min};
     ghost use Rattle.ots_store.specs.Held.{HeldTold};
 
     ghost Value = { HeldTold };
 
-    ghost view = { λ h. record { commitments = h.commitments; tips = h.tips; anchors = h.anchors } };
+    ghost view = { λ h. record {
+      commitments = h.commitments;
+      tips = h.tips;
+      anchors = h.anchors;
+      spare = min h.commitments.spare h.tips.spare;
+    } };
 }
 
 impl Lists {
@@ -87,13 +94,26 @@ impl Lists {
         self.commitments.in_flight()
     }
 
-    /// Puts a record in flight behind those that are.
+    /// Takes the memory for some commitments and tips more.
+    pub fn reserve(&mut self, more: usize) -> Result<(), OutOfMemory>
+        ensures holds { (kept flight : List Record) → Holds kept flight self.old → Holds kept flight self.new }
+        ensures commitments { self.new.commitments.kept ≡ self.old.commitments.kept }
+        ensures in_flight { self.new.commitments.flight ≡ self.old.commitments.flight }
+        ensures ok { OnOk result (more ≤ self.new.spare) }
+    {
+        self.commitments.reserve(more)?;
+        self.tips.reserve(more)
+    }
+
+    /// Puts a record in flight behind those that are. A commitment and a tip take memory only where
+    /// none is spare.
     pub fn stage(&mut self, kind: u8, payload: &[u8]) -> Result<(), OutOfMemory>
         requires { IsRecord (record { kind = kind; payload = payload.now }) }
         ensures ok { OnOk result ((kept flight : List Record) → Holds kept flight self.old → Holds kept (flight ++ record_of (record { kind = kind; payload = payload.now }) ∷ []) self.new) }
         ensures err { OnErr result ((kept flight : List Record) → Holds kept flight self.old → Holds kept flight self.new) }
         ensures kept { self.new.commitments.kept ≡ self.old.commitments.kept }
         ensures one { length self.new.commitments.flight ≤ length self.old.commitments.flight + 1 }
+        ensures not_refused { 0 < self.old.spare → kind ≢ 3 → IsOk result }
     {
         if kind == COMMIT {
             return self.stage_commitment(payload);
@@ -106,8 +126,9 @@ impl Lists {
 
     fn stage_commitment(&mut self, payload: &[u8]) -> Result<(), OutOfMemory>
         requires { length payload.now ≡ 44 }
-        ensures ok { OnOk result (self.new.commitments ≡ record { kept = self.old.commitments.kept; flight = self.old.commitments.flight ++ payload.now ∷ [] }) }
-        ensures err { OnErr result (self.new.commitments ≡ self.old.commitments) }
+        ensures ok { OnOk result (IsPushed self.old.commitments self.new.commitments payload.now) }
+        ensures err { OnErr result (IsSame self.old.commitments self.new.commitments) }
+        ensures not_refused { 0 < self.old.spare → IsOk result }
         ensures kept { self.new.commitments.kept ≡ self.old.commitments.kept }
         ensures one { length self.new.commitments.flight ≤ length self.old.commitments.flight + 1 }
         ensures tips { self.new.tips ≡ self.old.tips }
@@ -120,8 +141,9 @@ impl Lists {
 
     fn stage_tip(&mut self, payload: &[u8]) -> Result<(), OutOfMemory>
         requires { length payload.now ≡ 48 }
-        ensures ok { OnOk result (self.new.tips ≡ record { kept = self.old.tips.kept; flight = self.old.tips.flight ++ tip_at payload.now ∷ [] }) }
-        ensures err { OnErr result (self.new.tips ≡ self.old.tips) }
+        ensures ok { OnOk result (IsPushed self.old.tips self.new.tips (tip_at payload.now)) }
+        ensures err { OnErr result (IsSame self.old.tips self.new.tips) }
+        ensures not_refused { 0 < self.old.spare → IsOk result }
         ensures commitments { self.new.commitments ≡ self.old.commitments }
         ensures anchors { self.new.anchors ≡ self.old.anchors }
     {
@@ -130,8 +152,8 @@ impl Lists {
 
     fn stage_anchor(&mut self, payload: &[u8]) -> Result<(), OutOfMemory>
         requires { IsAnchor payload.now }
-        ensures ok { OnOk result (self.new.anchors ≡ record { kept = self.old.anchors.kept; flight = self.old.anchors.flight ++ anchor_at payload.now ∷ [] }) }
-        ensures err { OnErr result (self.new.anchors ≡ self.old.anchors) }
+        ensures ok { OnOk result (IsPushed self.old.anchors self.new.anchors (anchor_at payload.now)) }
+        ensures err { OnErr result (IsSame self.old.anchors self.new.anchors) }
         ensures commitments { self.new.commitments ≡ self.old.commitments }
         ensures tips { self.new.tips ≡ self.old.tips }
     {
@@ -144,6 +166,7 @@ impl Lists {
         ensures holds { (kept flight : List Record) → Holds kept flight self.old → Holds (kept ++ flight) [] self.new }
         ensures kept { self.new.commitments.kept ≡ self.old.commitments.kept ++ self.old.commitments.flight }
         ensures flight { self.new.commitments.flight ≡ [] }
+        ensures spare { self.old.spare ≤ self.new.spare }
     {
         self.commitments.keep();
         self.tips.keep();
@@ -155,6 +178,7 @@ impl Lists {
         ensures holds { (kept flight : List Record) → Holds kept flight self.old → Holds kept [] self.new }
         ensures kept { self.new.commitments.kept ≡ self.old.commitments.kept }
         ensures flight { self.new.commitments.flight ≡ [] }
+        ensures spare { self.old.spare ≤ self.new.spare }
     {
         self.commitments.forget();
         self.tips.forget();

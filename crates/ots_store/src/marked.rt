@@ -1,5 +1,5 @@
 //! A list whose last items are not acknowledged yet.
-ghost use Rattle.std.specs.Prelude.{◌≡◌, ◌≤◌, ◌<◌, ◌++◌, ◌∷◌, [], ◌^◌, length, IfOk, OnOk, OnErr, MatchOption};
+ghost use Rattle.std.specs.Prelude.{◌≡◌, ◌≤◌, ◌<◌, ◌+◌, ◌++◌, ◌∷◌, [], ◌^◌, length, IsOk, IfOk, OnOk, OnErr, MatchOption};
 
 use ots_base::OutOfMemory;
 use std::alloc::Global;
@@ -13,12 +13,16 @@ pub struct Marked<T: Drop> {
 }
 
 impl<T: Drop> Model for Marked<T> {
-    ghost use Rattle.std.specs.Prelude.{◌≤◌, take, drop, length};
+    ghost use Rattle.std.specs.Prelude.{◌≤◌, ◌-◌, take, drop, length, vec_len, vec_capacity};
     ghost use Rattle.ots_store.specs.Marked.{MarkedTold};
 
     ghost Value = { MarkedTold T };
 
-    ghost view = { λ m. record { kept = take m.kept m.items.items; flight = drop m.kept m.items.items } };
+    ghost view = { λ m. record {
+      kept = take m.kept m.items.items;
+      flight = drop m.kept m.items.items;
+      spare = vec_capacity m.items - vec_len m.items;
+    } };
 
     ghost invariant = { λ m. m.kept ≤ length m.items.items };
 }
@@ -50,11 +54,22 @@ impl<T: Drop> Marked<T> {
         self.items.len() - self.kept
     }
 
-    /// Adds an item in flight.
+    /// Takes the memory for some items more.
+    pub fn reserve(&mut self, more: usize) -> Result<(), OutOfMemory>
+        ensures kept { self.new.kept ≡ self.old.kept }
+        ensures flight { self.new.flight ≡ self.old.flight }
+        ensures ok { OnOk result (more ≤ self.new.spare) }
+    {
+        self.items.reserve(more)?;
+        Ok(())
+    }
+
+    /// Adds an item in flight. It takes memory only where none is spare.
     pub fn push(&mut self, item: T) -> Result<(), OutOfMemory>
         ensures kept { self.new.kept ≡ self.old.kept }
         ensures ok { OnOk result (self.new.flight ≡ self.old.flight ++ item ∷ []) }
         ensures err { OnErr result (self.new.flight ≡ self.old.flight) }
+        ensures not_refused { 0 < self.old.spare → IsOk result }
     {
         self.items.push(item)?;
         Ok(())
@@ -64,6 +79,7 @@ impl<T: Drop> Marked<T> {
     pub fn keep(&mut self)
         ensures kept { self.new.kept ≡ self.old.kept ++ self.old.flight }
         ensures flight { self.new.flight ≡ [] }
+        ensures spare { self.new.spare ≡ self.old.spare }
     {
         self.kept = self.items.len();
     }
@@ -72,6 +88,7 @@ impl<T: Drop> Marked<T> {
     pub fn forget(&mut self)
         ensures kept { self.new.kept ≡ self.old.kept }
         ensures flight { self.new.flight ≡ [] }
+        ensures spare { self.old.spare ≤ self.new.spare }
     {
         self.items.truncate(self.kept);
     }

@@ -3,21 +3,23 @@ ghost use Rattle.std.specs.Prelude.{◌≡◌, ◌≤◌, ◌<◌, ◌++◌, ◌
 ghost use Rattle.std.specs.List.{flat_map, AllByRecursion};
 ghost use Rattle.ots_store.specs.Records.{tip_payload, anchor_payload, sized, step_bytes, branch_bytes, FitsTip, FitsAnchor, FitsLimits, HasHash};
 
+use crate::form::TIP_PAYLOAD;
 use crate::{Anchor, Tip};
 use ots_base::OutOfMemory;
 use ots_merkle::Side;
 use std::alloc::Global;
 
 /// The payload of a tip's entry.
-pub fn spell_tip(alloc: Global, tip: &Tip) -> Result<Vec<u8>, OutOfMemory>
-    ensures spelled { IfOk result (λ payload. payload.items ≡ tip_payload tip.now) }
-    ensures fits { OnOk result (FitsTip tip.now) }
+pub fn spell_tip(tip: &Tip) -> [u8; TIP_PAYLOAD]
+    ensures spelled { result ≡ tip_payload tip.now }
+    ensures fits { FitsTip tip.now }
 {
-    let mut payload = Vec::new(alloc);
-    payload.extend_from_slice(&tip.first.to_be_bytes())?;
-    payload.extend_from_slice(&tip.count.to_be_bytes())?;
-    payload.extend_from_slice(&tip.root)?;
-    Ok(payload)
+    let Tip { first, count, root } = *tip;
+    let mut payload = [0; TIP_PAYLOAD];
+    payload[..8].copy_from_slice(&first.to_be_bytes());
+    payload[8..16].copy_from_slice(&count.to_be_bytes());
+    payload[16..].copy_from_slice(&root);
+    payload
 }
 
 /// Whether an anchor is within the limits of its form.

@@ -1,23 +1,25 @@
-ghost use Rattle.std.specs.Prelude.{◌≡◌, ◌≤◌, ◌<◌, ◌+◌, ◌^◌, ◌++◌, ◌∷◌, [], ℕ, List, length, true, false, find, slice_get, Some, Err, IfOk, IfErr, OnOk, OnErr, MatchOption, IsErrOf};
+ghost use Rattle.std.specs.Prelude.{◌≡◌, ◌≢◌, ◌≤◌, ◌<◌, ◌+◌, ◌^◌, ◌++◌, ◌∷◌, [], ℕ, List, length, true, false, find, slice_get, Some, Err, IfOk, IfErr, OnOk, OnErr, MatchOption, IsErrOf};
 ghost use Rattle.std.specs.Option.{option_copied};
 ghost use Rattle.std.specs.List.{AllByRecursion};
 ghost use Rattle.ots_base.specs.Cause.{HasCause, HasCauseWhere};
 ghost use Rattle.ots_disk.specs.Disk.{LeavesOnly};
 ghost use Rattle.ots_journal.specs.Image.{Stands, FitsGroup};
 ghost use Rattle.ots_journal.specs.Journal.{StandsForEither, Refreshed, Unrefreshed};
+ghost use Rattle.ots_journal.specs.Within.{StaysWithin};
 ghost use Rattle.ots_store.specs.Records.{Record, CommitRecord, TipRecord, AnchorRecord, entry_of, record_of, FitsLimits, IsRecord};
 ghost use Rattle.ots_store.specs.Order.{commits_of, tips_of, anchors_of, covers, covered_of, Follows, AreRecords, FirstBad, records_of};
 ghost use Rattle.ots_store.specs.Index.{least};
 ghost use Rattle.ots_store.specs.Opening.{IfBad};
-ghost use Rattle.ots_store.specs.Store.{InRecords, StandsForRecords, StoreStands, Added, Adds, Settles};
+ghost use Rattle.ots_store.specs.Store.{InRecords, StandsForRecords, StoreStands, MakesRoom, Added, Adds, Settles};
 
-use crate::form::{ANCHOR, COMMIT, Span, TIP};
+use crate::form::{ANCHOR, COMMIT, Span, TIP, TIP_PAYLOAD};
 use crate::held::Held;
 use crate::opening::{first_bad, hold_records, stage_entries};
 use crate::progress::Progress;
 use crate::spelling::{fits_limits, spell_anchor, spell_tip};
 use crate::tips::{has_tip, reaches_past};
 use crate::{Anchor, RefusedStore, StoreError, Tip};
+use ots_base::OutOfMemory;
 use ots_disk::Disk;
 use ots_journal::{AppendError, DiskFault, Entry, Journal};
 use std::alloc::Global;
@@ -32,12 +34,12 @@ pub struct Store<D: Disk> {
 }
 
 impl<D: Disk> Model for Store<D> {
-    ghost use Rattle.ots_store.specs.Store.{StoreTold, Keeps};
+    ghost use Rattle.ots_store.specs.Store.{StoreTold, Keeps, spare_in};
     ghost use Rattle.ots_store.specs.Order.{records_of};
 
     ghost Value = { StoreTold D };
 
-    ghost view = { λ s. record { journal = s.journal; records = records_of s.journal.entries } };
+    ghost view = { λ s. record { journal = s.journal; records = records_of s.journal.entries; spare = spare_in s.journal s.held } };
 
     ghost invariant = { λ s. Keeps s.journal s.held };
 }
@@ -216,14 +218,28 @@ impl<D: Disk> Store<D> {
         first_bad(self.held.tips(), &before, entries)
     }
 
-    /// Finds out whether the group in flight is kept. It does nothing where that is known.
+    /// Takes the memory for one commitment or one tip, which is then added without taking any, also
+    /// behind a `refresh`. It does not call the disk.
+    pub fn reserve(&mut self) -> Result<(), OutOfMemory>
+        ensures room { MakesRoom self.old.journal self.new.journal }
+        ensures ok { OnOk result (0 < self.new.spare) }
+        ensures records { self.new.records ≡ self.old.records }
+    {
+        self.held.reserve()?;
+        self.journal.reserve(1, TIP_PAYLOAD)
+    }
+
+    /// Finds out whether the group in flight is kept. It does nothing where that is known, and takes
+    /// no memory.
     pub fn refresh(&mut self) -> Result<(), DiskFault>
         ensures ok { OnOk result (Refreshed D.bytes self.old.journal self.new.journal) }
         ensures err { OnErr result (Unrefreshed D.bytes self.old.journal self.new.journal) }
         ensures any_moment { LeavesOnly D.clock D.images_since self.old.journal.disk self.new.journal.disk (StandsForEither self.old.journal.entries self.old.journal.flight) }
         ensures readable { LeavesOnly D.clock D.images_since self.old.journal.disk self.new.journal.disk StandsForRecords }
         ensures records { self.new.records ≡ records_of self.new.journal.entries }
+        ensures spare { self.old.spare ≤ self.new.spare }
         ensures cause { HasCause (D.faults self.old.journal.disk) (D.faults self.new.journal.disk) result }
+        ensures within { StaysWithin D.clock D.images_since self.old.journal self.new.journal }
     {
         let before = self.journal.count();
         self.journal.refresh()?;
@@ -235,17 +251,24 @@ impl<D: Disk> Store<D> {
         Ok(())
     }
 
-    /// Adds a commitment, and answers its index. It begins with a `refresh`. `DiskFault` leaves the
-    /// commitment in flight, where that `refresh` answered `Ok`: the next one that does decides
-    /// whether it is kept. `Full` and `OutOfMemory` leave the records as the refresh left them.
+    /// Adds a commitment, and answers its index. It takes its memory, and then begins with a
+    /// `refresh`. `DiskFault` leaves the commitment in flight, where that `refresh` answered `Ok`:
+    /// the next one that does decides whether it is kept. `Full` leaves the records as the refresh
+    /// left them. `OutOfMemory` comes only before the disk is called, and all is as before.
     pub fn add_commit(&mut self, commitment: &[u8; 44]) -> Result<u64, AppendError>
         ensures adds { Adds D.bytes D.clock D.images_since self.old.journal self.new.journal (entry_of (CommitRecord commitment.now) ∷ []) result }
+        ensures untouched { result ≡ Err AppendError.OutOfMemory → self.new.journal.disk ≡ self.old.journal.disk }
         ensures records { self.new.records ≡ records_of self.new.journal.entries }
         ensures index { IfOk result (λ i. i + 1 ≡ length (commits_of self.new.records)) }
         ensures acknowledged { OnOk result ((c : List ℕ) → D.images self.new.journal.disk c → Stands c self.new.journal.entries) }
         ensures readable { LeavesOnly D.clock D.images_since self.old.journal.disk self.new.journal.disk StandsForRecords }
         ensures cause { HasCauseWhere (IsErrOf result AppendError.DiskFault) (D.faults self.old.journal.disk) (D.faults self.new.journal.disk) }
+        ensures within { StaysWithin D.clock D.images_since self.old.journal self.new.journal }
     {
+        self.stands();
+        let Ok(()) = self.reserve() else {
+            return Err(AppendError::OutOfMemory);
+        };
         match self.refresh() {
             Ok(()) => {
                 let index = self.commits();
@@ -259,20 +282,20 @@ impl<D: Disk> Store<D> {
     }
 
     /// Adds a tip to a sure store, after whose records it may follow. The refusals are those of
-    /// `add_commit`, which leave the same.
+    /// `add_commit`, which leave the same. It takes memory only where none is spare.
     pub fn add_tip(&mut self, tip: &Tip) -> Result<(), AppendError>
         requires sure { self.old.journal.is_sure ≡ true }
         requires follows { Follows self.old.records (TipRecord tip.now) }
         ensures added { Added D.clock D.images_since self.old.journal self.new.journal (entry_of (TipRecord tip.now) ∷ []) result }
+        ensures not_refused { 0 < self.old.spare → result ≡ Err AppendError.OutOfMemory → ⊥ }
         ensures records { self.new.records ≡ records_of self.new.journal.entries }
         ensures acknowledged { OnOk result ((c : List ℕ) → D.images self.new.journal.disk c → Stands c self.new.journal.entries) }
         ensures readable { LeavesOnly D.clock D.images_since self.old.journal.disk self.new.journal.disk StandsForRecords }
         ensures cause { HasCauseWhere (IsErrOf result AppendError.DiskFault) (D.faults self.old.journal.disk) (D.faults self.new.journal.disk) }
+        ensures within { StaysWithin D.clock D.images_since self.old.journal self.new.journal }
     {
-        match spell_tip(self.alloc, tip) {
-            Ok(payload) => self.add(TIP, &payload),
-            Err(_) => self.no_memory(),
-        }
+        let payload = spell_tip(tip);
+        self.add(TIP, &payload)
     }
 
     /// Adds an anchor to a sure store, after whose records it may follow. The refusals are those of
@@ -286,6 +309,7 @@ impl<D: Disk> Store<D> {
         ensures acknowledged { OnOk result ((c : List ℕ) → D.images self.new.journal.disk c → Stands c self.new.journal.entries) }
         ensures readable { LeavesOnly D.clock D.images_since self.old.journal.disk self.new.journal.disk StandsForRecords }
         ensures cause { HasCauseWhere (IsErrOf result AppendError.DiskFault) (D.faults self.old.journal.disk) (D.faults self.new.journal.disk) }
+        ensures within { StaysWithin D.clock D.images_since self.old.journal self.new.journal }
     {
         match spell_anchor(self.alloc, anchor) {
             Ok(payload) => self.add(ANCHOR, &payload),
@@ -300,10 +324,12 @@ impl<D: Disk> Store<D> {
         requires fits { FitsGroup entries.now }
         requires follow { AreRecords self.old.records entries.now }
         ensures added { Added D.clock D.images_since self.old.journal self.new.journal entries.now result }
+        ensures untouched { result ≡ Err AppendError.OutOfMemory → self.new.journal.disk ≡ self.old.journal.disk }
         ensures records { self.new.records ≡ records_of self.new.journal.entries }
         ensures acknowledged { OnOk result ((c : List ℕ) → D.images self.new.journal.disk c → Stands c self.new.journal.entries) }
         ensures readable { LeavesOnly D.clock D.images_since self.old.journal.disk self.new.journal.disk StandsForRecords }
         ensures cause { HasCauseWhere (IsErrOf result AppendError.DiskFault) (D.faults self.old.journal.disk) (D.faults self.new.journal.disk) }
+        ensures within { StaysWithin D.clock D.images_since self.old.journal self.new.journal }
     {
         match stage_entries(&mut self.held, entries) {
             Ok(()) => {
@@ -318,16 +344,19 @@ impl<D: Disk> Store<D> {
         }
     }
 
-    // Adds a record to a sure store, after whose records it may follow.
+    // Adds a record to a sure store, after whose records it may follow. A commitment and a tip take
+    // memory only where none is spare.
     fn add(&mut self, kind: u8, payload: &[u8]) -> Result<(), AppendError>
         requires sure { self.old.journal.is_sure ≡ true }
         requires is { IsRecord (record { kind = kind; payload = payload.now }) }
         requires follows { Follows self.old.records (record_of (record { kind = kind; payload = payload.now })) }
         ensures added { Added D.clock D.images_since self.old.journal self.new.journal ((record { kind = kind; payload = payload.now }) ∷ []) result }
+        ensures not_refused { 0 < self.old.spare → kind ≢ 3 → length payload.now ≤ 48 → result ≡ Err AppendError.OutOfMemory → ⊥ }
         ensures records { self.new.records ≡ records_of self.new.journal.entries }
         ensures acknowledged { OnOk result ((c : List ℕ) → D.images self.new.journal.disk c → Stands c self.new.journal.entries) }
         ensures readable { LeavesOnly D.clock D.images_since self.old.journal.disk self.new.journal.disk StandsForRecords }
         ensures cause { HasCauseWhere (IsErrOf result AppendError.DiskFault) (D.faults self.old.journal.disk) (D.faults self.new.journal.disk) }
+        ensures within { StaysWithin D.clock D.images_since self.old.journal self.new.journal }
     {
         match self.held.stage(kind, payload) {
             Ok(()) => {
@@ -345,6 +374,7 @@ impl<D: Disk> Store<D> {
         ensures same { self.new ≡ self.old }
         ensures err { result ≡ Err AppendError.OutOfMemory }
         ensures any_moment { LeavesOnly D.clock D.images_since self.old.journal.disk self.new.journal.disk (λ c. Stands c self.old.journal.entries) }
+        ensures within { StaysWithin D.clock D.images_since self.old.journal self.new.journal }
     {
         self.journal.stands();
         Err(AppendError::OutOfMemory)

@@ -8,6 +8,7 @@ use Rattle.ots_journal.specs.declared.entry.Entry.{Entry}
 use Rattle.ots_journal.proofs.Refreshing.{told_at}
 use Rattle.ots_journal.proofs.Found.{empty_keeps, found_gate, found_keeps, found_stands, small_torn}
 use Rattle.ots_journal.proofs.Places.{entries_cut}
+use Rattle.ots_journal.proofs.Within.{torn_within}
 use Rattle.ots_journal.proofs.opening.find_journal.Goals as goal
 
 pub returns-then-length-le-EMPTY_JOURNAL-clause-keeps : goal.returns-then-length-le-EMPTY_JOURNAL-clause-keeps
@@ -94,3 +95,21 @@ returns-clause-gate g c =
     let at : IsGate bytes c.of_file-2.result.size = subst (IsGate bytes) (sym size)
     (found_gate bytes (entries_at bytes places) gate (omega (arith, c.in_ok-bytes.ensures.size, c.if-length-le-EMPTY_JOURNAL.false)) f) in
     subst (λ (x : List ℕ). IsGate x c.of_file-2.result.size) same at)
+
+pub returns-then-length-le-EMPTY_JOURNAL-clause-at_most : goal.returns-then-length-le-EMPTY_JOURNAL-clause-at_most
+returns-then-length-le-EMPTY_JOURNAL-clause-at_most g c f image =
+    let d = g.D.Disk in
+    let old = c.args.disk.now in
+    let mid = c.settled_length.new.disk in
+    torn_within (d.images mid) c.args.limit 0 9
+    (λ b there.
+    let long = told_at (d.bytes old) _ b (sym c.settled_length.ensures.same ∙ c.in_ok-length.ensures.only b there) c.in_ok-length.ensures.length in
+    omega (arith, long, c.if-length-le-EMPTY_JOURNAL.true, c.requires.least))
+    c.requires.least f (c.write_durably.ensures.images f image)
+
+pub returns-clause-at_most : goal.returns-clause-at_most
+returns-clause-at_most g c f image =
+    let d = g.D.Disk in
+    let old = c.args.disk.now in
+    let is = sym c.settled_length.ensures.same ∙ c.in_ok-length.ensures.only f (c.read_whole.ensures.no_more f image) in
+    omega (arith, told_at (d.bytes old) _ f is c.in_ok-length.ensures.length, c.if-length-limit.false)

@@ -4,7 +4,8 @@ use Rattle.ots_store.specs.Opening.{HeldTo, HeldNext}
 use Rattle.ots_store.specs.Order.{records_of}
 use Rattle.ots_store.specs.Records.{Record, IsRecord, record_of}
 use Rattle.ots_store.proofs.Opened.{each_more, get_is, records_more}
-use Rattle.std.proofs.lemmas.List.{length-take}
+use Rattle.std.proofs.lemmas.List.{length-take, take_all}
+use Rattle.ots_store.specs.Held.{Holds}
 use Rattle.ots_store.proofs.Recorded.{entry}
 use Rattle.ots_store.proofs.Storing.{entries_few}
 use Rattle.ots_store.proofs.opening.hold_records.Goals as goal
@@ -30,3 +31,9 @@ of-requires-clause-few g c =
     let front = take i c.args.journal.now.entries in
     let held = c.loop-i.invariant.held.holds.commitments in
     omega (arith, entries_few front, ap length held, length-take i c.args.journal.now.entries, c.count-i-end.ensures.count, c.count-i-end.ensures.bound)
+
+pub returns-clause-ok : goal.returns-clause-ok
+returns-clause-ok g c =
+    let entries = c.args.journal.now.entries in
+    let whole : take c.loop-i.i entries ≡ entries = take_all c.loop-i.i entries (omega (arith, c.count-i-end.ensures.count, c.loop-i-test.false)) in
+    subst (λ (l : List Entry). Holds (records_of l) [] c.in_ok-of.field-0) whole (c.in_ok-of.ensures (records_of (take c.loop-i.i entries)) [] c.loop-i.invariant.held.holds)

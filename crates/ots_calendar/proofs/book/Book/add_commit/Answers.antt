@@ -20,4 +20,4 @@ returns-clause-adds g c = rw (← c.self.view_is) c.add_commit.ensures.adds
 pub returns-clause-readable : goal.returns-clause-readable
 returns-clause-readable g c =
     rw (← c.self.view_is) (adds_readable g.D.Disk.bytes g.D.Disk.images g.D.Disk.clock g.D.Disk.images_since c.self.inside.store c.add_commit.new.self.journal c.self.inside.tree c.args.commitment.now c.self.invariant.records c.stands.ensures
-    c.add_commit.result (omega arith) c.add_commit.ensures.adds)
+    g.met.D.Disk.only_now c.add_commit.result (omega arith) c.add_commit.ensures.adds)

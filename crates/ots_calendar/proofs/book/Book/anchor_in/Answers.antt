@@ -2,6 +2,7 @@ use Rattle.std.proofs.Common.{sym, ap, ◌∙◌}
 use Rattle.std.proofs.lemmas.Result.{err_from_is_err_and}
 use Rattle.std.specs.Prelude.{Ok, Err}
 use Rattle.ots_disk.specs.Moments.{joined}
+use Rattle.ots_journal.specs.Within.{joined_within}
 use Rattle.ots_calendar.specs.Anchors.{anchor_answer}
 use Rattle.ots_calendar.specs.Book.{StandsForBook}
 use Rattle.ots_calendar.proofs.AnchoringIn.{anchors_none, anchors_given}
@@ -38,3 +39,13 @@ pub returns-clause-readable : goal.returns-clause-readable
 returns-clause-readable g c =
     joined g.D.Disk.clock g.D.Disk.images_since c.args.self.now.store.journal.disk c.refresh.new.self.store.journal.disk c.store_anchor.new.self.store.journal.disk StandsForBook StandsForBook StandsForBook
     c.refresh.ensures.readable c.store_anchor.ensures.readable (λ b h. h) (λ b h. h)
+
+pub returns-in_err-store_anchor-clause-within : goal.returns-in_err-store_anchor-clause-within
+returns-in_err-store_anchor-clause-within g c =
+    joined_within g.D.Disk.clock g.D.Disk.images_since c.args.self.now.store.journal c.refresh.new.self.store.journal c.store_anchor.new.self.store.journal
+    c.refresh.ensures.within c.in_ok-refresh.ensures.ok.limit c.store_anchor.ensures.within
+
+pub returns-clause-within : goal.returns-clause-within
+returns-clause-within g c =
+    joined_within g.D.Disk.clock g.D.Disk.images_since c.args.self.now.store.journal c.refresh.new.self.store.journal c.store_anchor.new.self.store.journal
+    c.refresh.ensures.within c.in_ok-refresh.ensures.ok.limit c.store_anchor.ensures.within

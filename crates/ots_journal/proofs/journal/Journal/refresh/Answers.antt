@@ -1,6 +1,7 @@
 use Rattle.std.proofs.Common.{◌≡◌, ◌+◌, false, inr, refl, sym, ◌∙◌, arith, subst}
 use Rattle.ots_disk.specs.Moments.{started, weaker, if_told}
 use Rattle.ots_journal.specs.Journal.{Keeps, size_with}
+use Rattle.ots_journal.specs.Within.{started_within}
 use Rattle.ots_journal.proofs.Staging.{staged_next}
 use Rattle.ots_journal.proofs.Standing.{keeps_either}
 use Rattle.ots_journal.proofs.Refreshing.{told_at, gate_there, keeps_opened, keeps_closed}
@@ -49,6 +50,7 @@ invariant_of-self-then-branch g c =
       },
       λ is. c.keep.ensures.staged,
       λ is. absurd (cc),
+      λ f image. c.self.invariant.4 f (c.is_gate_open.ensures.no_more f image),
     )
 
 pub returns-then-branch-clause-ok : goal.returns-then-branch-clause-ok
@@ -91,4 +93,28 @@ invariant_of-self-2 g c =
       },
       λ is. c.forget.ensures.staged,
       λ is. absurd (cc),
+      λ f image. c.self.invariant.4 f (c.is_gate_open.ensures.no_more f image),
     )
+
+pub returns-then-self-clause-within : goal.returns-then-self-clause-within
+returns-then-self-clause-within g c =
+    let d = g.D.Disk in
+    started_within d.clock d.images_since d.images c.args.self.now g.met.D.Disk.only_now (rw (← c.self.view_is) c.self.invariant.4)
+
+pub returns-in_err-is_gate_open-clause-within : goal.returns-in_err-is_gate_open-clause-within
+returns-in_err-is_gate_open-clause-within g c =
+    let d = g.D.Disk in
+    let j = c.self.inside in
+    rw (← c.self.view_is) (weaker d.clock d.images_since j.disk c.is_gate_open.new.disk _ _ c.is_gate_open.ensures.any_moment c.self.invariant.4)
+
+pub returns-then-branch-clause-within : goal.returns-then-branch-clause-within
+returns-then-branch-clause-within g c =
+    let d = g.D.Disk in
+    let j = c.self.inside in
+    rw (← c.self.view_is) (weaker d.clock d.images_since j.disk c.is_gate_open.new.disk _ _ c.is_gate_open.ensures.any_moment c.self.invariant.4)
+
+pub returns-clause-within : goal.returns-clause-within
+returns-clause-within g c =
+    let d = g.D.Disk in
+    let j = c.self.inside in
+    rw (← c.self.view_is) (weaker d.clock d.images_since j.disk c.is_gate_open.new.disk _ _ c.is_gate_open.ensures.any_moment c.self.invariant.4)

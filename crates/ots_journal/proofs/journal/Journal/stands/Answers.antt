@@ -10,4 +10,5 @@ returns g c =
       either = keeps_either (d.images j.disk) _ _ _ _ c.self.invariant.0;
       sure = keeps_sure (d.images j.disk) _ _ _ _ c.self.invariant.0;
       read = λ is. if_told (d.bytes j.disk) _ (λ b told. keeps_sure (d.images j.disk) _ _ _ _ c.self.invariant.0 is b (g.met.D.Disk.read_is_image j.disk b told));
+      within = c.self.invariant.4;
     })

@@ -12,7 +12,7 @@ keep-requires g c =
 pub invariant_of-self-else-count-before : goal.invariant_of-self-else-count-before
 invariant_of-self-else-count-before g c =
     taken_in g.D.Disk.bytes c.self.inside.journal c.refresh.new.self c.self.inside.held c.keep.new.self c.self.invariant c.in_ok-refresh.ensures.ok
-    (λ same. c.if-count-before.false (c.count.ensures.count ∙ same ∙ sym c.count-before.ensures.count)) c.keep.ensures
+    (λ same. c.if-count-before.false (c.count.ensures.count ∙ same ∙ sym c.count-before.ensures.count)) c.keep.ensures.holds
 
 pub returns-in_err-refresh-clause-readable : goal.returns-in_err-refresh-clause-readable
 returns-in_err-refresh-clause-readable g c =

@@ -1,0 +1,10 @@
+pub mod Events
+pub mod FileCalls
+pub mod FileDisk
+pub mod MemoryFile
+pub mod Note
+pub mod Props
+pub mod Runs
+pub mod Supposed
+pub mod SystemFile
+pub mod Told
