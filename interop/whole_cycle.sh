@@ -20,11 +20,15 @@ for crate in "$top"/crates/*; do
     done
 done
 cp "$top/crates.txt" "$top/HANDLES" "$work"
-echo 'ots_cycle_tests tests_may=Threads+Wait: ots_cli_runs ots_cli ots_calendar_runs ots_shared ots_service ots_outside ots_server ots_disk ots_io hex' >>"$work/crates.txt"
+echo 'ots_cycle_tests tests_may=Threads+Wait: ots_cli ots_calendar ots_store ots_journal ots_block ots_attest ots_tree ots_ops ots_shared ots_service ots_outside ots_server ots_disk ots_io sha2 hex' >>"$work/crates.txt"
 mkdir -p "$work/crates/ots_cycle_tests/src" "$work/crates/ots_cycle_tests/specs"
 : >"$work/crates/ots_cycle_tests/specs/Lib.antt"
-for file in bytes calendar client cycle lib; do
+mkdir "$work/crates/ots_cycle_tests/src/client_runs"
+for file in bytes calendar client client_runs client_runs/proofs client_runs/runs cycle lib; do
     cp "$top/interop/whole_cycle/$file.rt.in" "$work/crates/ots_cycle_tests/src/$file.rt"
 done
+# The runs of the calendar that its own tests have.
+cp -R "$top/crates/ots_calendar_tests/src/calendar_runs.rt" "$top/crates/ots_calendar_tests/src/calendar_runs" \
+    "$work/crates/ots_cycle_tests/src/"
 cd "$work/crates/ots_cycle_tests"
 rt try --test

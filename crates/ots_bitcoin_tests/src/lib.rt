@@ -1,12 +1,13 @@
-//! What no clause of `ots_bitcoin` says: that a table is read with ample memory, and that the
-//! definitions give the fields and the hashes of Bitcoin's first blocks.
+//! Tests of headers, blocks and Merkle trees: what their clauses can't say of themselves.
 #![tactic(auto)]
 
 #[cfg(test)]
-mod blocks;
+mod anchor;
 #[cfg(test)]
-mod headers;
+mod bitcoin;
 #[cfg(test)]
-mod tables;
+mod block;
 #[cfg(test)]
-mod zeros;
+mod merkle;
+#[cfg(test)]
+mod round;

@@ -1,14 +1,9 @@
-//! What no clause of `ots_calendar` says: that each call answers with ample memory, that a book has
-//! the values that another program computed, and what a caller does after a call that failed.
+//! Tests of the calendar's book: what its clauses can't say of themselves.
 #![tactic(auto)]
 
 #[cfg(test)]
-mod anchors;
+mod calendar;
 #[cfg(test)]
-mod failing;
+mod calendar_crashes;
 #[cfg(test)]
-mod roots;
-#[cfg(test)]
-mod rounds;
-#[cfg(test)]
-mod values;
+mod calendar_runs;

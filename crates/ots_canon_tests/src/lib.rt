@@ -1,14 +1,7 @@
-//! Tests of ots_canon: trees and proofs written byte for byte, what wide and deep ones cost, and many
-//! small trees against a plain sort of their paths.
+//! Tests of canonical trees and of pending attestations: what their clauses can't say of themselves.
 #![tactic(auto)]
 
 #[cfg(test)]
-mod bytes;
+mod canon;
 #[cfg(test)]
-mod large;
-#[cfg(test)]
-mod plain;
-#[cfg(test)]
-mod random;
-#[cfg(test)]
-mod rows;
+mod pending;

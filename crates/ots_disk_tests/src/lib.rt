@@ -1,10 +1,9 @@
-//! What no clause of `ots_disk` says: that each call of a disk in memory answers with ample memory, and
-//! the images of small histories.
+//! Tests of disks, of files under them and of the journal: what their clauses can't say of themselves.
 #![tactic(auto)]
 
 #[cfg(test)]
-mod images;
+mod disk;
 #[cfg(test)]
-mod in_memory;
+mod file;
 #[cfg(test)]
-mod steps;
+mod journal;

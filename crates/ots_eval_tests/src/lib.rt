@@ -1,12 +1,7 @@
-//! What no clause of `ots_eval` says: that its calls succeed with ample memory, and that the
-//! definitions give the worked rows. Beside them the hash of a file, with which a verdict begins.
+//! Tests of verdicts, of a tree and of a file that is read in pieces: what their clauses can't say of themselves.
 #![tactic(auto)]
 
 #[cfg(test)]
-mod genesis;
+mod eval;
 #[cfg(test)]
-mod hashes;
-#[cfg(test)]
-mod values;
-#[cfg(test)]
-mod verdicts;
+mod verifier;

@@ -1,17 +1,11 @@
-//! What no clause of `ots_http` says of the messages that it reads: that its calls succeed with ample
-//! memory, that the definitions give the rows of the tables, and that nothing is read after a fault
-//! nor, byte by byte, after the message.
+//! Tests of addresses, messages and conversations: what their clauses can't say of themselves.
 #![tactic(auto)]
 
 #[cfg(test)]
-mod heads;
+mod address;
 #[cfg(test)]
-mod replies;
+mod http;
 #[cfg(test)]
-mod reply_cases;
+mod http_written;
 #[cfg(test)]
-mod request_cases;
-#[cfg(test)]
-mod requests;
-#[cfg(test)]
-mod texts;
+mod upgrade;

@@ -1,13 +1,11 @@
-//! Tests of ots_ops: what its clauses can't say of themselves.
+//! Tests of the layers that a token of a proof is made of: what their clauses can't say of themselves.
 #![tactic(auto)]
 
 #[cfg(test)]
-mod applying;
+mod attest;
 #[cfg(test)]
-mod borrowed;
+mod ops;
 #[cfg(test)]
-mod hashing;
+mod ripemd;
 #[cfg(test)]
-mod lists;
-#[cfg(test)]
-mod tests;
+mod varint;

@@ -1,16 +1,8 @@
-//! What no clause of `ots_server` says of `serve`: the replies, letter for letter, what is printed,
-//! and that serving stops where it was asked to. Expected bytes are those of Python's hashlib and hmac.
+//! What no clause of `ots_server` says of `serve` over a real socket. All else that it answers is tested by rows of
+//! data.
 #![tactic(auto)]
 
 #[cfg(test)]
-mod bytes;
-#[cfg(test)]
-mod failing_file;
-#[cfg(test)]
 mod loopback;
 #[cfg(test)]
-mod runs;
-#[cfg(test)]
-mod serving;
-#[cfg(test)]
-mod stopping;
+mod run;

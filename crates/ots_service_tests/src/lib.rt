@@ -1,12 +1,9 @@
-//! What no clause of `ots_service` says: that each reply comes with ample memory, letter for letter,
-//! and what several callers of one book do. Expected bytes are those of Python's hashlib and hmac.
+//! Tests of the book that several callers share, and of its connections: what their clauses can't say of themselves.
 #![tactic(auto)]
 
 #[cfg(test)]
+mod service;
+#[cfg(test)]
 mod serving;
 #[cfg(test)]
-mod sharing;
-#[cfg(test)]
-mod tests;
-#[cfg(test)]
-mod texts;
+mod shared;

@@ -1,12 +1,11 @@
-//! Tests of ots_tree: trees written byte for byte, what sound means at its limits, trees made of
-//! others, the messages of pending paths, and what wide and deep trees cost.
+//! Tests of trees, of their readers and of proof files: what their clauses can't say of themselves.
 #![tactic(auto)]
 
 #[cfg(test)]
-mod growing;
+mod detached;
 #[cfg(test)]
-mod making;
+mod pieces;
 #[cfg(test)]
-mod pending;
+mod reader;
 #[cfg(test)]
-mod tests;
+mod tree;

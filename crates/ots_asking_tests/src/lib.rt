@@ -1,6 +1,0 @@
-//! What no clause of `ots_cli` says of `upgrade`: that it ends in each of its ways, with ample memory,
-//! and what it sends, prints and writes then, as bytes.
-#![tactic(auto)]
-
-#[cfg(test)]
-mod upgrade;

@@ -1,0 +1,4 @@
+pub mod Numbers
+pub mod Compared
+pub mod Heights
+pub mod OneCheck

@@ -1,0 +1,19 @@
+//! Laws of chains of headers.
+ghost use Rattle.std.specs.Prelude.{◌≡◌, ◌+◌, ◌≤◌, ℕ, Some};
+ghost use Rattle.ots_bitcoin.specs.declared.header.Header.{Header};
+ghost use Rattle.ots_bitcoin.specs.HeaderTable.{Table, header_at};
+ghost use Rattle.ots_chain.specs.declared.checking.ChainCheck.{ChainCheck};
+ghost use Rattle.ots_chain.specs.Chain.{IsCheckOf, IsWhole, hash_of};
+
+/// A table has one check's answer.
+pub fn one_check()
+    ensures { (t : Table) (a b : ChainCheck) → IsCheckOf t a → IsCheckOf t b → a ≡ b }
+{}
+
+/// Where the check of a table is `Whole`, each header but the first names the hash of the one before it.
+pub fn whole_is_linked()
+    ensures { (t : Table) (check : ChainCheck) (height : ℕ) (before header : Header)
+        → IsWhole check → IsCheckOf t check → t.first ≤ height
+        → header_at t height ≡ Some before → header_at t (height + 1) ≡ Some header
+        → header.previous ≡ hash_of before }
+{}

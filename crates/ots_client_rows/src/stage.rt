@@ -1,0 +1,46 @@
+// What a run is done on.
+use crate::table::Table;
+use std::alloc::Global;
+
+/// Which calls fail, each by its number from 1: of the shelf, writes of the sink, calls of the dialer and
+/// draws of a nonce.
+#[derive(Drop)]
+pub struct Failing {
+    pub shelf: Vec<u64>,
+    pub sink: Vec<u64>,
+    pub dialer: Vec<u64>,
+    pub draws: Vec<u64>,
+}
+
+impl Failing {
+    /// None fails.
+    pub fn none(alloc: Global) -> Failing {
+        Failing {
+            shelf: Vec::new(alloc),
+            sink: Vec::new(alloc),
+            dialer: Vec::new(alloc),
+            draws: Vec::new(alloc),
+        }
+    }
+}
+
+/// The files, the nonces to come, the calendars' replies by their addresses, and which calls fail.
+#[derive(Drop)]
+pub struct Stage {
+    pub files: Table,
+    pub nonces: Vec<u8>,
+    pub replies: Table,
+    pub failing: Failing,
+}
+
+impl Stage {
+    /// Nothing is there, and no call fails.
+    pub fn empty(alloc: Global) -> Stage {
+        Stage {
+            files: Table::new(alloc),
+            nonces: Vec::new(alloc),
+            replies: Table::new(alloc),
+            failing: Failing::none(alloc),
+        }
+    }
+}

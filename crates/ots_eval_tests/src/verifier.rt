@@ -1,0 +1,7 @@
+//! Tests of proof files that come in pieces: what no clause of `ots_verifier` says. Each row is fed
+//! whole, and one byte at a time.
+mod confirmed;
+mod genesis;
+mod pieces;
+mod refused;
+mod source;

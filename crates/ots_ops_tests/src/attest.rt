@@ -1,0 +1,3 @@
+//! Tests of ots_attest: what its clauses can't say of themselves.
+mod borrowed;
+mod tests;

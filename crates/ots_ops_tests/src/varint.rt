@@ -1,0 +1,2 @@
+//! Tests of ots_varint: what its clauses can't say of themselves.
+mod tests;
