@@ -87,11 +87,11 @@ impl Headers {
     }
 
     /// How many headers the table has, 1 to 1,048,576.
-    pub fn count(&self) -> usize
+    pub fn count(&self) -> u64
         ensures count { result ≡ length self.now.headers }
         ensures limits { IsTable self.now }
     {
-        self.bytes.len() / 80
+        (self.bytes.len() / 80) as u64
     }
 }
 

@@ -9,7 +9,7 @@ use std::test::Fail;
 fn a_table_has_whole_headers(rt: HostRuntime) -> Result<(), Fail> {
     let all = both()?;
     // The input, and the number of its headers, if it is a table.
-    let rows: [(&[u8], Option<usize>); 8] = [
+    let rows: [(&[u8], Option<u64>); 8] = [
         (b"", None),
         (&all[..1], None),
         (&all[..79], None),
