@@ -7,7 +7,8 @@
 //! | [`Book::take`], [`Book::withdraw`] | the tree of a ticket whose round is closed; a ticket given up |
 //! | [`Book::ask`] | what is answered of a commitment |
 //! | [`Book::tip`], [`Book::anchor`] | the tree over what is not covered; its root found in a block |
-//! | [`calls_grow`], [`answers_stay`], [`cycle`] | records are added at the end alone; what holds of answers then; where the whole way leads |
+//! | [`calls_grow`], [`answers_stay`] | records are added at the end alone; what holds of answers then |
+//! | [`cycle`] | where the whole way leads |
 //! | [`trees_are_short`] | a tree that is answered is under 10,000 bytes |
 //!
 //! A call that may write begins with a refresh of the store, so that a record in flight that was

@@ -4,7 +4,7 @@
 //! | room | what it has |
 //! |---|---|
 //! | `ots_base` | want of memory, and the limits that several layers share |
-//! | `ots_outside` | the traits: [`Source`], [`Sink`], [`Shelf`], [`Link`], [`Dialer`], [`Accepter`], [`Nonces`], [`Clock`] |
+//! | `ots_outside` | the traits, as [`Source`], [`Sink`], [`Shelf`], [`Link`], [`Dialer`], [`Accepter`] |
 //! | `ots_memory` | their forms in memory, which tell all that they hold |
 //! | `ots_real` | files, sockets, the system's clock and random source |
 #![tactic(auto)]

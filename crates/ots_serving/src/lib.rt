@@ -2,7 +2,8 @@
 //!
 //! | name | what it is |
 //! |---|---|
-//! | [`Front`] | where connections come in, with the clock and the nonces; [`Front::turn`] accepts one, and [`Front::give_back`] gives it back |
+//! | [`Front`] | where connections come in, with the clock and the nonces |
+//! | [`Front::turn`], [`Front::give_back`] | accepts a connection; gives it back |
 //! | [`Turn`] | a connection, with its second and its nonce |
 //! | [`serve_links`] | serves connections with several workers, until serving is over |
 //! | [`Ended`], [`Ending`] | what it hands back, and how it ended |

@@ -9,29 +9,34 @@
 //! |---|---|
 //! | `# ..` | nothing: what the rows below it show |
 //! | `let NAME WORDS` | from here on `$NAME` stands for these words |
-//! | `disk BYTES`, `fails N..`, `limit N`, `room CALLS WRITE FILE` | what the disk holds, which of its calls fail, how long the journal may be, how much the disk can do |
+//! | `disk BYTES`, `fails N..` | what the disk holds, and which of its calls fail |
+//! | `limit N`, `room CALLS WRITE FILE` | how long the journal may be, and how much the disk can do |
 //! | `journal`, `store` | opens the disk as one; again, where one was open on it |
 //! | `left BYTES`, `calls N` | asks whether the disk holds these bytes; its calls from this one on |
-//! | `images journal FROM TO CHOICE..`, or `store` | the images of a crash inside these calls, the last of them left out: how many entries each has, and how many with one more when it is opened once more |
+//! | `images journal FROM TO CHOICE..`, or `store` | the images of a crash in these calls but the last, as told below |
 //! | `version1 BYTES` | the entries of a journal of version 1 |
 //!
 //! | line behind `journal` | what is asked |
 //! |---|---|
 //! | `append KIND BYTES`, `group ENTRIES`, `reserve ENTRIES BYTES`, `refresh` | the call of this name |
 //! | `each ENTRIES` | `append` of each by itself |
-//! | `state`, `entry N`, `entries ENTRIES` | whether it is sure, its gate, how many entries and faults there are; an entry; whether all are these |
+//! | `state` | whether it is sure, its gate, how many entries and faults there are |
+//! | `entry N`, `entries ENTRIES` | an entry; whether all are these |
 //!
 //! | line behind `store` | what is asked |
 //! |---|---|
-//! | `commit BYTES`, `tip FIRST COUNT BYTES`, `anchor FIRST COUNT HEIGHT BYTES`, `group ENTRIES`, `reserve`, `refresh` | the call of this name, where it may be made |
+//! | `commit BYTES`, `tip FIRST COUNT BYTES` | the call of this name, where it may be made |
+//! | `anchor FIRST COUNT HEIGHT BYTES`, `group ENTRIES`, `reserve`, `refresh` | the same |
 //! | `bad ENTRIES` | the first of these that may not follow |
 //! | `commits BYTES`, `indexes BYTES` | `commit` or `index` of 44 bytes of each value |
-//! | `index BYTES`, `covering N`, `heights N` | the index of a commitment, the anchor that covers an index, the heights of those that cover the indexes below N |
+//! | `index BYTES`, `covering N` | the index of a commitment, the anchor that covers an index |
+//! | `heights N` | the heights of the anchors that cover the indexes below N |
 //! | `state`, `entry N`, `commitment N`, `commitments ENTRIES`, `tips` | what it holds |
 //!
 //! BYTES are words: hexadecimal digits, or `xx*N` for a byte that stands so many times. ENTRIES are
 //! `KIND BYTES`, each but the last with a semicolon behind it. CHOICE is `dropped`, `kept`, or the byte
-//! that fills what was not durable.
+//! that fills what was not durable. `images` tells of each image how many entries it has, and how many
+//! with one more when it is opened once more.
 #![tactic(auto)]
 
 mod crash;
