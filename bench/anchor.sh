@@ -8,11 +8,11 @@ here=$(cd "$(dirname "$0")" && pwd)
 work=$(mktemp -d)
 trap 'rm -rf "$work"' EXIT
 mkdir -p "$work/crates/anchor_speed/src" "$work/crates/anchor_speed/specs"
-for name in ots_base ots_outside ots_varint ots_ripemd ots_ops ots_merkle ots_bitcoin ots_block ots_anchor; do
+for name in ots_base ots_outside ots_varint ots_ripemd ots_ops ots_merkle ots_headers ots_block ots_anchor; do
     cp -r "$here/../crates/$name" "$work/crates/$name"
     grep "^$name:" "$here/../crates.txt" >> "$work/crates.txt"
 done
-echo 'anchor_speed: ots_anchor ots_block ots_bitcoin sha2 anyhow' >> "$work/crates.txt"
+echo 'anchor_speed: ots_anchor ots_block ots_headers sha2 anyhow' >> "$work/crates.txt"
 cp "$here/anchor/main.rt.in" "$work/crates/anchor_speed/src/main.rt"
 : > "$work/crates/anchor_speed/specs/Lib.antt"
 (cd "$work/crates/anchor_speed" && rt run > "$work/log" 2>&1) || {

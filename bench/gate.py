@@ -9,7 +9,7 @@
 Each second the processor time of every process below the run is read from /proc. What ended between two
 readings is lost; where the run was started here, the system counts it, and it is a line of its own. The
 table of docs/GATE.md is printed beside, crate by crate. A library is proved once (`library`), a second time
-before its must-fail edits are tried over that, and once more behind them (`seed`); the edits of a crate are
+before its must-fail edits are tried over that, and once more after them (`seed`); the edits of a crate are
 summed (`edits`); a crate of tests is checked as an empty library (`library`) and then proved and built
 (`tests`); a program is proved once and built by two compilers (`program`).
 """

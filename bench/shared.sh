@@ -9,7 +9,7 @@ work=$(mktemp -d)
 trap 'rm -rf "$work"' EXIT
 speed="$work/crates/shared_speed"
 mkdir -p "$speed/src" "$speed/specs" "$speed/proofs/callers/turn" "$speed/proofs/callers/work"
-for name in ots_base ots_outside ots_varint ots_ripemd ots_ops ots_attest ots_tree ots_merkle ots_bitcoin ots_block \
+for name in ots_base ots_outside ots_varint ots_ripemd ots_ops ots_attest ots_tree ots_merkle ots_headers ots_block \
     ots_anchor ots_disk ots_journal ots_store ots_round ots_tickets ots_calendar ots_shared; do
     cp -r "$here/../crates/$name" "$work/crates/$name"
     grep "^$name[ :]" "$here/../crates.txt" >> "$work/crates.txt"

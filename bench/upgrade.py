@@ -13,7 +13,7 @@ import tempfile
 
 TOP = os.path.dirname(os.path.dirname(os.path.abspath(__file__)))
 PROGRAM = os.path.join(TOP, 'build', 'ots')
-FRONT = b'\x00OpenTimestamps\x00\x00Proof\x00\xbf\x89\xe2\xe8\x84\xe8\x92\x94\x01\x08' + bytes(32)
+PREFIX = b'\x00OpenTimestamps\x00\x00Proof\x00\xbf\x89\xe2\xe8\x84\xe8\x92\x94\x01\x08' + bytes(32)
 PENDING = b'\x00' + bytes.fromhex('83dfe30d2ef90c8e')
 # Append 4064 bytes to the digest's 32.
 LONG = b'\xf0\xe0\x1f' + b'a' * 4064
@@ -31,20 +31,20 @@ def forked(items):
 
 
 def pairs(count):
-    return FRONT + forked([b'\xf0\x04' + i.to_bytes(4, 'big') + end(b'http://calendar.x') for i in range(count)])
+    return PREFIX + forked([b'\xf0\x04' + i.to_bytes(4, 'big') + end(b'http://calendar.x') for i in range(count)])
 
 
 def places(count):
-    return FRONT + LONG + forked([end(b'')] * count)
+    return PREFIX + LONG + forked([end(b'')] * count)
 
 
 def uris(count):
-    return FRONT + LONG + forked([end(b'%06d' % i) for i in range(count)])
+    return PREFIX + LONG + forked([end(b'%06d' % i) for i in range(count)])
 
 
 def short_uris(count):
     three = itertools.islice(itertools.product(CHARACTERS, repeat=3), count)
-    return FRONT + LONG + forked([end(''.join(uri).encode()) for uri in three])
+    return PREFIX + LONG + forked([end(''.join(uri).encode()) for uri in three])
 
 
 def run(name, proof, folder):

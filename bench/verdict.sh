@@ -8,11 +8,11 @@ here=$(cd "$(dirname "$0")" && pwd)
 work=$(mktemp -d)
 trap 'rm -rf "$work"' EXIT
 mkdir -p "$work/crates/verdict_speed/src" "$work/crates/verdict_speed/specs"
-for name in ots_base ots_outside ots_memory ots_real ots_io ots_varint ots_ripemd ots_ops ots_attest ots_tree ots_reader ots_detached ots_bitcoin ots_eval; do
+for name in ots_base ots_outside ots_memory ots_real ots_io ots_varint ots_ripemd ots_ops ots_attest ots_tree ots_reader ots_detached ots_headers ots_verdicts; do
     cp -r "$here/../crates/$name" "$work/crates/$name"
     grep "^$name:" "$here/../crates.txt" >> "$work/crates.txt"
 done
-echo 'verdict_speed: ots_eval ots_bitcoin ots_detached ots_tree ots_io anyhow' >> "$work/crates.txt"
+echo 'verdict_speed: ots_verdicts ots_headers ots_detached ots_tree ots_io anyhow' >> "$work/crates.txt"
 cp "$here/verdict/main.rt.in" "$work/crates/verdict_speed/src/main.rt"
 : > "$work/crates/verdict_speed/specs/Lib.antt"
 library() {

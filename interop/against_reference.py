@@ -402,7 +402,7 @@ def compare_purpose(_rng, folder, _count):
         ('a padded height', HEAD + bitcoin + b'\x02\x80\x00', 3, 'at 65: payload number', True),
         ('a height of 2^64', HEAD + bitcoin + b'\x0a' + 9 * b'\x80' + b'\x02', 3, 'at 65: payload number', True),
         ('keccak', HEAD + b'\x67' + BLOCK_0, 3, 'at 65: keccak', True),
-        ('a byte behind the tree', HEAD + BLOCK_0 + b'\x00', 3, 'at 76: trailing bytes', False),
+        ('a byte after the tree', HEAD + BLOCK_0 + b'\x00', 3, 'at 76: trailing bytes', False),
         ('more than 4 MiB', HEAD + 512 * (b'\xff' + unknown) + BLOCK_0, 8, 'too big', True),
         ('an Ethereum payload of no height', HEAD + bytes.fromhex('0030fe8087b5c7ead702ffff'), 0, 'unknown 30fe8087b5c7ead7 ffff', False),
         ('equal siblings', HEAD + b'\xff\x08' + BLOCK_0 + b'\x08' + BLOCK_0[:-1] + b'\x01', 0, '0 sha256\n1 bitcoin 0\n0 sha256\n1 bitcoin 1\n', True),

@@ -34,7 +34,7 @@ except ImportError:
     sys.exit(0)
 
 TOP = os.path.dirname(os.path.dirname(os.path.abspath(__file__)))
-CRATES = ['ots_base', 'ots_outside', 'ots_varint', 'ots_ripemd', 'ots_ops', 'ots_merkle', 'ots_bitcoin', 'ots_block']
+CRATES = ['ots_base', 'ots_outside', 'ots_varint', 'ots_ripemd', 'ots_ops', 'ots_merkle', 'ots_headers', 'ots_block']
 COUNT = 2000
 
 
@@ -44,7 +44,7 @@ def build(work):
              for line in open(os.path.join(TOP, 'crates.txt'), encoding='utf8') if line[0] not in '#\n'}
     with open(os.path.join(work, 'crates.txt'), 'w', encoding='utf8') as out:
         out.writelines(lines[name] for name in CRATES)
-        out.write('blocks: ots_block ots_bitcoin ots_merkle hex anyhow\n')
+        out.write('blocks: ots_block ots_headers ots_merkle hex anyhow\n')
     for name in CRATES:
         shutil.copytree(os.path.join(TOP, 'crates', name), os.path.join(work, 'crates', name),
                         ignore=shutil.ignore_patterns('out'))
@@ -246,7 +246,7 @@ def segwit():
     print(block.serialize().hex())
     for tx in block.vtx:
         print(tx.GetTxid().hex(), CTransaction(tx.vin, tx.vout, tx.nLockTime, tx.nVersion).serialize().hex())
-    # No input behind a marker: the library reads it and has no way to write it.
+    # No input after a marker: the library reads it and has no way to write it.
     bare = bytes.fromhex('01000000' '0001' '00' '01' '0100000000000000' '0151' '00000000')
     print(bare.hex(), CTransaction.deserialize(bare).GetTxid().hex())
 

@@ -208,7 +208,7 @@ def one_ticket():
     show('TICKET_TREE', spelled(to_commitment) + pending())
     show('COMPLETE', spelled(anchor.way(0)) + bitcoin(7))
     show('JOURNAL', stored)
-    # the same behind the first, at the next second
+    # the same after the first, at the next second
     later = commitment(SECOND + 1, [leaf(*t) for t in tickets])
     holds = holding(root([sha256(later)]))
     second = Anchor(1, [later], [holds], 0, 8)

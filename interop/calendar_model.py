@@ -205,7 +205,7 @@ def spelled_entry(kind, payload):
 
 
 def read_entry(data, place, end):
-    """The entry at a place and the place behind it, or `None`."""
+    """The entry at a place and the place after it, or `None`."""
     if place + 5 > end:
         return None
     kind, size = struct.unpack_from('>BI', data, place)
@@ -234,7 +234,7 @@ def read_version_1(data):
 
 
 def read_group(data, gate):
-    """The entries of the group behind an open gate, and the next gate."""
+    """The entries of the group after an open gate, and the next gate."""
     if gate + 7 > len(data):
         raise damaged(gate)
     count, size = struct.unpack_from('>HI', data, gate + 1)
@@ -254,7 +254,7 @@ def read_group(data, gate):
 
 
 class Journal:
-    """The entries on a disk. A group is written behind a closed gate and synced, and then the gate is opened and synced.
+    """The entries on a disk. A group is written after a closed gate and synced, and then the gate is opened and synced.
     Where a call of that failed, the next one looks at the gate first."""
 
     def __init__(self, disk):
@@ -360,7 +360,7 @@ class Records:
         self.commits, self.tips, self.anchors, self.covered = [], [], [], 0
 
     def takes(self, kind, payload):
-        """Takes an entry, and answers whether it is a record that may stand behind the others."""
+        """Takes an entry, and answers whether it is a record that may stand after the others."""
         if kind == COMMIT and len(payload) == 44:
             self.commits.append(payload)
         elif kind == TIP and len(payload) == 48:

@@ -460,7 +460,7 @@ class Scene:
             return self.run(['' if one == "''" else one for one in rest.split()])
         if word == 'left':
             return b'= so it is\n' if self.left == self.bytes_of(rest) else self.other()
-        if word == 'front':
+        if word == 'prefix':
             is_so = self.text != b'' and self.text != self.text_before and self.text_before.startswith(self.text)
             return b'= so it is\n' if is_so else b'= no\n'
         if line == '':

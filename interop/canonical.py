@@ -31,7 +31,7 @@ PROGRAM = os.path.join(TOP, 'build', 'ots')
 RANDOM_TREES = 500
 
 
-# A node is the list of its items: attestations, and pairs of an operation and the node behind it.
+# A node is the list of its items: attestations, and pairs of an operation and the node after it.
 
 def read_node(ctx):
     items = []
@@ -82,15 +82,15 @@ def order_of_attestation(attestation):
 def canonical(nodes):
     """The canonical node with the paths of all of these."""
     attestations = {}
-    behind = {}
+    after = {}
     for items in nodes:
         for item in items:
             if isinstance(item, tuple):
-                behind.setdefault(order_of_op(item[0]), (item[0], []))[1].append(item[1])
+                after.setdefault(order_of_op(item[0]), (item[0], []))[1].append(item[1])
             else:
                 attestations.setdefault(order_of_attestation(item), item)
     return ([attestations[key] for key in sorted(attestations)] +
-            [(behind[key][0], canonical(behind[key][1])) for key in sorted(behind)])
+            [(after[key][0], canonical(after[key][1])) for key in sorted(after)])
 
 
 def least_height(items):

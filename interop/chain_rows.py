@@ -53,7 +53,7 @@ def check(first, headers):
 
 
 def mined(before, number, bits):
-    """A header that meets the target, behind another."""
+    """A header that meets the target, after another."""
     root = hashlib.sha256(b"root %d" % number).digest()
     for nonce in range(1 << 32):
         header = struct.pack("<I32s32sIII", 2, hash_of(before) if before else bytes(32), root, 1231006505 + number, bits, nonce)
@@ -95,7 +95,7 @@ def rows():
     table(0, [GENESIS])
     table(1, [NEXT])
     table(2 ** 63 - 1, [GENESIS])
-    row("# a header behind itself is not linked")
+    row("# a header after itself is not linked")
     table(0, [GENESIS, GENESIS])
     row("# one with the bits of the smallest target is above it")
     table(0, [GENESIS[:72] + bytes.fromhex("01000003") + GENESIS[76:]])

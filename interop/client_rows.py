@@ -55,7 +55,7 @@ class End(Exception):
 # ---- reading proofs. A tree is a list of items, ('end', kind, payload) or ('op', (tag, argument), tree).
 
 def read_number(data, at):
-    """A number and the place behind it; or 'short', 'padded' or 'large' and nothing."""
+    """A number and the place after it; or 'short', 'padded' or 'large' and nothing."""
     value = 0
     for i in range(10):
         if at + i >= len(data):
@@ -97,7 +97,7 @@ class Reader:
         self.data, self.at = data, at
 
     def part(self, least, most, words):
-        """The bytes behind their length, for the token at this place, which begins before."""
+        """The bytes after their length, for the token at this place, which begins before."""
         length, at = read_number(self.data, self.at)
         if at is None:
             reason = {'short': 'truncated', 'padded': 'non-minimal number', 'large': 'number too large'}[length]
@@ -203,13 +203,13 @@ def order_of_end(item):
 
 def canonical(tree):
     """The tree with the same paths in canonical form."""
-    ends, behind = {}, {}
+    ends, after = {}, {}
     for item in tree:
         if item[0] == 'end':
             ends[order_of_end(item)] = item
         else:
-            behind.setdefault(item[1], []).extend(item[2])
-    return [ends[key] for key in sorted(ends)] + [('op', op, canonical(behind[op])) for op in sorted(behind)]
+            after.setdefault(item[1], []).extend(item[2])
+    return [ends[key] for key in sorted(ends)] + [('op', op, canonical(after[op])) for op in sorted(after)]
 
 
 def heights(tree, chain):
@@ -383,7 +383,7 @@ def request_for_commitment(message):
 # ---- words
 
 def arguments(words, places, options, several=False):
-    """The values of the words behind a command, by place and by option."""
+    """The values of the words after a command, by place and by option."""
     given, values, at = [], {}, 0
     while at < len(words):
         word = words[at]
@@ -553,16 +553,16 @@ def pending_pairs(digest, tree):
 
 
 def joined(digest, tree, answers):
-    """The tree with what calendars answered behind its pending attestations."""
-    def behind(items, message):
+    """The tree with what calendars answered after its pending attestations."""
+    def after(items, message):
         more = []
         for item in items:
-            more.append(item if item[0] == 'end' else ('op', item[1], behind(item[2], apply(item[1], message))))
+            more.append(item if item[0] == 'end' else ('op', item[1], after(item[2], apply(item[1], message))))
             if item[0] == 'end' and item[1] == PENDING:
                 uri = item[2][read_number(item[2], 0)[1]:].decode()
                 more += answers.get((uri, message)) or []
         return more
-    return canonical(behind(tree, digest))
+    return canonical(after(tree, digest))
 
 
 def upgrade(out, words):

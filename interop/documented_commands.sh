@@ -2,7 +2,7 @@
 # Runs the commands that the pages show, as they are written, and compares what each prints with the page:
 #     interop/documented_commands.sh
 # README.md, docs/GUIDE.md, docs/FORMAT.md, docs/OPERATOR.md: in a block between ``` a line that begins with "$ " is a command,
-# and the lines behind it, up to the next one, are what it prints. A block of the language sh is one command;
+# and the lines after it, up to the next one, are what it prints. A block of the language sh is one command;
 # its lines "# prints TEXT" are what it prints. Blocks that ask a node are left out. man/ots.1 and man/otsd.1: the same of
 # their literal blocks. The programs have to be built (./run ots, ./run otsd); xxd and openssl have to be there. It ends with 0 where
 # all is as written, with 1 on a difference, and with 70 where the program is not there.

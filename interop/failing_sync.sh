@@ -6,7 +6,7 @@
 # journal. For each sync from the first on the journal is served, four digests are sent, one after the
 # other, and then the journal is listed by a new process, for which the cached pages are gone where it
 # asked the system to drop them. It ends with 0 where each commitment that was answered is listed, and
-# where no digest is answered behind the sync that failed. It needs cc and python3.
+# where no digest is answered after the sync that failed. It needs cc and python3.
 set -eu
 top=$(CDPATH='' cd -- "$(dirname -- "$0")/.." && pwd)
 work=$(mktemp -d)
@@ -121,12 +121,12 @@ for fails in range(1, 20):
     serving.wait()
     listed = run(["list"], 0).communicate()[0]
     statuses = [status for status, _ in answers]
-    # A commitment ends with the eight bytes that stand in its reply behind 27 others.
+    # A commitment ends with the eight bytes that stand in its reply after 27 others.
     for status, body in answers:
         if status == 200 and body[27:35].hex() + "\n" not in listed:
             raise SystemExit(f"sync {fails}: a commitment was answered and is not listed: {statuses}\n{listed}")
     if 503 in statuses and 200 in statuses[statuses.index(503):]:
-        raise SystemExit(f"sync {fails}: a digest was answered behind the sync that failed: {statuses}")
+        raise SystemExit(f"sync {fails}: a digest was answered after the sync that failed: {statuses}")
     print(f"sync {fails} fails: otsd ends with {serving.returncode}, answers {statuses}, listed {listed.count('commit')}")
 P
 python3 "$work/serve.py" "$top/build/otsd" "$work"

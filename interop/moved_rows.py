@@ -10,7 +10,8 @@ were at the revision that the first line of interop/moved/revision names. A line
     CRATE FILE TEST stays in CRATE FILE: why
     literal TEXT: why it stands nowhere
 
-Each test function of that revision has to stand in a list, or still be a test function of that name. Each word of
+Each test function of that revision has to stand in a list, or still be a test function of that name, or of the one that
+interop/moved/renamed has for it. Each word of
 four letters or more in quotes, each text of bytes and each list of bytes that the old sources of a listed crate hold
 has to stand in the new rows, as text or in hexadecimal, or in a test that stays. It ends with 0 where nothing is
 missing.
@@ -160,6 +161,8 @@ def main():
                 source = file.read()
             still |= set(tests(source))
             now += source + "".join(it.hex() + "\n" for it in literals(source))
+    with open(f"{TOP}/interop/moved/renamed") as file:
+        renamed = dict(line.strip().split(" -> ") for line in file)
     squeezed = now.replace(" ", "")
     old = [it for it in git("ls-tree", "-r", "--name-only", revision, "crates").split("\n")
            if re.fullmatch(r"crates/ots\w*_(tests|crashes|runs)/src/.*\.rt", it)]
@@ -167,7 +170,7 @@ def main():
         crate = path.split("/")[1]
         source = git("show", f"{revision}:{path}")
         for test in tests(source):
-            if (crate, test) not in known and test not in still:
+            if (crate, test) not in known and renamed.get(test, test) not in still:
                 print(f"{path}: the test {test} stands nowhere")
                 missing += 1
         if crate not in wanted:

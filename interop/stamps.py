@@ -5,7 +5,7 @@
 
 makes NUMBER runs of `ots stamp`, 300 where none is given, each with 1 to 9 random files and 1 to 4
 calendars: three that this script serves and one that refuses connections. A calendar answers a random
-tree, one with a byte behind it, a tree that was cut, one that is too deep, too many bytes, garbage, a
+tree, one with a byte after it, a tree that was cut, one that is too deep, too many bytes, garbage, a
 status or nothing. It compares: the lines that `ots` prints and its status; that each calendar got one
 request, in order, for one and the same root; and for each file that its proof leads from the digest by
 a nonce of its own to that root, the root of the tree over all files (split at the greatest power of two
@@ -120,13 +120,13 @@ def served(asked, answers):
 def is_proof(written, canonical, content, leaves, i, trees):
     """Whether this is the i-th file's proof, with the leaf that its nonce makes."""
     reader = Reader(written)
-    front = reader.take(len(MAGIC) + 1 + 32)
+    prefix = reader.take(len(MAGIC) + 1 + 32)
     found = [*paths(reader.tree())]
     ops = way(leaves, i)
     nonce = found[0][0][0][1]
     before = ((APPEND, nonce), (SHA256, b'')) + ops
     wanted = {(before + more, end, rest) for tree in trees for more, end, rest in paths(tree)}
-    return (front == MAGIC + b'\x08' + sha256(content) and reader.at == len(written) and len(nonce) == 16
+    return (prefix == MAGIC + b'\x08' + sha256(content) and reader.at == len(written) and len(nonce) == 16
             and len(found) == len(set(found)) and set(found) == wanted and written == canonical)
 
 

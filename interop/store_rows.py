@@ -10,7 +10,7 @@ records, each written from its description by Python alone, and runs nothing of 
 index or ranges it walks over lists. It is run by hand, and takes a second or two.
 
 The disk: a crash undoes the writes since the last sync, does them, or leaves any bytes in their places. A journal: a
-magic of eight bytes, then groups, each behind a gate, one byte, `a5` where the group counts; a closed gate ends it. A
+magic of eight bytes, then groups, each after a gate, one byte, `a5` where the group counts; a closed gate ends it. A
 group: the number of its entries, two bytes, the number of their bytes, four, and the entries, each its kind, one byte,
 its length, four, and its payload. Numbers are big-endian. A record is a commitment of 44 bytes (kind 1), a tip (2:
 first, count, root) or an anchor (3: first, count, height, root, prefix and suffix with two bytes of length each, the
@@ -95,13 +95,13 @@ def entry_bytes(kind, payload):
 
 
 def group_body(entries):
-    """What stands behind the gate of a group."""
+    """What stands after the gate of a group."""
     inner = b''.join(entry_bytes(*entry) for entry in entries)
     return struct.pack('>HI', len(entries), len(inner)) + inner
 
 
 def entries_in(data, place, count):
-    """So many entries from a place on, and the place behind them; `None` where they are not whole."""
+    """So many entries from a place on, and the place after them; `None` where they are not whole."""
     entries = []
     for _ in range(count):
         if place + 5 > len(data):
@@ -139,7 +139,7 @@ def read_journal(data):
 
 
 def read_version1(data):
-    """The entries of a journal of version 1, in which each lies behind a gate of its own."""
+    """The entries of a journal of version 1, in which each lies after a gate of its own."""
     if len(data) <= 9:
         return []
     if data[:8] != OLD_MAGIC:
@@ -403,7 +403,7 @@ def so_it_is(is_so):
 
 
 def numbers(text, count):
-    """So many numbers, and what is behind them."""
+    """So many numbers, and what is after them."""
     words = text.split(' ', count)
     return [int(word) for word in words[:count]] + words[count:]
 
@@ -579,7 +579,7 @@ class Scene:
             self.begin()
             return []
         if line[0] == '#':
-            assert not self.asked, 'a comment behind a question'
+            assert not self.asked, 'a comment after a question'
             return []
         word, _, rest = ' '.join(self.names[w] if w[0] == '$' else w for w in line.split(' ')).partition(' ')
         if word in ('let', 'disk', 'fails', 'limit', 'room'):
@@ -628,7 +628,7 @@ def walk(seed):
 
 
 def stepping(start, step, modulus, count):
-    """Values, each a step behind the one before."""
+    """Values, each a step after the one before."""
     for _ in range(count):
         start = (start % 256 + step) % modulus
         yield start

@@ -227,10 +227,10 @@ def compare(seed, folder, ports, refused, skipped, asked):
     os.remove(new)
     os.remove(again)
     reader = Reader(written)
-    front = reader.take(len(MAGIC) + 1 + 32)
+    prefix = reader.take(len(MAGIC) + 1 + 32)
     got = [*paths(reader.tree())]
     return (done.stdout.decode() == ''.join(line + '\n' for line in lines) and done.returncode == status
-            and asked == requests and front == MAGIC + b'\x08' + digest and reader.at == len(written)
+            and asked == requests and prefix == MAGIC + b'\x08' + digest and reader.at == len(written)
             and len(got) == len(set(got)) and set(got) == found and written == canonical)
 
 

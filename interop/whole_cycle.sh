@@ -20,7 +20,7 @@ for crate in "$top"/crates/*; do
     done
 done
 cp "$top/crates.txt" "$top/HANDLES" "$work"
-echo 'ots_cycle_tests tests_may=Threads+Wait: ots_cli ots_calendar ots_store ots_journal ots_block ots_attest ots_tree ots_ops ots_shared ots_service ots_outside ots_server ots_disk ots_io sha2 hex' >>"$work/crates.txt"
+echo 'ots_cycle_tests tests_may=Threads+Wait: ots_cli ots_calendar ots_store ots_journal ots_block ots_attest ots_tree ots_ops ots_shared ots_connection ots_outside ots_calendar_commands ots_disk ots_io sha2 hex' >>"$work/crates.txt"
 mkdir -p "$work/crates/ots_cycle_tests/src" "$work/crates/ots_cycle_tests/specs"
 : >"$work/crates/ots_cycle_tests/specs/Lib.antt"
 mkdir "$work/crates/ots_cycle_tests/src/client_runs"

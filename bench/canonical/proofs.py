@@ -3,7 +3,7 @@
     proofs.py KIND FILE    writes the proof of this kind
     proofs.py              prints the kinds, one a line
 
-`chains_*` is two long equal beginnings with many leaves in mixed order behind each: whoever compares whole
+`chains_*` is two long equal beginnings with many leaves in mixed order after each: whoever compares whole
 paths compares the beginnings again for each leaf.
 """
 
@@ -26,7 +26,7 @@ def leaf(height):
 
 
 def forked(items):
-    """A node of these items, each with the node behind it: a fork before each but the last."""
+    """A node of these items, each with the node after it: a fork before each but the last."""
     return b''.join(FORK + item for item in items[:-1]) + items[-1]
 
 

@@ -14,7 +14,7 @@ with open(name, "wb") as out:
         group = bytearray(b"\xa5" + (1000).to_bytes(2, "big") + (1000 * 49).to_bytes(4, "big"))
         for _ in range(1000):
             second += 1
-            front = second.to_bytes(4, "big") if order == "rising" else source.randbytes(4)
-            group += entry + front + source.randbytes(40)
+            prefix = second.to_bytes(4, "big") if order == "rising" else source.randbytes(4)
+            group += entry + prefix + source.randbytes(40)
         out.write(group)
     out.write(b"\0")

@@ -5,7 +5,7 @@
                                         verifying its attestations, and of verifying them in a walk that
                                         applies every operation anew
 
-The library applies the operations as it reads, and keeps each message. `verdict` of ots_eval is given a
+The library applies the operations as it reads, and keeps each message. `verdict` of ots_verdicts is given a
 tree without them, as the last walk is.
 """
 

@@ -1,7 +1,7 @@
 //! The client `ots`.
 #![tactic(auto)]
 
-use ots_program::run_program;
+use ots_client_program::run_program;
 use std::process::ExitCode;
 
 fn main(rt: HostRuntime) -> ExitCode {

@@ -33,11 +33,11 @@ host_bytes rest host port p k less =
 host_stops : (rest host : List ℕ) (port : ℕ) → IsHostAndPort rest host port → length host < length rest → IsTrue (is_host_byte (get_or rest (length host) 0)) → ⊥
 host_stops rest host port p less is =
     other p.after (omega (arith, ap length p.text, length-append host p.after)) p.port_is
-    (subst (λ (b : ℕ). IsTrue (is_host_byte b)) (ap (λ (z : List ℕ). get_or z (length host) 0) p.text ∙ behind host p.after) is)
+    (subst (λ (b : ℕ). IsTrue (is_host_byte b)) (ap (λ (z : List ℕ). get_or z (length host) 0) p.text ∙ following host p.after) is)
   where
-    behind : (host after : List ℕ) → get_or (host ++ after) (length host) 0 ≡ get_or after 0 0
-    behind [] after = refl
-    behind (x ∷ host) after = behind host after
+    following : (host after : List ℕ) → get_or (host ++ after) (length host) 0 ≡ get_or after 0 0
+    following [] after = refl
+    following (x ∷ host) after = following host after
 
     other : (after : List ℕ) → 0 < length after → IsPortPart after port → IsTrue (is_host_byte (get_or after 0 0)) → ⊥
     other after some (inl none) is = omega (arith, ap length none.0)

@@ -14,9 +14,9 @@ use Rattle.ots_address.specs.AddressList.{comma, pieces_of, pieces_left, CutsPie
 
 pub cuts_at_comma : (text piece rest : List ℕ) → position_or_len (λ b. b == comma) text < length text → piece ≡ before_first (λ b. b == comma) text
     → rest ≡ after_first (λ b. b == comma) text → CutsPiece text piece (Some rest)
-cuts_at_comma text piece rest less front back = record {
-  pieces = slice_split_first (λ b. b == comma) text 0 less ∙ (λ i. sym front i ∷ pieces_of (sym back i));
-  lengths = omega (arith, less, ap length front, ap length back, length-take (position_or_len (λ b. b == comma) text) text, length-drop (position_or_len (λ b. b == comma) text + 1) text);
+cuts_at_comma text piece rest less prefix back = record {
+  pieces = slice_split_first (λ b. b == comma) text 0 less ∙ (λ i. sym prefix i ∷ pieces_of (sym back i));
+  lengths = omega (arith, less, ap length prefix, ap length back, length-take (position_or_len (λ b. b == comma) text) text, length-drop (position_or_len (λ b. b == comma) text + 1) text);
 }
 
 pub no_comma : (text : List ℕ) → position_or_len (λ b. b == comma) text ≡ length text → CutsPiece text text None

@@ -1,6 +1,7 @@
--- The address of a calendar. Source: this project's profile of the http URI (RFC 9110, section 4.2.1), with a host and a
--- port and no path.
-use Rattle.std.specs.Prelude.{◌≡◌, ℕ, ◌+◌, ◌<◌, ◌≤◌, ◌==◌, ◌||◌, ◌⊎◌, Bool, List, [], ◌∷◌, ◌++◌, length, take, drop, IsTrue, codes, decimal, slice_index}
+-- The address of a calendar. Source: this project's profile of the http URI (RFC 9110, section 4.2.1), with a host and
+-- a port and no path.
+use Rattle.std.specs.Prelude.{◌≡◌, ℕ, ◌+◌, ◌<◌, ◌≤◌, ◌==◌, ◌||◌, ◌⊎◌, Bool, List, [], ◌∷◌, ◌++◌, length, take, drop}
+use Rattle.std.specs.Prelude.{IsTrue, codes, decimal, slice_index}
 use Rattle.std.specs.Char.{is_ascii_alphanumeric}
 use Rattle.ots_address.specs.declared.limits.TheConstants.{MAX_HOST, DEFAULT_PORT}
 
@@ -13,7 +14,8 @@ is_host_byte b = is_ascii_alphanumeric b || (b == 45) || (b == 46)
 
 -- What may follow the host: nothing, and the port is 80, or a colon and the port from 1 on, without leading zeros.
 abbrev pub IsPortPart : List ℕ → ℕ → Type 0
-IsPortPart after port = ((after ≡ []) × (port ≡ DEFAULT_PORT)) ⊎ ((after ≡ colon ∷ decimal port) × (1 ≤ port) × (port ≤ 65535))
+IsPortPart after port = ((after ≡ []) × (port ≡ DEFAULT_PORT))
+    ⊎ ((after ≡ colon ∷ decimal port) × (1 ≤ port) × (port ≤ 65535))
 
 -- What follows `http://`: the host, of 1 to MAX_HOST bytes, and maybe the port.
 pub record IsHostAndPort (rest host : List ℕ) (port : ℕ) : Type 0 where

@@ -1,5 +1,6 @@
 -- Lists of calendar addresses, with commas between. Source: this project's profile.
-use Rattle.std.specs.Prelude.{◌≡◌, ◌≢◌, ℕ, ◌+◌, ◌<◌, ◌==◌, Bool, List, [], ◌∷◌, ◌++◌, length, sum_by, map, All, Option, Some, None, codes, bytes_eq, take}
+use Rattle.std.specs.Prelude.{◌≡◌, ◌≢◌, ℕ, ◌+◌, ◌<◌, ◌==◌, Bool, List, [], ◌∷◌, ◌++◌, length, sum_by, map, All, Option}
+use Rattle.std.specs.Prelude.{Some, None, codes, bytes_eq, take}
 use Rattle.std.specs.List.{slice_split}
 use Rattle.ots_address.specs.declared.limits.TheConstants.{MAX_CALENDARS}
 use Rattle.ots_address.specs.declared.list.AddressError.{AddressError}
@@ -10,7 +11,7 @@ abbrev pub comma : ℕ
 comma = 44
 
 abbrev pub begins_with : List ℕ → List ℕ → Bool
-begins_with front bytes = bytes_eq front (take (length front) bytes)
+begins_with prefix bytes = bytes_eq prefix (take (length prefix) bytes)
 
 -- The pieces between the commas, of which there is always one.
 abbrev pub pieces_of : List ℕ → List (List ℕ)
@@ -54,7 +55,8 @@ IfBadAddress list OutOfMemory = Unit {0}
 
 -- A piece that stands at this place is refused after these.
 abbrev pub IsRefusal : List (List ℕ) → List ℕ → ℕ → AddressError → Type 0
-IsRefusal before piece at (BadAddress place https) = (place ≡ at) × (https ≡ begins_with (codes "https://") piece) × ¬ (IsNext before piece)
+IsRefusal before piece at (BadAddress place https) = (place ≡ at) × (https ≡ begins_with (codes "https://") piece)
+    × ¬ (IsNext before piece)
 IsRefusal before piece at OutOfMemory = Unit {0}
 
 -- The pieces of what is left, if anything is.

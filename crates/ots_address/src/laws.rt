@@ -13,7 +13,9 @@ pub fn one_host_and_port()
 /// `read_addresses` answers its addresses and `BadAddress` each exactly where it should, want of
 /// memory aside.
 pub fn one_list_answer()
-    ensures one { (list : List ℕ) (place other : ℕ) (https another : Bool) → IsBadAddress list place https → IsBadAddress list other another
+    ensures one { (list : List ℕ) (place other : ℕ) (https another : Bool) → IsBadAddress list place https
+        → IsBadAddress list other another
         → (place ≡ other) × (https ≡ another) }
-    ensures none { (list : List ℕ) (place : ℕ) (https : Bool) → IsBadAddress list place https → AreAddresses (pieces_of list) → ⊥ }
+    ensures none { (list : List ℕ) (place : ℕ) (https : Bool) → IsBadAddress list place https
+        → AreAddresses (pieces_of list) → ⊥ }
 {}

@@ -1,5 +1,6 @@
 //! Lists of calendar addresses.
-ghost use Rattle.std.specs.Prelude.{◌≡◌, ◌≢◌, ◌<◌, ◌≤◌, ◌+◌, ℕ, List, true, false, length, map, take, drop, codes, All, IfOk, IfErr, IfSome, IfNone, IsTrue};
+ghost use Rattle.std.specs.Prelude.{◌≡◌, ◌≢◌, ◌<◌, ◌≤◌, ◌+◌, ℕ, List, true, false, length, map, take, drop, codes, All};
+ghost use Rattle.std.specs.Prelude.{IfOk, IfErr, IfSome, IfNone, IsTrue};
 ghost use Rattle.std.specs.Option.{option_copied};
 ghost use Rattle.ots_address.specs.declared.list.AddressError.TheVariants.{OutOfMemory};
 ghost use Rattle.ots_address.specs.Address.{KeepsAddress, text_of};

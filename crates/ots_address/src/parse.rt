@@ -1,5 +1,6 @@
 //! The parts of one address, by its bytes.
-ghost use Rattle.std.specs.Prelude.{◌≡◌, ◌≤◌, ◌<◌, ◌+◌, ◌*◌, ℕ, List, length, take, drop, min, slice_index, decimal, IsTrue, IfSome, IfNone};
+ghost use Rattle.std.specs.Prelude.{◌≡◌, ◌≤◌, ◌<◌, ◌+◌, ◌*◌, ℕ, List, length, take, drop, min, slice_index, decimal};
+ghost use Rattle.std.specs.Prelude.{IsTrue, IfSome, IfNone};
 ghost use Rattle.std.specs.Char.{digit_value};
 ghost use Rattle.std.specs.Str.Parse.{digits_value};
 ghost use Rattle.ots_address.specs.Address.{is_host_byte, IsAddress, KeepsAddress, IsHostAndPort, IsPortPart};
@@ -11,7 +12,7 @@ const HTTP: &[u8] = b"http://";
 
 const COLON: &[u8] = b":";
 
-/// Where the host of an address ends, counted from behind `http://`, and its port.
+/// Where the host of an address ends, counted from after `http://`, and its port.
 #[derive(Clone, Copy, Debug, PartialEq, Eq)]
 pub(crate) struct Parts {
     pub(crate) host: usize,
@@ -45,7 +46,7 @@ fn read_host_and_port(rest: &[u8]) -> Option<Parts>
     }
 }
 
-/// How many bytes of a host stand at the front.
+/// How many bytes of a host stand at the start.
 fn host_length(rest: &[u8]) -> usize
     ensures within { result ≤ length rest.now }
     ensures all { (k : ℕ) → k < result → IsTrue (is_host_byte (slice_index rest.now k)) }

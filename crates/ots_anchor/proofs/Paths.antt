@@ -5,7 +5,7 @@ use Rattle.std.proofs.lemmas.Bool.{le-leb}
 use Rattle.std.proofs.lemmas.List.{append-nil, take_more}
 use Rattle.sha2.specs.Sha256.{sha256}
 use Rattle.sha2.proofs.Facts256.{length-sha256}
-use Rattle.ots_bitcoin.specs.DoubleSha256.{double_sha256}
+use Rattle.ots_headers.specs.DoubleSha256.{double_sha256}
 use Rattle.ots_ops.specs.Apply.{apply}
 use Rattle.ots_ops.specs.Value.{value}
 use Rattle.ots_ops.specs.declared.op.Op.{Op}
@@ -15,7 +15,7 @@ use Rattle.ots_merkle.specs.CalendarTree.{root_within, root, path}
 use Rattle.ots_merkle.specs.BlockTree.{above, climbed}
 use Rattle.ots_merkle.specs.declared.branch.Side.{Side}
 use Rattle.ots_merkle.specs.declared.branch.Side.TheVariants.{Left, Right}
-use Rattle.ots_anchor.specs.Path.{hashed, before, behind, beside, twice, climb, complete_path, led_to, AreSteps}
+use Rattle.ots_anchor.specs.Path.{hashed, before, after, beside, twice, climb, complete_path, led_to, AreSteps}
 
 -- ---- the operations
 
@@ -24,7 +24,7 @@ climb-append [] b = refl
 climb-append (step ∷ a) b = ap (λ (ops : List Op). beside step ∷ Sha256 ∷ Sha256 ∷ ops) (climb-append a b)
 
 pub all_added : (commitments : List (List ℕ)) (i : ℕ) (prefix suffix : List ℕ) (branch : List (Side × List ℕ))
-    → ((((((Sha256 ∷ []) ++ path (hashed commitments) i) ++ before prefix) ++ behind suffix) ++ twice) ++ climb branch) ≡ complete_path commitments i prefix suffix branch
+    → ((((((Sha256 ∷ []) ++ path (hashed commitments) i) ++ before prefix) ++ after suffix) ++ twice) ++ climb branch) ≡ complete_path commitments i prefix suffix branch
 unfolding complete_path
 all_added commitments i prefix suffix branch = simp append_assoc
 
@@ -46,14 +46,14 @@ steps_further branch i d inside so_far one =
     subst AreSteps (sym (take_more branch i d inside)) (steps_more (take i branch) (get_or branch i d) so_far one)
 
 pub chained : (commitments : List (List ℕ)) (i : ℕ) (prefix suffix : List ℕ) (branch : List (Side × List ℕ)) (leaves : List (List ℕ)) (way o1 o2 o3 o4 o5 o6 : List Op)
-    → leaves ≡ hashed commitments → way ≡ path leaves i → o1 ≡ Sha256 ∷ [] → o2 ≡ o1 ++ way → o3 ≡ o2 ++ before prefix → o4 ≡ o3 ++ behind suffix → o5 ≡ o4 ++ twice
+    → leaves ≡ hashed commitments → way ≡ path leaves i → o1 ≡ Sha256 ∷ [] → o2 ≡ o1 ++ way → o3 ≡ o2 ++ before prefix → o4 ≡ o3 ++ after suffix → o5 ≡ o4 ++ twice
     → o6 ≡ o5 ++ climb branch → o6 ≡ complete_path commitments i prefix suffix branch
 chained commitments i prefix suffix branch leaves way o1 o2 o3 o4 o5 o6 el ew e1 e2 e3 e4 e5 e6 =
     let w : way ≡ path (hashed commitments) i = ew ∙ ap (λ z. path z i) el in
     let a2 : o2 ≡ (Sha256 ∷ []) ++ path (hashed commitments) i = e2 ∙ (λ j. e1 j ++ w j) in
     let a3 : o3 ≡ ((Sha256 ∷ []) ++ path (hashed commitments) i) ++ before prefix = e3 ∙ ap (λ (z : List Op). z ++ before prefix) a2 in
-    let a4 : o4 ≡ (((Sha256 ∷ []) ++ path (hashed commitments) i) ++ before prefix) ++ behind suffix = e4 ∙ ap (λ (z : List Op). z ++ behind suffix) a3 in
-    let a5 : o5 ≡ ((((Sha256 ∷ []) ++ path (hashed commitments) i) ++ before prefix) ++ behind suffix) ++ twice = e5 ∙ ap (λ (z : List Op). z ++ twice) a4 in
+    let a4 : o4 ≡ (((Sha256 ∷ []) ++ path (hashed commitments) i) ++ before prefix) ++ after suffix = e4 ∙ ap (λ (z : List Op). z ++ after suffix) a3 in
+    let a5 : o5 ≡ ((((Sha256 ∷ []) ++ path (hashed commitments) i) ++ before prefix) ++ after suffix) ++ twice = e5 ∙ ap (λ (z : List Op). z ++ twice) a4 in
     e6 ∙ ap (λ (z : List Op). z ++ climb branch) a5 ∙ all_added commitments i prefix suffix branch
 
 -- ---- each of them
@@ -79,9 +79,9 @@ value_before : (prefix m : List ℕ) (ops : List Op) → length prefix + length 
 value_before [] m ops short = refl
 value_before (b ∷ bytes) m ops short = one_more (Prepend (b ∷ bytes)) ops m ((b ∷ bytes) ++ m) (prepended (b ∷ bytes) m short)
 
-value_behind : (suffix m : List ℕ) (ops : List Op) → length m + length suffix ≤ 4096 → value (behind suffix ++ ops) m ≡ value ops (m ++ suffix)
-value_behind [] m ops short = ap (value ops) (sym (append-nil m))
-value_behind (b ∷ bytes) m ops short = one_more (Append (b ∷ bytes)) ops m (m ++ (b ∷ bytes)) (appended (b ∷ bytes) m short)
+value_after : (suffix m : List ℕ) (ops : List Op) → length m + length suffix ≤ 4096 → value (after suffix ++ ops) m ≡ value ops (m ++ suffix)
+value_after [] m ops short = ap (value ops) (sym (append-nil m))
+value_after (b ∷ bytes) m ops short = one_more (Append (b ∷ bytes)) ops m (m ++ (b ∷ bytes)) (appended (b ∷ bytes) m short)
 
 value_twice : (m : List ℕ) (ops : List Op) → length m ≤ 4096 → value (twice ++ ops) m ≡ value ops (double_sha256 m)
 value_twice m ops short =
@@ -150,13 +150,13 @@ leads commitments i prefix suffix branch inside long short steps up =
     let leaves : List (List ℕ) = hashed commitments in
     let r : List ℕ = root leaves in
     let lr : length r ≡ 32 = length_root leaves (are_hashed commitments) (some_hashed commitments (omega arith)) in
-    let at_root : List Op = before prefix ++ (behind suffix ++ (twice ++ climb branch)) in
+    let at_root : List Op = before prefix ++ (after suffix ++ (twice ++ climb branch)) in
     let whole : List ℕ = (prefix ++ r) ++ suffix in
     one_more Sha256 (path leaves i ++ at_root) c (sha256 c) (hash_of c (omega arith))
     ∙ ap (value (path leaves i ++ at_root)) (leaf_of commitments i inside)
     ∙ value_then (path leaves i) at_root (Some (get_or leaves i []))
     ∙ ap (option_and_then (value at_root)) up
-    ∙ value_before prefix r (behind suffix ++ (twice ++ climb branch)) (omega arith)
-    ∙ value_behind suffix (prefix ++ r) (twice ++ climb branch) (omega (arith, length-append prefix r))
+    ∙ value_before prefix r (after suffix ++ (twice ++ climb branch)) (omega arith)
+    ∙ value_after suffix (prefix ++ r) (twice ++ climb branch) (omega (arith, length-append prefix r))
     ∙ value_twice whole (climb branch) (omega (arith, length-append (prefix ++ r) suffix, length-append prefix r))
     ∙ value_climb branch (double_sha256 whole) steps (length-sha256 (sha256 whole))

@@ -12,8 +12,8 @@ use Rattle.std.proofs.Math.Seq.{get_or-append_seam}
 use Rattle.std.proofs.lemmas.List.{get_or-take, length-map, length-take-le}
 use Rattle.std.proofs.lemmas.Bool.{cases_lt}
 
-stands_behind : (before bytes needle : List ℕ) (p : ℕ) → OccursAt bytes needle p → OccursAt (before ++ bytes) needle (length before + p)
-stands_behind before bytes needle p h = record {
+stands_after : (before bytes needle : List ℕ) (p : ℕ) → OccursAt bytes needle p → OccursAt (before ++ bytes) needle (length before + p)
+stands_after before bytes needle p h = record {
   fits = let fits = h.fits in let all = length-append before bytes in omega (arith, fits, all);
   reads = λ j inside. ap (λ (k : ℕ). get_or (before ++ bytes) k 0) (omega arith) ∙ get_or-append-add before bytes (p + j) 0 ∙ h.reads j inside;
 }
@@ -29,7 +29,7 @@ stands_in_all : (pieces : List (List ℕ)) (t : ℕ) (needle : List ℕ) (p : �
 stands_in_all [] t needle p inside h = absurd (omega arith)
 stands_in_all (x ∷ pieces) zero needle p inside h = (p, stands_before x (concat pieces) needle p h)
 stands_in_all (x ∷ pieces) (suc t) needle p inside h =
-    let rest = stands_in_all pieces t needle p (omega arith) h in (length x + rest.0, stands_behind x (concat pieces) needle rest.0 rest.1)
+    let rest = stands_in_all pieces t needle p (omega arith) h in (length x + rest.0, stands_after x (concat pieces) needle rest.0 rest.1)
 
 forms_length : (c : Contents) → length (stripped_forms c) ≡ length c.transactions
 forms_length c = length-map c.transactions _

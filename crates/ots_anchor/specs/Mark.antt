@@ -22,4 +22,5 @@ IsMarkAmong n roots form (Some m) = IsFirstAmong n roots form m
 abbrev pub better : Option Mark → ℕ → Option ℕ → Option Mark
 better best which None = best
 better None which (Some place) = Some (record { which = which; place = place })
-better (Some m) which (Some place) = if nat_lt m.place place then Some m else Some (record { which = which; place = place })
+better (Some m) which (Some place) = if nat_lt m.place place then Some m
+    else Some (record { which = which; place = place })

@@ -2,7 +2,7 @@
 use Rattle.std.specs.Prelude.{◌≡◌, ℕ, List, [], ◌∷◌, ◌++◌, length, map}
 use Rattle.std.specs.List.{AllByRecursion}
 use Rattle.sha2.specs.Sha256.{sha256}
-use Rattle.ots_bitcoin.specs.DoubleSha256.{double_sha256}
+use Rattle.ots_headers.specs.DoubleSha256.{double_sha256}
 use Rattle.ots_ops.specs.declared.op.Op.{Op}
 use Rattle.ots_ops.specs.declared.op.Op.TheVariants.{Sha256, Append, Prepend}
 use Rattle.ots_merkle.specs.CalendarTree.{root, path}
@@ -14,14 +14,14 @@ use Rattle.ots_merkle.specs.declared.branch.Side.TheVariants.{Left, Right}
 abbrev pub hashed : List (List ℕ) → List (List ℕ)
 hashed commitments = map sha256 commitments
 
--- what stands before a message, and behind it, where it isn't empty
+-- what stands before a message, and after it, where it isn't empty
 abbrev pub before : List ℕ → List Op
 before [] = []
 before (b ∷ bytes) = Prepend (b ∷ bytes) ∷ []
 
-abbrev pub behind : List ℕ → List Op
-behind [] = []
-behind (b ∷ bytes) = Append (b ∷ bytes) ∷ []
+abbrev pub after : List ℕ → List Op
+after [] = []
+after (b ∷ bytes) = Append (b ∷ bytes) ∷ []
 
 -- a neighbour in a block's tree
 abbrev pub beside : Side × List ℕ → Op
@@ -40,7 +40,7 @@ climb (step ∷ steps) = beside step ∷ Sha256 ∷ Sha256 ∷ climb steps
 -- the transaction's id, and up the block's tree.
 unfoldable pub complete_path : List (List ℕ) → ℕ → List ℕ → List ℕ → List (Side × List ℕ) → List Op
 complete_path commitments i prefix suffix branch =
-    Sha256 ∷ (path (hashed commitments) i ++ (before prefix ++ (behind suffix ++ (twice ++ climb branch))))
+    Sha256 ∷ (path (hashed commitments) i ++ (before prefix ++ (after suffix ++ (twice ++ climb branch))))
 
 -- what it leads to: where the branch leads from the hash of the transaction
 abbrev pub led_to : List (List ℕ) → List ℕ → List ℕ → List (Side × List ℕ) → List ℕ

@@ -71,9 +71,12 @@ impl<T: Drop> From<AllocFailed<T>> for FindError {
 pub fn find(alloc: Global, block: &Block, roots: &[[u8; 32]]) -> Result<Found, FindError>
     ensures ok { IfOk result (λ found. IsFound block.now roots.now found) }
     ensures err { IfErr result (λ e. IsFindError block.now roots.now e) }
-    ensures finds { (found : Found) → IsFound block.now roots.now found → UnlessOutOfMemory FindError.OutOfMemory result (Ok found) }
-    ensures no_tip { HasNoTip block.now roots.now → UnlessOutOfMemory FindError.OutOfMemory result (Err FindError.NoTip) }
-    ensures too_long { (n : ℕ) → IsTooLong block.now roots.now n → UnlessOutOfMemory FindError.OutOfMemory result (Err (FindError.TransactionTooLong n)) }
+    ensures finds { (found : Found) → IsFound block.now roots.now found
+        → UnlessOutOfMemory FindError.OutOfMemory result (Ok found) }
+    ensures no_tip { HasNoTip block.now roots.now → UnlessOutOfMemory FindError.OutOfMemory result
+        (Err FindError.NoTip) }
+    ensures too_long { (n : ℕ) → IsTooLong block.now roots.now n
+        → UnlessOutOfMemory FindError.OutOfMemory result (Err (FindError.TransactionTooLong n)) }
 {
     let finders = finders_of(alloc, roots)?;
     let standing = standing_in(alloc, block, &finders)?;

@@ -10,7 +10,7 @@ use ots_block::Block;
 use std::alloc::Global;
 
 /// For the root of each finder whether it stands in the transactions without their witness, one
-/// behind the other. Where it doesn't, it stands in none of them. Where it does, it may stand across
+/// after the other. Where it doesn't, it stands in none of them. Where it does, it may stand across
 /// an end of one.
 pub(crate) fn standing_in(
     alloc: Global,
@@ -27,7 +27,7 @@ pub(crate) fn standing_in(
     Ok(standing)
 }
 
-/// The transactions without their witness, one behind the other.
+/// The transactions without their witness, one after the other.
 fn forms_of(alloc: Global, block: &Block) -> Result<Vec<u8>, OutOfMemory>
     ensures { IfOk result (λ forms. forms.items ≡ concat (stripped_forms block.now)) }
 {

@@ -1,8 +1,9 @@
 //! The path from a commitment to what a block's Merkle root is made of.
-ghost use Rattle.std.specs.Prelude.{◌≡◌, ◌+◌, ◌<◌, ◌≤◌, ◌^◌, ◌++◌, ◌∷◌, [], ℕ, Some, IfOk, OnOk, length, slice_index_or};
+ghost use Rattle.std.specs.Prelude.{◌≡◌, ◌+◌, ◌<◌, ◌≤◌, ◌^◌, ◌++◌, ◌∷◌, [], ℕ, Some, IfOk, OnOk, length};
+ghost use Rattle.std.specs.Prelude.{slice_index_or};
 ghost use Rattle.ots_ops.specs.Value.{value};
 ghost use Rattle.ots_ops.specs.declared.op.Op.TheVariants.{Append, Prepend};
-ghost use Rattle.ots_anchor.specs.Path.{hashed, before, behind, beside, climb, twice, complete_path, led_to, AreSteps};
+ghost use Rattle.ots_anchor.specs.Path.{hashed, before, after, beside, climb, twice, complete_path, led_to, AreSteps};
 
 use ots_base::{MAX_MESSAGE, OutOfMemory};
 use ots_merkle::{Branch, Side, path};
@@ -12,9 +13,9 @@ use std::alloc::Global;
 
 /// The operations that lead from the commitment with the index `i` to what the branch makes of the
 /// double hash of a transaction, in memory of `alloc`: SHA-256, the path to the root of the
-/// calendar's tree over the SHA-256 of each commitment, the transaction's bytes before and behind
+/// calendar's tree over the SHA-256 of each commitment, the transaction's bytes before and after
 /// that root, where there are any, and SHA-256 twice; then for each neighbour of the branch that it
-/// stands before or behind, and SHA-256 twice.
+/// stands before or after, and SHA-256 twice.
 ///
 /// There are fewer than 2^32 commitments, and the transaction has at most 4096 bytes.
 pub fn complete_path(
@@ -29,7 +30,8 @@ pub fn complete_path(
     requires most { length commitments.now < 2 ^ 32 }
     requires short { length prefix.now + 32 + length suffix.now ≤ MAX_MESSAGE }
     ensures path { IfOk result (λ ops. ops ≡ complete_path commitments.now i prefix.now suffix.now branch.now) }
-    ensures leads { IfOk result (λ ops. value ops (slice_index_or commitments.now i []) ≡ Some (led_to commitments.now prefix.now suffix.now branch.now)) }
+    ensures leads { IfOk result (λ ops. value ops (slice_index_or commitments.now i [])
+        ≡ Some (led_to commitments.now prefix.now suffix.now branch.now)) }
 {
     let leaves = hashed(alloc, commitments)?;
     let way = path(alloc, &leaves, i)?;
@@ -37,7 +39,7 @@ pub fn complete_path(
     ops.push(Op::Sha256)?;
     add_all(&mut ops, &way)?;
     add_before(alloc, &mut ops, prefix)?;
-    add_behind(alloc, &mut ops, suffix)?;
+    add_after(alloc, &mut ops, suffix)?;
     add_twice(&mut ops)?;
     add_branch(alloc, &mut ops, branch)?;
     Ok(ops)
@@ -75,10 +77,10 @@ fn add_before(alloc: Global, ops: &mut Ops, bytes: &[u8]) -> Result<(), OutOfMem
     ops.push(Op::Prepend(argument_of(alloc, bytes)?))
 }
 
-/// Adds that these bytes stand behind, where there are any.
-fn add_behind(alloc: Global, ops: &mut Ops, bytes: &[u8]) -> Result<(), OutOfMemory>
+/// Adds that these bytes stand after, where there are any.
+fn add_after(alloc: Global, ops: &mut Ops, bytes: &[u8]) -> Result<(), OutOfMemory>
     requires { length bytes.now ≤ MAX_MESSAGE }
-    ensures { OnOk result (ops.new ≡ ops.old ++ behind bytes.now) }
+    ensures { OnOk result (ops.new ≡ ops.old ++ after bytes.now) }
 {
     if bytes.is_empty() {
         return Ok(());

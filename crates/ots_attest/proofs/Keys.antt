@@ -58,9 +58,9 @@ one_number : (n : ℕ) → nat_cmp n n ≡ Equal
 one_number n = sym (nat_cmp_is n n Equal refl)
 
 -- the same list before both decides nothing
-same_front : (k x y : List ℕ) → slice_cmp nat_cmp (k ++ x) (k ++ y) ≡ slice_cmp nat_cmp x y
-same_front [] x y = refl
-same_front (n ∷ k) x y = rw (one_number n) (same_front k x y)
+same_prefix : (k x y : List ℕ) → slice_cmp nat_cmp (k ++ x) (k ++ y) ≡ slice_cmp nat_cmp x y
+same_prefix [] x y = refl
+same_prefix (n ∷ k) x y = rw (one_number n) (same_prefix k x y)
 
 -- one number each
 numbers : (m n : ℕ) → slice_cmp nat_cmp (m ∷ []) (n ∷ []) ≡ nat_cmp m n
@@ -76,13 +76,13 @@ two_kinds a b ha hb apart =
     sym (by_kind a b (kind-len a ha ∙ sym (kind-len b hb)) (λ e. apart (equal_kinds (kind a) (kind b) (sym e))))
 
 pub two_uris : (u v : List ℕ) → attestation_cmp (Pending u) (Pending v) ≡ slice_cmp nat_cmp u v
-two_uris u v = same_front pending_kind u v
+two_uris u v = same_prefix pending_kind u v
 
 pub two_bitcoin_heights : (m n : ℕ) → attestation_cmp (Bitcoin m) (Bitcoin n) ≡ nat_cmp m n
-two_bitcoin_heights m n = same_front bitcoin_kind (m ∷ []) (n ∷ []) ∙ numbers m n
+two_bitcoin_heights m n = same_prefix bitcoin_kind (m ∷ []) (n ∷ []) ∙ numbers m n
 
 pub two_litecoin_heights : (m n : ℕ) → attestation_cmp (Litecoin m) (Litecoin n) ≡ nat_cmp m n
-two_litecoin_heights m n = same_front litecoin_kind (m ∷ []) (n ∷ []) ∙ numbers m n
+two_litecoin_heights m n = same_prefix litecoin_kind (m ∷ []) (n ∷ []) ∙ numbers m n
 
 pub two_payloads : (o p : Other) → o.kind ≡ p.kind → attestation_cmp (Unknown o) (Unknown p) ≡ slice_cmp nat_cmp o.payload p.payload
-two_payloads o p same = rw same (same_front p.kind o.payload p.payload)
+two_payloads o p same = rw same (same_prefix p.kind o.payload p.payload)

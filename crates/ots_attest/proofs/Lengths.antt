@@ -20,12 +20,12 @@ payload_few (Bitcoin n) h = omega (arith, varuint_at_most_ten n)
 payload_few (Litecoin n) h = omega (arith, varuint_at_most_ten n)
 payload_few (Unknown o) h = h.2.greatest
 
--- behind the kind there is room for the payload
-pub room_behind : (a : Attestation) (out front : List ℕ) → IsAttestation a → length out ≡ 8202 → length front ≡ length (take 8 out)
-    → length (varbytes (payload a)) ≤ length (take (length (front ++ drop 8 out) - 8) (drop 8 (front ++ drop 8 out)))
-room_behind a out front h long same =
+-- after the kind there is room for the payload
+pub room_after : (a : Attestation) (out prefix : List ℕ) → IsAttestation a → length out ≡ 8202 → length prefix ≡ length (take 8 out)
+    → length (varbytes (payload a)) ≤ length (take (length (prefix ++ drop 8 out) - 8) (drop 8 (prefix ++ drop 8 out)))
+room_after a out prefix h long same =
     let few = payload_few a h in
     let two = varuint_at_most_two (length (payload a)) (omega arith) in
-    let eight : length front ≡ 8 = same ∙ length-take-le 8 out (omega arith) in
-    rw (drop_at front (drop 8 out) 8 eight, take_all (length (front ++ drop 8 out) - 8) (drop 8 out) (omega (arith, length-append front (drop 8 out), length-drop 8 out)))
+    let eight : length prefix ≡ 8 = same ∙ length-take-le 8 out (omega arith) in
+    rw (drop_at prefix (drop 8 out) 8 eight, take_all (length (prefix ++ drop 8 out) - 8) (drop 8 out) (omega (arith, length-append prefix (drop 8 out), length-drop 8 out)))
     (omega (arith, varbytes_length (payload a), length-drop 8 out))

@@ -55,5 +55,5 @@ pub spell-apart : (a b : Attestation) (x y : List ℕ) → IsAttestation a → I
 spell-apart a b x y fa fb e =
     let rest : (kind a ++ varbytes (payload a)) ++ x ≡ (kind b ++ varbytes (payload b)) ++ y = cc in
     let cut = parts_equal (kind a) (kind b) (varbytes (payload a) ++ x) (varbytes (payload b) ++ y) (kind-len a fa ∙ sym (kind-len b fb)) (simp append_assoc at rest) in
-    let behind = varbytes-apart (payload a) (payload b) x y cut.1 in
-    (same a b cut.0 behind.0, behind.1)
+    let after = varbytes-apart (payload a) (payload b) x y cut.1 in
+    (same a b cut.0 after.0, after.1)

@@ -65,7 +65,7 @@ rest_or false = inr refl
 
 -- the number that is the whole payload
 pub whole_height : (n used : ℕ) (p : List ℕ) → IsSpelledAt p n used → length p ≤ used → varuint n ≡ p
-whole_height n used p at end = sym (at.front ∙ ap (λ (z : List ℕ). varuint n ++ z) (drop_all used p end) ∙ append-nil (varuint n))
+whole_height n used p at end = sym (at.prefix ∙ ap (λ (z : List ℕ). varuint n ++ z) (drop_all used p end) ∙ append-nil (varuint n))
 
 record IsHeightOf (p : List ℕ) : Type 0 where
   height : ℕ

@@ -21,7 +21,7 @@ all_pass : (f : ℕ → Bool) (xs : List ℕ) → AllByRecursion (λ b. IsTrue (
 all_pass f [] h = refl
 all_pass f (x ∷ xs) h = and_from (f x) (list_all f xs) h.0 (all_pass f xs h.1)
 
--- a URI behind the spelling w of its length
+-- a URI after the spelling w of its length
 uri_ok : (u w : List ℕ) → IsUri u → uri_fault (Value (length u) (length w)) (w ++ u) ≡ None
 uri_ok u w h =
     rw (

@@ -9,7 +9,7 @@ use Rattle.std.proofs.lemmas.Bool.{ltb-false, le-ltb, false_from_ne_true}
 use Rattle.std.proofs.lemmas.List.{append-nil, drop_all, length-take-le, length-take}
 use Rattle.ots_varint.specs.Varuint.{varbytes}
 use Rattle.ots_varint.specs.Reading.{IsSpelledAt}
-use Rattle.ots_varint.proofs.Behind.{behind, same_slice}
+use Rattle.ots_varint.proofs.After.{after, same_slice}
 use Rattle.ots_attest.specs.Uri.{is_uri_byte, IsUri}
 use Rattle.ots_attest.specs.declared.uri.UriError.{UriError}
 use Rattle.ots_attest.specs.declared.uri.UriError.TheVariants.{TooLong}
@@ -89,12 +89,12 @@ all_ascii (x ∷ xs) h (suc i) = all_ascii xs h.1 i
 pub no_text : (bytes : List ℕ) → (IsUtf8 bytes → ⊥) → list_all is_uri_byte bytes ≡ false
 no_text bytes h = false_from_ne_true _ (λ good. h (IsUtf8-from_ascii bytes (all_ascii bytes (each_passes is_uri_byte bytes good))))
 
--- ---- behind its length
+-- ---- after its length
 
 -- the URI of n bytes, where nothing follows
 pub whole : (n used : ℕ) (p : List ℕ) → IsSpelledAt p n used → used + n ≤ length p → length p ≤ used + n → varbytes (take n (drop used p)) ≡ p
 whole n used p at room end =
-    let b = behind n used p at room in
+    let b = after n used p at room in
     sym (b.spelled ∙ ap (λ (z : List ℕ). varbytes (take n (drop used p)) ++ z) (drop_all (used + n) p end) ∙ append-nil (varbytes (take n (drop used p))))
 
 -- and it is one where it is short and its bytes are good
@@ -102,7 +102,7 @@ pub uri_of_text : (n used : ℕ) (p : List ℕ) → used + n ≤ length p → n 
 uri_of_text n used p room few good =
     is_uri (take n (drop used p)) (rw (length-take-le n (drop used p) (omega (arith, length-drop used p))) few) good
 
--- the bytes of n behind the length, as a slice names them, are at most 1000
+-- the bytes of n after the length, as a slice names them, are at most 1000
 pub text_few : (n used : ℕ) (p text : List ℕ) → text ≡ take (used + n - used) (drop used p) → n ≤ 1000 → length text ≤ 1000
 text_few n used p text is few = omega (arith, ap length (is ∙ same_slice n used p), length-take n (drop used p))
 

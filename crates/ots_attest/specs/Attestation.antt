@@ -17,7 +17,8 @@ abbrev pub IsAttestation : Attestation → Type 0
 IsAttestation (Pending uri) = IsUri uri
 IsAttestation (Bitcoin height) = height < 2 ^ 64
 IsAttestation (Litecoin height) = height < 2 ^ 64
-IsAttestation (Unknown other) = (length other.kind ≡ 8) × AllByRecursion (λ b. b < 256) other.kind × IsPayload other.payload
+IsAttestation (Unknown other) = (length other.kind ≡ 8) × AllByRecursion (λ b. b < 256) other.kind
+    × IsPayload other.payload
 
 -- the eight bytes that name the kind
 abbrev pub kind : Attestation → List ℕ
@@ -32,7 +33,7 @@ payload (Bitcoin height) = varuint height
 payload (Litecoin height) = varuint height
 payload (Unknown other) = other.payload
 
--- the tag, the kind, and the payload behind its length
+-- the tag, the kind, and the payload after its length
 abbrev pub spell : Attestation → List ℕ
 spell a = 0x00 ∷ kind a ++ varbytes (payload a)
 

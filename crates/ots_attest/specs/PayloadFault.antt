@@ -1,5 +1,6 @@
 -- What is wrong with a payload of a known kind: the first line of its kind's table that fits.
-use Rattle.std.specs.Prelude.{◌≡◌, ℕ, ◌+◌, List, [], ◌∷◌, length, take, drop, not, nat_lt, bytes_eq, Option, Some, None, if◌then◌else◌}
+use Rattle.std.specs.Prelude.{◌≡◌, ℕ, ◌+◌, List, [], ◌∷◌, length, take, drop, not, nat_lt, bytes_eq, Option, Some, None}
+use Rattle.std.specs.Prelude.{if◌then◌else◌}
 use Rattle.std.specs.List.{list_all}
 use Rattle.ots_base.specs.Table.{line, first_line}
 use Rattle.ots_base.specs.declared.limits.TheConstants.{MAX_URI}
@@ -9,7 +10,8 @@ use Rattle.ots_varint.specs.Reading.{reading}
 use Rattle.ots_attest.specs.Kind.{pending_kind, bitcoin_kind, litecoin_kind}
 use Rattle.ots_attest.specs.Uri.{is_uri_byte}
 use Rattle.ots_attest.specs.declared.payload.PayloadError.{PayloadError}
-use Rattle.ots_attest.specs.declared.payload.PayloadError.TheVariants.{BadUri, PayloadRest, PayloadShort, PayloadVaruint}
+use Rattle.ots_attest.specs.declared.payload.PayloadError.TheVariants.{BadUri, PayloadRest, PayloadShort}
+use Rattle.ots_attest.specs.declared.payload.PayloadError.TheVariants.{PayloadVaruint}
 use Rattle.ots_attest.specs.declared.attestation.Attestation.{Attestation}
 use Rattle.ots_attest.specs.Attestation.{kind, payload, IsAttestation}
 

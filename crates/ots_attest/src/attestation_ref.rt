@@ -12,7 +12,7 @@ use std::alloc::Global;
 /// An attestation whose URI or payload stands elsewhere, as in the bytes that it was read from.
 ///
 /// Contracts see the attestation that it is, `attestation_of`.
-#[derive(Clone, Copy, Debug)]
+#[derive(Clone, Copy)]
 pub enum AttestationRef<'a> {
     /// A calendar promises to complete the path. It is to be asked at this URI.
     Pending(UriRef<'a>),

@@ -17,7 +17,8 @@ use ots_base::MAX_PAYLOAD;
 /// A spelling determines its attestation and begins no other's. Nor does it begin with an
 /// operation's, whose tag is never 0.
 pub fn one_attestation()
-    ensures apart { (a b : Attestation) (x y : List ℕ) → IsAttestation a → IsAttestation b → spell a ++ x ≡ spell b ++ y → (a ≡ b) × (x ≡ y) }
+    ensures apart { (a b : Attestation) (x y : List ℕ) → IsAttestation a → IsAttestation b → spell a ++ x ≡ spell b ++ y
+        → (a ≡ b) × (x ≡ y) }
     ensures tagged { (a : Attestation) → (rest : List ℕ) × (spell a ≡ 0x00 ∷ rest) }
 {}
 
@@ -51,7 +52,8 @@ pub fn limits_of_borrowed_attestation(attestation: AttestationRef<'_>)
 pub fn one_fault()
     ensures one { (a b : Attestation) → kind a ≡ kind b → payload a ≡ payload b → a ≡ b }
     ensures sound { (a : Attestation) → IsAttestation a → payload_fault (kind a) (payload a) ≡ None }
-    ensures some { (k p : List ℕ) → length k ≡ 8 → AllByRecursion (λ b. b < 256) k → AllByRecursion (λ b. b < 256) p → length p ≤ MAX_PAYLOAD
+    ensures some { (k p : List ℕ) → length k ≡ 8 → AllByRecursion (λ b. b < 256) k → AllByRecursion (λ b. b < 256) p
+        → length p ≤ MAX_PAYLOAD
         → ((e : PayloadError) × (payload_fault k p ≡ Some e) × (e ≢ OutOfMemory)) ⊎ ((a : Attestation) × IsOf k p a) }
 {}
 
@@ -59,11 +61,14 @@ pub fn one_fault()
 /// bytes of their URIs, as their heights, which are numbers, or as the bytes of their payloads. Of
 /// bytes the first difference decides, and a proper prefix is less.
 pub fn order_of_attestations()
-    ensures kinds { (a b : Attestation) → IsAttestation a → IsAttestation b → kind a ≢ kind b → attestation_cmp a b ≡ slice_cmp nat_cmp (kind a) (kind b) }
-    ensures uris { (u v : List ℕ) → attestation_cmp (Attestation.Pending u) (Attestation.Pending v) ≡ slice_cmp nat_cmp u v }
+    ensures kinds { (a b : Attestation) → IsAttestation a → IsAttestation b → kind a ≢ kind b
+        → attestation_cmp a b ≡ slice_cmp nat_cmp (kind a) (kind b) }
+    ensures uris { (u v : List ℕ) → attestation_cmp (Attestation.Pending u) (Attestation.Pending v)
+        ≡ slice_cmp nat_cmp u v }
     ensures bitcoin { (m n : ℕ) → attestation_cmp (Attestation.Bitcoin m) (Attestation.Bitcoin n) ≡ nat_cmp m n }
     ensures litecoin { (m n : ℕ) → attestation_cmp (Attestation.Litecoin m) (Attestation.Litecoin n) ≡ nat_cmp m n }
-    ensures payloads { (o p : Other) → o.kind ≡ p.kind → attestation_cmp (Attestation.Unknown o) (Attestation.Unknown p) ≡ slice_cmp nat_cmp o.payload p.payload }
+    ensures payloads { (o p : Other) → o.kind ≡ p.kind → attestation_cmp (Attestation.Unknown o) (Attestation.Unknown p)
+        ≡ slice_cmp nat_cmp o.payload p.payload }
 {}
 
 /// Two attestations that compare as equal are the same.

@@ -60,7 +60,7 @@ impl Payload {
 pub struct Other {
     /// The eight bytes that name the kind.
     pub kind: [u8; 8],
-    /// What stands behind the kind.
+    /// What stands after the kind.
     pub payload: Payload,
     ghost unknown: { IsUnknown kind },
 }

@@ -5,11 +5,11 @@ ghost use Rattle.ots_attest.specs.Kind.{IsUnknown};
 
 /// An attestation whose kind is neither Pending nor Bitcoin nor Litecoin, and whose payload stands
 /// elsewhere, as in the bytes that it was read from.
-#[derive(Clone, Copy, Debug)]
+#[derive(Clone, Copy)]
 pub struct OtherRef<'a> {
     /// The eight bytes that name the kind.
     pub kind: [u8; 8],
-    /// What stands behind the kind, 0 to `MAX_PAYLOAD` bytes, 8192, kept unread.
+    /// What stands after the kind, 0 to `MAX_PAYLOAD` bytes, 8192, kept unread.
     pub payload: &'a [u8],
     ghost unknown: { IsUnknown kind },
     ghost greatest: { length payload.now ≤ MAX_PAYLOAD },

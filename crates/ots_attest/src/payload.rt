@@ -53,8 +53,10 @@ pub fn from_payload(
     requires { length payload.now ≤ MAX_PAYLOAD }
     ensures ok { IfOk result (λ a. IsOf kind payload.now a) }
     ensures err { IfErr result (λ e. IsFault (payload_fault kind payload.now) e) }
-    ensures accepts { (a : Attestation) → IsOf kind payload.now a → UnlessOutOfMemory PayloadError.OutOfMemory result (Ok a) }
-    ensures refuses { (e : PayloadError) → payload_fault kind payload.now ≡ Some e → UnlessOutOfMemory PayloadError.OutOfMemory result (Err e) }
+    ensures accepts { (a : Attestation) → IsOf kind payload.now a
+        → UnlessOutOfMemory PayloadError.OutOfMemory result (Ok a) }
+    ensures refuses { (e : PayloadError) → payload_fault kind payload.now ≡ Some e
+        → UnlessOutOfMemory PayloadError.OutOfMemory result (Err e) }
 {
     read_owned(alloc, kind, payload)
 }
@@ -109,19 +111,19 @@ fn read_other<'a>(kind: [u8; 8], payload: &'a [u8]) -> AttestationRef<'a>
     AttestationRef::Unknown(OtherRef { kind, payload })
 }
 
-/// The URI behind its length.
+/// The URI after its length.
 fn read_uri<'a>(payload: &'a [u8]) -> Result<UriRef<'a>, PayloadError>
     ensures { UriGives payload.now (reading payload.now) result }
 {
     match read_varuint(payload) {
-        VaruintRead::Value(length, used) => uri_behind(payload, length, used),
+        VaruintRead::Value(length, used) => uri_after(payload, length, used),
         VaruintRead::Short => Err(PayloadError::PayloadShort),
         VaruintRead::NonMinimal | VaruintRead::TooLarge => Err(PayloadError::PayloadVaruint),
     }
 }
 
-/// The URI of this length, behind the `used` bytes that spell the length.
-fn uri_behind<'a>(payload: &'a [u8], length: u64, used: usize) -> Result<UriRef<'a>, PayloadError>
+/// The URI of this length, after the `used` bytes that spell the length.
+fn uri_after<'a>(payload: &'a [u8], length: u64, used: usize) -> Result<UriRef<'a>, PayloadError>
     requires { IsSpelledAt payload.now length used }
     ensures { UriGives payload.now (Value length used) result }
 {

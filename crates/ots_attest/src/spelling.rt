@@ -8,10 +8,10 @@ use ots_base::{MAX_PAYLOAD, MAX_URI};
 use ots_varint::{MAX_SPELLED_NUMBER, put_number, put_varbytes};
 
 /// The most bytes of an attestation's spelling, 8203: the tag, the eight bytes of the kind, and the
-/// longest payload behind its length, which two bytes spell.
+/// longest payload after its length, which two bytes spell.
 pub const MAX_SPELLED_ATTESTATION: usize = 11 + MAX_PAYLOAD;
 
-/// Writes the spelling of an attestation at the front, leaves the bytes behind it as they are, and
+/// Writes the spelling of an attestation at the start, leaves the bytes after it as they are, and
 /// answers how many bytes it has: 10 to `MAX_SPELLED_ATTESTATION`. It takes no memory.
 pub fn spell_attestation(
     attestation: &Attestation,
@@ -22,14 +22,14 @@ pub fn spell_attestation(
 {
     let length = attestation.spelled_length();
     out[0] = 0x00;
-    put_behind_tag(attestation, &mut out[1..]);
+    put_after_tag(attestation, &mut out[1..]);
     length
 }
 
-/// Writes the kind and the payload behind its length at the front, and leaves the bytes behind them
+/// Writes the kind and the payload after its length at the start, and leaves the bytes after them
 /// as they are.
 #[tactic(auto, using(crate::proofs::Lengths::spelled_length))]
-fn put_behind_tag(attestation: &Attestation, out: &mut [u8])
+fn put_after_tag(attestation: &Attestation, out: &mut [u8])
     requires limits { IsAttestation attestation.now }
     requires room { length out.old ≡ MAX_SPELLED_ATTESTATION - 1 }
     ensures { out.new ≡ (kind attestation.now ++ varbytes (payload attestation.now))
@@ -40,11 +40,12 @@ fn put_behind_tag(attestation: &Attestation, out: &mut [u8])
     put_payload(attestation, &mut out[8..]);
 }
 
-/// Writes the payload behind its length at the front, and leaves the bytes behind it as they are.
+/// Writes the payload after its length at the start, and leaves the bytes after it as they are.
 #[tactic(auto, using(crate::proofs::Lengths::lengths))]
 fn put_payload(attestation: &Attestation, out: &mut [u8])
     requires { length (varbytes (payload attestation.now)) ≤ length out.old }
-    ensures { out.new ≡ varbytes (payload attestation.now) ++ drop (length (varbytes (payload attestation.now))) out.old }
+    ensures { out.new ≡ varbytes (payload attestation.now) ++ drop (length (varbytes (payload attestation.now)))
+        out.old }
 {
     match attestation {
         Attestation::Pending(uri) => {

@@ -11,7 +11,7 @@ use std::alloc::Global;
 
 /// A URI of a pending attestation whose text stands elsewhere, as in the bytes that it was read
 /// from: 0 to `MAX_URI` bytes, 1000, each of them allowed.
-#[derive(Clone, Copy, Debug)]
+#[derive(Clone, Copy)]
 pub struct UriRef<'a> {
     /// The text, 0 to 1000 bytes.
     pub text: &'a str,

@@ -1,4 +1,13 @@
-pub mod Header
-pub mod DoubleSha256
-pub mod HeaderTable
-pub mod TableRead
+pub use Rattle.ots_headers.specs.Header
+pub use Rattle.ots_headers.specs.DoubleSha256
+pub use Rattle.ots_headers.specs.HeaderTable
+pub use Rattle.ots_headers.specs.TableRead
+pub use Rattle.ots_block.specs.Compact
+pub use Rattle.ots_block.specs.Transaction
+pub use Rattle.ots_block.specs.Block
+pub use Rattle.ots_block.specs.Reading
+pub use Rattle.ots_block.specs.BlockRead
+pub use Rattle.ots_block.specs.Ends
+pub use Rattle.ots_block.specs.Given
+pub use Rattle.ots_block.specs.Kept
+pub use Rattle.ots_block.specs.OneAnswer

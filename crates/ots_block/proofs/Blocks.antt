@@ -7,10 +7,10 @@ use Rattle.std.specs.List.{flat_map, AllByRecursion}
 use Rattle.std.proofs.Math.Nat.{mul-suc}
 use Rattle.std.proofs.lemmas.Bool.{cases_lt, ltb-false, le-ltb, eqb-false, ne_eqb}
 use Rattle.std.proofs.lemmas.List.{append-nil, take-append-drop, drop-drop, length-drop, length-map}
-use Rattle.ots_bitcoin.specs.declared.header.Header.{Header}
-use Rattle.ots_bitcoin.specs.Header.{serialized, IsHeader, header_in}
-use Rattle.ots_bitcoin.specs.DoubleSha256.{double_sha256}
-use Rattle.ots_bitcoin.proofs.HeaderBytes.{serialized_in, is_header_in, length_serialized, header_in_serialized, behind_serialized}
+use Rattle.ots_headers.specs.declared.header.Header.{Header}
+use Rattle.ots_headers.specs.Header.{serialized, IsHeader, header_in}
+use Rattle.ots_headers.specs.DoubleSha256.{double_sha256}
+use Rattle.ots_headers.proofs.HeaderBytes.{serialized_in, is_header_in, length_serialized, header_in_serialized, after_serialized}
 use Rattle.ots_block.specs.declared.fault.BlockReason.TheVariants.{Truncated, NoTransaction, Rest}
 use Rattle.ots_block.specs.declared.fault.BlockError.{BlockError}
 use Rattle.ots_block.specs.declared.fault.BlockError.TheVariants.{BadBlock, OutOfMemory}
@@ -19,7 +19,7 @@ use Rattle.ots_block.specs.Compact.{compact}
 use Rattle.ots_block.specs.Transaction.{Input, Output, Transaction, sized, counted, input_bytes, output_bytes, body_bytes, transaction_bytes, stripped, txid, IsInput, IsOutput, IsTransaction}
 use Rattle.ots_block.specs.Block.{Contents, block_bytes, IsBlock, stripped_forms}
 use Rattle.ots_block.specs.Reading.{Halt, Read, ◌>>=◌, run_at, compact_at, many_at, transaction_at, header_at, count_at, ended, block_at}
-use Rattle.ots_block.specs.Ends.{End, laid_at, header_end, front_at, kept_at, stripped_in}
+use Rattle.ots_block.specs.Ends.{End, laid_at, header_end, prefix_at, kept_at, stripped_in}
 use Rattle.ots_block.specs.BlockRead.{placed, read_block}
 use Rattle.ots_block.specs.Given.{Fails}
 use Rattle.ots_block.specs.Kept.{contents_in, IsKept}
@@ -40,9 +40,9 @@ run_reads : (n : ℕ) (bytes : List ℕ) → n ≤ length bytes → run_at n byt
 unfolding run_at
 run_reads n bytes long = rw (le-ltb (length bytes) n long) refl
 
--- the bytes behind each field of a header
-behind : (n m : ℕ) (bytes b c : List ℕ) → drop n bytes ≡ b → drop m b ≡ c → drop (n + m) bytes ≡ c
-behind n m bytes b c e f = sym (drop-drop m n bytes) ∙ ap (drop m) e ∙ f
+-- the bytes after each field of a header
+after : (n m : ℕ) (bytes b c : List ℕ) → drop n bytes ≡ b → drop m b ≡ c → drop (n + m) bytes ≡ c
+after n m bytes b c e f = sym (drop-drop m n bytes) ∙ ap (drop m) e ∙ f
 
 pub record HeaderRead (bytes : List ℕ) (h : Header) (rest : List ℕ) : Type 0 where
   pub long : 80 ≤ length bytes
@@ -64,11 +64,11 @@ header_read bytes h rest e =
     let dt = run_drops 4 r.0.1 t.0.0 t.0.1 t.1 in
     let db = run_drops 4 t.0.1 b.0.0 b.0.1 b.1 in
     let dn = run_drops 4 b.0.1 n.0.0 n.0.1 n.1 in
-    let t36 = behind 4 32 bytes v.0.1 p.0.1 dv.1 dp.1 in
-    let t68 = behind 36 32 bytes p.0.1 r.0.1 t36 dr.1 in
-    let t72 = behind 68 4 bytes r.0.1 t.0.1 t68 dt.1 in
-    let t76 = behind 72 4 bytes t.0.1 b.0.1 t72 db.1 in
-    let t80 = behind 76 4 bytes b.0.1 n.0.1 t76 dn.1 in
+    let t36 = after 4 32 bytes v.0.1 p.0.1 dv.1 dp.1 in
+    let t68 = after 36 32 bytes p.0.1 r.0.1 t36 dr.1 in
+    let t72 = after 68 4 bytes r.0.1 t.0.1 t68 dt.1 in
+    let t76 = after 72 4 bytes t.0.1 b.0.1 t72 db.1 in
+    let t80 = after 76 4 bytes b.0.1 n.0.1 t76 dn.1 in
     let l76 : length b.0.1 ≡ length bytes - 76 = ap length (sym t76) ∙ length-drop 76 bytes in
     let room : 4 ≤ length b.0.1 = dn.0 in
     let read : Header × List ℕ = (header_in bytes, n.0.1) in
@@ -83,11 +83,11 @@ header_reads bytes long =
     let d68 = drop 32 d36 in
     let d72 = drop 4 d68 in
     let d76 = drop 4 d72 in
-    let t36 = behind 4 32 bytes d4 d36 refl refl in
-    let t68 = behind 36 32 bytes d36 d68 t36 refl in
-    let t72 = behind 68 4 bytes d68 d72 t68 refl in
-    let t76 = behind 72 4 bytes d72 d76 t72 refl in
-    let t80 = behind 76 4 bytes d76 (drop 4 d76) t76 refl in
+    let t36 = after 4 32 bytes d4 d36 refl refl in
+    let t68 = after 36 32 bytes d36 d68 t36 refl in
+    let t72 = after 68 4 bytes d68 d72 t68 refl in
+    let t76 = after 72 4 bytes d72 d76 t72 refl in
+    let t80 = after 76 4 bytes d76 (drop 4 d76) t76 refl in
     let l4 : length d4 ≡ length bytes - 4 = length-drop 4 bytes in
     let l36 : length d36 ≡ length bytes - 36 = ap length (sym t36) ∙ length-drop 36 bytes in
     let l68 : length d68 ≡ length bytes - 68 = ap length (sym t68) ∙ length-drop 68 bytes in
@@ -99,16 +99,16 @@ header_reads bytes long =
 pub header_takes : (bytes : List ℕ) (h : Header) (rest : List ℕ) → IsBytes bytes → header_at bytes ≡ Ok (h, rest) → Takes bytes (serialized h) rest × IsHeader h
 header_takes bytes h rest fits e =
     let r = header_read bytes h rest e in
-    let front : serialized (header_in bytes) ≡ take 80 bytes = serialized_in bytes r.long fits in
+    let prefix : serialized (header_in bytes) ≡ take 80 bytes = serialized_in bytes r.long fits in
     let parts : bytes ≡ serialized h ++ rest =
-    sym (take-append-drop 80 bytes) ∙ (λ j. sym front j ++ r.past j) ∙ ap (λ (k : Header). serialized k ++ rest) r.is in
+    sym (take-append-drop 80 bytes) ∙ (λ j. sym prefix j ++ r.past j) ∙ ap (λ (k : Header). serialized k ++ rest) r.is in
     (record { parts = parts; rest_fits = subst IsBytes r.past (IsBytes-drop 80 bytes fits) }, subst IsHeader r.is (is_header_in bytes r.long fits))
 
 header_again : (h : Header) (rest : List ℕ) → IsHeader h → header_at (serialized h ++ rest) ≡ Ok (h, rest)
 header_again h rest is =
     let bytes : List ℕ = serialized h ++ rest in
     header_reads bytes (omega (arith, length-append (serialized h) rest, length_serialized h is))
-    ∙ (λ j. Ok (header_in_serialized h rest is j, behind_serialized h rest is j))
+    ∙ (λ j. Ok (header_in_serialized h rest is j, after_serialized h rest is j))
 
 -- ---- the number of transactions
 
@@ -209,7 +209,7 @@ ended_both a b (k ∷ x) [] e = absurd cc
 ended_both a b (k ∷ x) (l ∷ y) e = ap (λ (z : List ℕ). Err (record { left = length z; reason = Rest })) e
 
 same_halts : (bytes : List ℕ) → void_of (block_at bytes) ≡ void_of (kept_at bytes)
-unfolding block_at kept_at front_at
+unfolding block_at kept_at prefix_at
 same_halts bytes =
     step_any (header_at bytes) (header_end bytes) _ _ (header_ends bytes) (λ h.
     step_both (count_at h.1) _ _ (λ n.
@@ -261,7 +261,7 @@ unfolding block_at
 block_reads bytes h b1 n b2 ts b3 eh en et e3 = rw (eh, en, et, e3) refl
 
 pub kept : (bytes : List ℕ) (ps : List Places) → IsBytes bytes → kept_at bytes ≡ Ok ps → (c : Contents) × IsKept bytes c ps
-unfolding kept_at front_at
+unfolding kept_at prefix_at
 kept bytes ps fits e =
     let h = bind_ok (header_end bytes) (λ b. count_at b >>= λ n. many_at laid_at n.0 n.1 >>= λ all. ended all.0 all.1) ps
     (sym (step_within (header_end bytes) count_at (λ n. many_at laid_at n.0 n.1 >>= λ all. ended all.0 all.1)) ∙ e) in
@@ -273,13 +273,13 @@ kept bytes ps fits e =
     let th = header_takes bytes hv.0 h.0 fits hv.1 in
     let tn = count_takes h.0 n.0.0 n.0.1 th.0.rest_fits n.1 in
     let l = all_laid n.0.0 n.0.1 m.0.0 m.0.1 tn.0.rest_fits m.1 in
-    let front : List ℕ = serialized hv.0 ++ compact n.0.0 in
-    let both : bytes ≡ front ++ n.0.1 = (Takes-then bytes (serialized hv.0) h.0 (compact n.0.0) n.0.1 th.0 tn.0).parts in
+    let prefix : List ℕ = serialized hv.0 ++ compact n.0.0 in
+    let both : bytes ≡ prefix ++ n.0.1 = (Takes-then bytes (serialized hv.0) h.0 (compact n.0.0) n.0.1 th.0 tn.0).parts in
     let c : Contents = record { header = hv.0; transactions = l.ts } in
     let reads : block_at bytes ≡ Ok c = block_reads bytes hv.0 h.0 n.0.0 n.0.1 l.ts m.0.1 hv.1 n.1 l.reads x.0 in
     let stripped_there : map (stripped_in bytes) m.0.0 ≡ map stripped l.ts =
-    ap (λ (z : List ℕ). map (stripped_in z) m.0.0) both ∙ l.strips front in
-    let few : length n.0.1 ≤ length bytes = omega (arith, ap length both, length-append front n.0.1) in (
+    ap (λ (z : List ℕ). map (stripped_in z) m.0.0) both ∙ l.strips prefix in
+    let few : length n.0.1 ≤ length bytes = omega (arith, ap length both, length-append prefix n.0.1) in (
       c,
       subst (IsKept bytes c) x.1 (record {
         reads = reads;

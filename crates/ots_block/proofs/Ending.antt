@@ -92,11 +92,11 @@ sizes one end same (suc n) bytes = size_first one end n (sizes one end same n) (
 pub counted_sizes : {A : Type 0} (one : List ℕ → Read A) (end : List ℕ → End) → ((bytes : List ℕ) → rest_of (one bytes) ≡ end bytes)
     → (bytes : List ℕ) → size_of (counted_at one bytes) ≡ counted_end end bytes
 unfolding counted_at counted_end
-counted_sizes {A = A} one end same bytes = behind (compact_at bytes)
+counted_sizes {A = A} one end same bytes = after (compact_at bytes)
   where
-    behind : (r : Read ℕ) → size_of (r >>= λ n. many_at one n.0 n.1) ≡ (r >>= λ n. many_end end n.0 n.1 >>= λ rest. Ok (n.0, rest))
-    behind (Ok n) = sizes one end same n.0 n.1
-    behind (Err h) = refl
+    after : (r : Read ℕ) → size_of (r >>= λ n. many_at one n.0 n.1) ≡ (r >>= λ n. many_end end n.0 n.1 >>= λ rest. Ok (n.0, rest))
+    after (Ok n) = sizes one end same n.0 n.1
+    after (Err h) = refl
 
 pub input_ends : (bytes : List ℕ) → rest_of (input_at bytes) ≡ input_end bytes
 unfolding input_at input_end

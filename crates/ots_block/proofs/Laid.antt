@@ -76,15 +76,15 @@ laid bytes p rest e =
     })
 
 -- the last bytes
-last_of : (front rest bytes : List ℕ) → bytes ≡ front ++ rest → last (length rest) bytes ≡ rest
-last_of front rest bytes e =
-    ap (λ (z : List ℕ). last (length rest) z) e ∙ drop_at front rest (length (front ++ rest) - length rest) (omega (arith, length-append front rest))
+last_of : (prefix rest bytes : List ℕ) → bytes ≡ prefix ++ rest → last (length rest) bytes ≡ rest
+last_of prefix rest bytes e =
+    ap (λ (z : List ℕ). last (length rest) z) e ∙ drop_at prefix rest (length (prefix ++ rest) - length rest) (omega (arith, length-append prefix rest))
 
-last_further : (front bytes : List ℕ) (n : ℕ) → n ≤ length bytes → last n (front ++ bytes) ≡ last n bytes
-last_further front bytes n within =
-    ap (λ k. drop k (front ++ bytes)) {x = length (front ++ bytes) - n} {y = length front + (length bytes - n)} (omega (arith, length-append front bytes))
-    ∙ sym (drop-drop (length bytes - n) (length front) (front ++ bytes))
-    ∙ ap (drop (length bytes - n)) (drop_at front bytes (length front) refl)
+last_further : (prefix bytes : List ℕ) (n : ℕ) → n ≤ length bytes → last n (prefix ++ bytes) ≡ last n bytes
+last_further prefix bytes n within =
+    ap (λ k. drop k (prefix ++ bytes)) {x = length (prefix ++ bytes) - n} {y = length prefix + (length bytes - n)} (omega (arith, length-append prefix bytes))
+    ∙ sym (drop-drop (length bytes - n) (length prefix) (prefix ++ bytes))
+    ∙ ap (drop (length bytes - n)) (drop_at prefix bytes (length prefix) refl)
 
 lengths : (bytes text rest : List ℕ) → Takes bytes text rest → length bytes ≡ length text + length rest
 lengths bytes text rest t = ap length t.parts ∙ length-append text rest
@@ -129,20 +129,20 @@ strips bytes p rest l fits =
     λ j. v j ++ b j ++ t j
 
 -- in longer bytes
-strips_further : (front bytes : List ℕ) (p : Places) → AreWithin (length bytes) p → stripped_in (front ++ bytes) p ≡ stripped_in bytes p
+strips_further : (prefix bytes : List ℕ) (p : Places) → AreWithin (length bytes) p → stripped_in (prefix ++ bytes) p ≡ stripped_in bytes p
 unfolding stripped_in
-strips_further front bytes p w =
+strips_further prefix bytes p w =
     let s : p.start ≤ length bytes = w.start in
     let b : p.body ≤ length bytes = omega (arith, w.start, w.body) in
     let l : p.lock_time ≤ length bytes = omega (arith, w.start, w.body, w.witness, w.lock_time) in
-    λ j. take 4 (last_further front bytes p.start s j) ++ take (p.body - p.witness) (last_further front bytes p.body b j) ++ take 4 (last_further front bytes p.lock_time l j)
+    λ j. take 4 (last_further prefix bytes p.start s j) ++ take (p.body - p.witness) (last_further prefix bytes p.body b j) ++ take 4 (last_further prefix bytes p.lock_time l j)
 
--- ---- one transaction behind the other
+-- ---- one transaction after the other
 
 pub record AllLaid (n : ℕ) (bytes : List ℕ) (ps : List Places) (rest : List ℕ) : Type 0 where
   pub ts : List Transaction
   pub reads : many_at transaction_at n bytes ≡ Ok (ts, rest)
-  pub strips : (front : List ℕ) → map (stripped_in (front ++ bytes)) ps ≡ map stripped ts
+  pub strips : (prefix : List ℕ) → map (stripped_in (prefix ++ bytes)) ps ≡ map stripped ts
   pub within : (m : ℕ) → length bytes ≤ m → AllByRecursion (AreWithin m) ps
 
 wider : (n m : ℕ) (p : Places) → n ≤ m → AreWithin n p → AreWithin m p
@@ -157,7 +157,7 @@ pub all_laid : (n : ℕ) (bytes : List ℕ) (ps : List Places) (rest : List ℕ)
 unfolding many_at
 all_laid zero bytes ps rest fits e =
     subst (λ (q : List Places × List ℕ). AllLaid zero bytes q.0 q.1) (ok_is ([], bytes) (ps, rest) e)
-    (record { ts = []; reads = refl; strips = λ front. refl; within = λ m more. tt })
+    (record { ts = []; reads = refl; strips = λ prefix. refl; within = λ m more. tt })
 all_laid (suc n) bytes ps rest fits e =
     let a = bind_ok (laid_at bytes) _ (ps, rest) e in
     let b = bind_ok (many_at laid_at n a.0.1) _ (ps, rest) a.2 in
@@ -165,17 +165,17 @@ all_laid (suc n) bytes ps rest fits e =
     let t = transaction_field.takes bytes l.t a.0.1 fits (parts_read bytes l.t a.0.1 l.parts) in
     let o = all_laid n a.0.1 b.0.0 b.0.1 t.0.rest_fits b.1 in
     let w = within bytes a.0.0 a.0.1 l fits in
-    let far : (front : List ℕ) → front ++ bytes ≡ (front ++ transaction_bytes l.t) ++ a.0.1 =
-    λ front. ap (λ (z : List ℕ). front ++ z) t.0.parts ∙ sym (append_assoc front (transaction_bytes l.t) a.0.1) in
-    let others : (front : List ℕ) → map (stripped_in (front ++ bytes)) b.0.0 ≡ map stripped o.ts =
-    λ front. ap (λ (z : List ℕ). map (stripped_in z) b.0.0) (far front) ∙ o.strips (front ++ transaction_bytes l.t) in
-    let first : (front : List ℕ) → stripped_in (front ++ bytes) a.0.0 ≡ stripped l.t =
-    λ front. strips_further front bytes a.0.0 w ∙ strips bytes a.0.0 a.0.1 l fits in
+    let far : (prefix : List ℕ) → prefix ++ bytes ≡ (prefix ++ transaction_bytes l.t) ++ a.0.1 =
+    λ prefix. ap (λ (z : List ℕ). prefix ++ z) t.0.parts ∙ sym (append_assoc prefix (transaction_bytes l.t) a.0.1) in
+    let others : (prefix : List ℕ) → map (stripped_in (prefix ++ bytes)) b.0.0 ≡ map stripped o.ts =
+    λ prefix. ap (λ (z : List ℕ). map (stripped_in z) b.0.0) (far prefix) ∙ o.strips (prefix ++ transaction_bytes l.t) in
+    let first : (prefix : List ℕ) → stripped_in (prefix ++ bytes) a.0.0 ≡ stripped l.t =
+    λ prefix. strips_further prefix bytes a.0.0 w ∙ strips bytes a.0.0 a.0.1 l fits in
     let read : List Places × List ℕ = (a.0.0 ∷ b.0.0, b.0.1) in
     subst (λ (q : List Places × List ℕ). AllLaid (suc n) bytes q.0 q.1) {x = read} {y = (ps, rest)} (ok_is read (ps, rest) b.2) (record {
       ts = l.t ∷ o.ts;
       reads = many_more n bytes l.t a.0.1 o.ts b.0.1 (parts_read bytes l.t a.0.1 l.parts) o.reads;
-      strips = λ front. (λ j. first front j ∷ others front j);
+      strips = λ prefix. (λ j. first prefix j ∷ others prefix j);
       within = λ m more. (wider (length bytes) m a.0.0 more w, o.within m (omega (arith, lengths bytes (transaction_bytes l.t) a.0.1 t.0)));
     })
 

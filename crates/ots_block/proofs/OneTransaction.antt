@@ -20,8 +20,8 @@ input_field = record {
       let to = run_takes 36 bytes o.0.0 o.0.1 fits o.1 in
       let ts = sized_field.takes o.0.1 s.0.0 s.0.1 to.0.rest_fits s.1 in
       let tq = run_takes 4 s.0.1 q.0.0 q.0.1 ts.0.rest_fits q.1 in
-      let front = Takes-then bytes o.0.0 o.0.1 (sized s.0.0) s.0.1 to.0 ts.0 in
-      let whole = Takes-then bytes (o.0.0 ++ sized s.0.0) s.0.1 q.0.0 q.0.1 front tq.0 in
+      let prefix = Takes-then bytes o.0.0 o.0.1 (sized s.0.0) s.0.1 to.0 ts.0 in
+      let whole = Takes-then bytes (o.0.0 ++ sized s.0.0) s.0.1 q.0.0 q.0.1 prefix tq.0 in
       let read : Input × List ℕ = (record { outpoint = o.0.0; script = s.0.0; sequence = q.0.0 }, q.0.1) in
       subst (λ (p : Input × List ℕ). Takes bytes (input_bytes p.0) p.1 × IsInput p.0) (ok_is read (x, rest) q.2)
       (whole, record { outpoint = to.1; script = ts.1; sequence = tq.1 });
@@ -66,33 +66,33 @@ abbrev Marks : Bool → List ℕ → List ℕ → Type 0
 Marks true bytes rest = Takes bytes (0 ∷ 1 ∷ []) rest
 Marks false bytes rest = (bytes ≡ rest) × ((more : List ℕ) → bytes ≡ 0 ∷ more → ⊥)
 
-IsBytes-behind : (first : ℕ) (bytes : List ℕ) → IsBytes (first ∷ bytes) → IsBytes bytes
-IsBytes-behind first bytes h i = h (suc i)
+IsBytes-after : (first : ℕ) (bytes : List ℕ) → IsBytes (first ∷ bytes) → IsBytes bytes
+IsBytes-after first bytes h i = h (suc i)
 
-flag_by : (first : ℕ) (behind : List ℕ) (m : Bool) (rest : List ℕ) (flagged : Bool) → eqb first 1 ≡ flagged → IsBytes behind
-    → cond {A = Read Bool} flagged (Ok (true, behind)) (Err (record { left = length (first ∷ behind); reason = BadFlag })) ≡ Ok (m, rest) → Marks m (0 ∷ first ∷ behind) rest
-flag_by first behind m rest true is fits e =
-    subst (λ (p : Bool × List ℕ). Marks p.0 (0 ∷ first ∷ behind) p.1) (ok_is (true, behind) (m, rest) e)
-    (record { parts = ap (λ (k : ℕ). 0 ∷ k ∷ behind) (eqb-true first 1 is); rest_fits = fits })
-flag_by first behind m rest false is fits e = absurd cc
+flag_by : (first : ℕ) (after : List ℕ) (m : Bool) (rest : List ℕ) (flagged : Bool) → eqb first 1 ≡ flagged → IsBytes after
+    → cond {A = Read Bool} flagged (Ok (true, after)) (Err (record { left = length (first ∷ after); reason = BadFlag })) ≡ Ok (m, rest) → Marks m (0 ∷ first ∷ after) rest
+flag_by first after m rest true is fits e =
+    subst (λ (p : Bool × List ℕ). Marks p.0 (0 ∷ first ∷ after) p.1) (ok_is (true, after) (m, rest) e)
+    (record { parts = ap (λ (k : ℕ). 0 ∷ k ∷ after) (eqb-true first 1 is); rest_fits = fits })
+flag_by first after m rest false is fits e = absurd cc
 
-flag_takes : (behind : List ℕ) (m : Bool) (rest : List ℕ) → IsBytes behind → flag_at behind ≡ Ok (m, rest) → Marks m (0 ∷ behind) rest
+flag_takes : (after : List ℕ) (m : Bool) (rest : List ℕ) → IsBytes after → flag_at after ≡ Ok (m, rest) → Marks m (0 ∷ after) rest
 unfolding flag_at
 flag_takes [] m rest fits e = absurd cc
-flag_takes (first ∷ behind) m rest fits e = flag_by first behind m rest (eqb first 1) refl (IsBytes-behind first behind fits) e
+flag_takes (first ∷ after) m rest fits e = flag_by first after m rest (eqb first 1) refl (IsBytes-after first after fits) e
 
-marker_by : (first : ℕ) (behind : List ℕ) (m : Bool) (rest : List ℕ) (zeroed : Bool) → eqb first 0 ≡ zeroed → IsBytes behind
-    → cond {A = Read Bool} zeroed (flag_at behind) (Ok (false, first ∷ behind)) ≡ Ok (m, rest) → Marks m (first ∷ behind) rest
-marker_by first behind m rest true is fits e =
-    subst (λ (k : ℕ). Marks m (k ∷ behind) rest) (sym (eqb-true first 0 is)) (flag_takes behind m rest fits e)
-marker_by first behind m rest false is fits e =
+marker_by : (first : ℕ) (after : List ℕ) (m : Bool) (rest : List ℕ) (zeroed : Bool) → eqb first 0 ≡ zeroed → IsBytes after
+    → cond {A = Read Bool} zeroed (flag_at after) (Ok (false, first ∷ after)) ≡ Ok (m, rest) → Marks m (first ∷ after) rest
+marker_by first after m rest true is fits e =
+    subst (λ (k : ℕ). Marks m (k ∷ after) rest) (sym (eqb-true first 0 is)) (flag_takes after m rest fits e)
+marker_by first after m rest false is fits e =
     let never : (first ≡ 0 → ⊥) = eqb-false first 0 is in
-    subst (λ (p : Bool × List ℕ). Marks p.0 (first ∷ behind) p.1) (ok_is (false, first ∷ behind) (m, rest) e) (refl, λ more z. never (cc))
+    subst (λ (p : Bool × List ℕ). Marks p.0 (first ∷ after) p.1) (ok_is (false, first ∷ after) (m, rest) e) (refl, λ more z. never (cc))
 
 marker_takes : (bytes : List ℕ) (m : Bool) (rest : List ℕ) → IsBytes bytes → marker_at bytes ≡ Ok (m, rest) → Marks m bytes rest
 unfolding marker_at
 marker_takes [] m rest fits e = subst (λ (p : Bool × List ℕ). Marks p.0 [] p.1) (ok_is (false, []) (m, rest) e) (refl, λ more z. absurd cc)
-marker_takes (first ∷ behind) m rest fits e = marker_by first behind m rest (eqb first 0) refl (IsBytes-behind first behind fits) e
+marker_takes (first ∷ after) m rest fits e = marker_by first after m rest (eqb first 0) refl (IsBytes-after first after fits) e
 
 marked_again : (rest : List ℕ) → marker_at (0 ∷ 1 ∷ rest) ≡ Ok (true, rest)
 unfolding marker_at flag_at
@@ -114,11 +114,11 @@ unmarked_again n rest some few =
           ]
     ]
 
-zero_marks : (inputs : List Input) (bytes more : List ℕ) → bytes ≡ counted input_bytes inputs ++ more → length inputs ≡ 0 → (front : List ℕ) × (bytes ≡ 0 ∷ front)
+zero_marks : (inputs : List Input) (bytes more : List ℕ) → bytes ≡ counted input_bytes inputs ++ more → length inputs ≡ 0 → (prefix : List ℕ) × (bytes ≡ 0 ∷ prefix)
 zero_marks [] bytes more e none = (more, e ∙ rw (compact_1 0 (omega arith)) refl)
 zero_marks (i ∷ inputs) bytes more e none = absurd (omega arith)
 
-some_inputs : (inputs : List Input) (bytes more : List ℕ) → bytes ≡ counted input_bytes inputs ++ more → ((front : List ℕ) → bytes ≡ 0 ∷ front → ⊥) → 1 ≤ length inputs
+some_inputs : (inputs : List Input) (bytes more : List ℕ) → bytes ≡ counted input_bytes inputs ++ more → ((prefix : List ℕ) → bytes ≡ 0 ∷ prefix → ⊥) → 1 ≤ length inputs
 some_inputs inputs bytes more e never =
     elim (cases_lt 0 (length inputs)) [
       | inl some ↦ omega arith
@@ -140,7 +140,7 @@ witnessed false inputs a b b2 c d w fb fc marks is e =
     subst (λ (p : Option (List (List (List ℕ))) × List ℕ). Witnessed inputs a b c p.1 p.0) (ok_is (None, c) (w, d) e) (record {
       marker = record { parts = marks.0; rest_fits = fb };
       witness = record { parts = refl; rest_fits = fc };
-      is = some_inputs inputs b b2 is (λ front z. marks.1 front (marks.0 ∙ z));
+      is = some_inputs inputs b b2 is (λ prefix z. marks.1 prefix (marks.0 ∙ z));
     })
 witnessed true inputs a b b2 c d w fb fc marks is e =
     let s = bind_ok (many_at stack_at (length inputs) c) (λ s. Ok (Some s.0, s.1)) (w, d) e in

@@ -39,7 +39,7 @@ done x = Ok x
 pub ok_is : {A : Type 0} (x y : A) → done x ≡ done y → x ≡ y
 ok_is x y e = cc
 
--- what was read off the front
+-- what was read off the prefix
 pub record Takes (bytes text rest : List ℕ) : Type 0 where
   pub parts : bytes ≡ text ++ rest
   pub rest_fits : IsBytes rest
@@ -107,22 +107,22 @@ wide64 = record {
   below = λ bytes fits. omega (arith, fits 0, fits 1, fits 2, fits 3, fits 4, fits 5, fits 6, fits 7);
 }
 
--- a number behind the first byte of its form
-wide_takes : (w : Width) (limit least : ℕ) → IsWide w limit → (bytes behind : List ℕ) (n : ℕ) (rest : List ℕ) → IsBytes behind
-    → wide_at w least bytes behind ≡ Ok (n, rest) → Takes behind (to_le_bytes w n) rest × (least ≤ n) × (n < limit) × (n ≤ 4194304)
-wide_takes w limit least wide bytes behind n rest fits e =
-    let m : ℕ = from_le_bytes w (take (byte_len w) behind) in
-    let after : List ℕ = drop (byte_len w) behind in
-    let g = guard_ok (ltb (length behind) (byte_len w)) (record { left = length bytes; reason = Truncated }) (in_range least bytes m after) (n, rest) e in
+-- a number after the first byte of its form
+wide_takes : (w : Width) (limit least : ℕ) → IsWide w limit → (bytes following : List ℕ) (n : ℕ) (rest : List ℕ) → IsBytes following
+    → wide_at w least bytes following ≡ Ok (n, rest) → Takes following (to_le_bytes w n) rest × (least ≤ n) × (n < limit) × (n ≤ 4194304)
+wide_takes w limit least wide bytes following n rest fits e =
+    let m : ℕ = from_le_bytes w (take (byte_len w) following) in
+    let after : List ℕ = drop (byte_len w) following in
+    let g = guard_ok (ltb (length following) (byte_len w)) (record { left = length bytes; reason = Truncated }) (in_range least bytes m after) (n, rest) e in
     let h = guard_ok (ltb m least) (record { left = length bytes; reason = NonMinimal }) _ (n, rest) g.1 in
     let k = guard_ok (ltb 4194304 m) (record { left = length bytes; reason = TooLarge }) (Ok (m, after)) (n, rest) h.1 in
-    let long : byte_len w ≤ length behind = ltb-false _ _ g.0 in
-    let front : to_le_bytes w m ≡ take (byte_len w) behind =
-    wide.back (take (byte_len w) behind) (length-take-le (byte_len w) behind long) (IsBytes-take (byte_len w) behind fits) in
-    let whole : Takes behind (to_le_bytes w m) after =
-    record { parts = rw front (sym (take-append-drop (byte_len w) behind)); rest_fits = IsBytes-drop (byte_len w) behind fits } in
-    subst (λ (p : ℕ × List ℕ). Takes behind (to_le_bytes w p.0) p.1 × (least ≤ p.0) × (p.0 < limit) × (p.0 ≤ 4194304)) (ok_is (m, after) (n, rest) k.1)
-    (whole, ltb-false _ _ h.0, wide.below (take (byte_len w) behind) (IsBytes-take (byte_len w) behind fits), ltb-false _ _ k.0)
+    let long : byte_len w ≤ length following = ltb-false _ _ g.0 in
+    let prefix : to_le_bytes w m ≡ take (byte_len w) following =
+    wide.back (take (byte_len w) following) (length-take-le (byte_len w) following long) (IsBytes-take (byte_len w) following fits) in
+    let whole : Takes following (to_le_bytes w m) after =
+    record { parts = rw prefix (sym (take-append-drop (byte_len w) following)); rest_fits = IsBytes-drop (byte_len w) following fits } in
+    subst (λ (p : ℕ × List ℕ). Takes following (to_le_bytes w p.0) p.1 × (least ≤ p.0) × (p.0 < limit) × (p.0 ≤ 4194304)) (ok_is (m, after) (n, rest) k.1)
+    (whole, ltb-false _ _ h.0, wide.below (take (byte_len w) following) (IsBytes-take (byte_len w) following fits), ltb-false _ _ k.0)
 
 wide_again : (w : Width) (limit least : ℕ) → IsWide w limit → (bytes : List ℕ) (n : ℕ) (rest : List ℕ) → least ≤ n → n < limit → n ≤ 4194304
     → wide_at w least bytes (to_le_bytes w n ++ rest) ≡ Ok (n, rest)
@@ -145,34 +145,34 @@ unfolding compact
 compact_5 n low high = rw (le-ltb n 0xfd (omega arith), le-ltb n (2 ^ 16) low, lt-ltb n (2 ^ 32) high) refl
 
 -- which form the first byte begins
-compact_by : (first : ℕ) (bytes behind : List ℕ) (n : ℕ) (rest : List ℕ) (a b c : Bool) → eqb first 0xfd ≡ a → eqb first 0xfe ≡ b → eqb first 0xff ≡ c
-    → first < 256 → IsBytes behind
-    → cond a (wide_at w16 0xfd bytes behind) (cond b (wide_at w32 (2 ^ 16) bytes behind) (cond c (wide_at w64 (2 ^ 32) bytes behind) (Ok (first, behind)))) ≡ Ok (n, rest)
-    → Takes (first ∷ behind) (compact n) rest × (n ≤ 4194304)
-compact_by first bytes behind n rest true b c ea eb ec byte fits e =
-    let t = wide_takes w16 (2 ^ 16) 0xfd wide16 bytes behind n rest fits e in
+compact_by : (first : ℕ) (bytes following : List ℕ) (n : ℕ) (rest : List ℕ) (a b c : Bool) → eqb first 0xfd ≡ a → eqb first 0xfe ≡ b → eqb first 0xff ≡ c
+    → first < 256 → IsBytes following
+    → cond a (wide_at w16 0xfd bytes following) (cond b (wide_at w32 (2 ^ 16) bytes following) (cond c (wide_at w64 (2 ^ 32) bytes following) (Ok (first, following)))) ≡ Ok (n, rest)
+    → Takes (first ∷ following) (compact n) rest × (n ≤ 4194304)
+compact_by first bytes following n rest true b c ea eb ec byte fits e =
+    let t = wide_takes w16 (2 ^ 16) 0xfd wide16 bytes following n rest fits e in
     let is : first ≡ 0xfd = eqb-true first 0xfd ea in
     (record { parts = rw (compact_3 n t.1 t.2, is) (ap (λ (z : List ℕ). 0xfd ∷ z) t.0.parts); rest_fits = t.0.rest_fits }, t.3)
-compact_by first bytes behind n rest false true c ea eb ec byte fits e =
-    let t = wide_takes w32 (2 ^ 32) (2 ^ 16) wide32 bytes behind n rest fits e in
+compact_by first bytes following n rest false true c ea eb ec byte fits e =
+    let t = wide_takes w32 (2 ^ 32) (2 ^ 16) wide32 bytes following n rest fits e in
     let is : first ≡ 0xfe = eqb-true first 0xfe eb in
     (record { parts = rw (compact_5 n t.1 t.2, is) (ap (λ (z : List ℕ). 0xfe ∷ z) t.0.parts); rest_fits = t.0.rest_fits }, t.3)
-compact_by first bytes behind n rest false false true ea eb ec byte fits e =
-    let t = wide_takes w64 (2 ^ 64) (2 ^ 32) wide64 bytes behind n rest fits e in
+compact_by first bytes following n rest false false true ea eb ec byte fits e =
+    let t = wide_takes w64 (2 ^ 64) (2 ^ 32) wide64 bytes following n rest fits e in
     absurd (omega (arith, t.1, t.3))
-compact_by first bytes behind n rest false false false ea eb ec byte fits e =
+compact_by first bytes following n rest false false false ea eb ec byte fits e =
     let few : first < 0xfd = omega (arith, eqb-false first 0xfd ea, eqb-false first 0xfe eb, eqb-false first 0xff ec) in
-    subst (λ (p : ℕ × List ℕ). Takes (first ∷ behind) (compact p.0) p.1 × (p.0 ≤ 4194304)) (ok_is (first, behind) (n, rest) e)
+    subst (λ (p : ℕ × List ℕ). Takes (first ∷ following) (compact p.0) p.1 × (p.0 ≤ 4194304)) (ok_is (first, following) (n, rest) e)
     (record { parts = rw (compact_1 first few) refl; rest_fits = fits }, omega arith)
 
-IsBytes-behind : (first : ℕ) (bytes : List ℕ) → IsBytes (first ∷ bytes) → IsBytes bytes
-IsBytes-behind first bytes h i = h (suc i)
+IsBytes-following : (first : ℕ) (bytes : List ℕ) → IsBytes (first ∷ bytes) → IsBytes bytes
+IsBytes-following first bytes h i = h (suc i)
 
 pub compact_takes : (bytes : List ℕ) (n : ℕ) (rest : List ℕ) → IsBytes bytes → compact_at bytes ≡ Ok (n, rest) → Takes bytes (compact n) rest × (n ≤ 4194304)
 unfolding compact_at
 compact_takes [] n rest fits e = absurd cc
-compact_takes (first ∷ behind) n rest fits e =
-    compact_by first (first ∷ behind) behind n rest (eqb first 0xfd) (eqb first 0xfe) (eqb first 0xff) refl refl refl (fits 0) (IsBytes-behind first behind fits) e
+compact_takes (first ∷ following) n rest fits e =
+    compact_by first (first ∷ following) following n rest (eqb first 0xfd) (eqb first 0xfe) (eqb first 0xff) refl refl refl (fits 0) (IsBytes-following first following fits) e
 
 one_again : (n : ℕ) (rest : List ℕ) → n < 0xfd → compact_at (n ∷ rest) ≡ Ok (n, rest)
 unfolding compact_at
@@ -198,7 +198,7 @@ compact_again n rest few =
           ]
     ]
 
--- ---- behind a number
+-- ---- after a number
 
 pub sized_field : IsField IsSized sized sized_at
 unfolding sized_at
@@ -213,7 +213,7 @@ sized_field = record {
       ap sized_at (append_assoc (compact (length x)) x rest) ∙ rw (compact_again (length x) (x ++ rest) few) (run_again (length x) x rest refl);
 }
 
--- ---- one thing behind the other
+-- ---- one thing after the other
 
 pub many_takes : {A : Type 0} (Is : A → Type 0) (text : A → List ℕ) (one : List ℕ → Read A) → IsField Is text one
     → (n : ℕ) (bytes : List ℕ) (xs : List A) (rest : List ℕ) → IsBytes bytes → many_at one n bytes ≡ Ok (xs, rest)

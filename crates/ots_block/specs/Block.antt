@@ -1,9 +1,10 @@
 -- A block: a header and its transactions. Source: Bitcoin Core, src/primitives/block.h, CBlock; Bitcoin
 -- developer reference, "Serialized Blocks".
 use Rattle.std.specs.Prelude.{◌≡◌, ◌≤◌, ℕ, List, ◌++◌, length, map}
-use Rattle.ots_bitcoin.specs.declared.header.Header.{Header}
-use Rattle.ots_bitcoin.specs.Header.{serialized, IsHeader}
-use Rattle.ots_block.specs.Transaction.{Transaction, counted, transaction_bytes, AreCounted, IsTransaction, stripped, txid}
+use Rattle.ots_headers.specs.declared.header.Header.{Header}
+use Rattle.ots_headers.specs.Header.{serialized, IsHeader}
+use Rattle.ots_block.specs.Transaction.{Transaction, counted, transaction_bytes, AreCounted, IsTransaction, stripped}
+use Rattle.ots_block.specs.Transaction.{txid}
 
 pub record Contents : Type 0 where
   pub header : Header

@@ -1,5 +1,6 @@
 -- For the code alone: where each field ends, without its value, and where the parts of a transaction begin.
-use Rattle.std.specs.Prelude.{◌≤◌, ℕ, zero, suc, ◌+◌, ◌-◌, List, ◌++◌, length, take, drop, Bool, true, false, Result, Ok, nat_lt, if◌then◌else◌}
+use Rattle.std.specs.Prelude.{◌≤◌, ℕ, zero, suc, ◌+◌, ◌-◌, List, ◌++◌, length, take, drop, Bool, true, false, Result}
+use Rattle.std.specs.Prelude.{Ok, nat_lt, if◌then◌else◌}
 use Rattle.ots_block.specs.declared.fault.BlockReason.TheVariants.{Truncated}
 use Rattle.ots_block.specs.declared.places.Places.{Places}
 use Rattle.ots_block.specs.Reading.{Halt, Read, halts, ◌>>=◌, compact_at, many_at, marker_at, count_at, ended}
@@ -57,7 +58,15 @@ laid_at bytes = do
   outputs ← counted_end output_end inputs.1
   witness ← witness_end marked.0 inputs.0 outputs.1
   lock ← run_end 4 witness
-  Ok (record { start = length bytes; body = length marked.1; witness = length outputs.1; lock_time = length witness }, lock)
+  Ok (
+    record {
+      start = length bytes;
+      body = length marked.1;
+      witness = length outputs.1;
+      lock_time = length witness;
+    },
+    lock,
+  )
 
 unfoldable pub header_end : List ℕ → End
 header_end bytes = do
@@ -68,15 +77,15 @@ header_end bytes = do
   bits ← run_end 4 time
   run_end 4 bits
 
--- the number of transactions behind the header
-unfoldable pub front_at : List ℕ → Read ℕ
-front_at bytes = do
+-- the number of transactions after the header
+unfoldable pub prefix_at : List ℕ → Read ℕ
+prefix_at bytes = do
   header ← header_end bytes
   count_at header
 
 unfoldable pub kept_at : List ℕ → Result (List Places) Halt
 kept_at bytes = do
-  count ← front_at bytes
+  count ← prefix_at bytes
   all ← many_at laid_at count.0 count.1
   ended all.0 all.1
 
@@ -86,7 +95,8 @@ last n bytes = drop (length bytes - n) bytes
 
 -- the stripped form of the transaction with these places
 unfoldable pub stripped_in : List ℕ → Places → List ℕ
-stripped_in bytes p = take 4 (last p.start bytes) ++ take (p.body - p.witness) (last p.body bytes) ++ take 4 (last p.lock_time bytes)
+stripped_in bytes p = take 4 (last p.start bytes) ++ take (p.body - p.witness) (last p.body bytes)
+    ++ take 4 (last p.lock_time bytes)
 
 -- the places lie within so many bytes, in their order
 pub record AreWithin (n : ℕ) (p : Places) : Type 0 where

@@ -1,7 +1,7 @@
 -- For the code alone: what it keeps of a block.
 use Rattle.std.specs.Prelude.{◌≡◌, ◌≤◌, ◌<◌, ◌^◌, ℕ, List, [], length, map, Result, Ok, Err}
 use Rattle.std.specs.List.{AllByRecursion}
-use Rattle.ots_bitcoin.specs.Header.{header_in}
+use Rattle.ots_headers.specs.Header.{header_in}
 use Rattle.ots_block.specs.declared.places.Places.{Places}
 use Rattle.ots_block.specs.Block.{Contents, stripped_forms}
 use Rattle.ots_block.specs.Reading.{Halt, block_at}

@@ -1,11 +1,13 @@
 -- The fields of a block in the order in which they stand, and the first that is not whole. A field is read at
--- the front of bytes: it gives a value and the bytes behind it, or it halts.
-use Rattle.std.specs.Prelude.{ℕ, zero, suc, ◌^◌, List, [], ◌∷◌, length, take, drop, Bool, true, false, Option, Some, None, Result, Ok, Err, nat_lt, nat_eq, if◌then◌else◌}
+-- the prefix of bytes: it gives a value and the bytes after it, or it halts.
+use Rattle.std.specs.Prelude.{ℕ, zero, suc, ◌^◌, List, [], ◌∷◌, length, take, drop, Bool, true, false, Option, Some}
+use Rattle.std.specs.Prelude.{None, Result, Ok, Err, nat_lt, nat_eq, if◌then◌else◌}
 use Rattle.std.specs.Int.{Width, w16, w32, w64, byte_len, from_le_bytes}
-use Rattle.ots_bitcoin.specs.declared.header.Header.{Header}
-use Rattle.ots_bitcoin.specs.Header.{header_in}
+use Rattle.ots_headers.specs.declared.header.Header.{Header}
+use Rattle.ots_headers.specs.Header.{header_in}
 use Rattle.ots_block.specs.declared.fault.BlockReason.{BlockReason}
-use Rattle.ots_block.specs.declared.fault.BlockReason.TheVariants.{Truncated, NonMinimal, TooLarge, BadFlag, NoTransaction, Rest}
+use Rattle.ots_block.specs.declared.fault.BlockReason.TheVariants.{Truncated, NonMinimal, TooLarge, BadFlag}
+use Rattle.ots_block.specs.declared.fault.BlockReason.TheVariants.{NoTransaction, Rest}
 use Rattle.ots_block.specs.declared.limits.TheConstants.{MAX_COMPACT}
 use Rattle.ots_block.specs.Transaction.{Input, Output, Transaction}
 use Rattle.ots_block.specs.Block.{Contents}
@@ -35,28 +37,29 @@ run_at n bytes = if nat_lt (length bytes) n then halts bytes Truncated else Ok (
 -- a number that no shorter form has from a least one on
 abbrev pub in_range : ℕ → List ℕ → ℕ → List ℕ → Read ℕ
 in_range least bytes n rest =
-    if nat_lt n least then halts bytes NonMinimal else if nat_lt MAX_COMPACT n then halts bytes TooLarge else Ok (n, rest)
+    if nat_lt n least then halts bytes NonMinimal else if nat_lt MAX_COMPACT n then halts bytes TooLarge
+    else Ok (n, rest)
 
--- a number of so many bytes behind the first byte of its form
+-- a number of so many bytes after the first byte of its form
 abbrev pub wide_at : Width → ℕ → List ℕ → List ℕ → Read ℕ
-wide_at w least bytes behind =
-    if nat_lt (length behind) (byte_len w) then halts bytes Truncated
-    else in_range least bytes (from_le_bytes w (take (byte_len w) behind)) (drop (byte_len w) behind)
+wide_at w least bytes after =
+    if nat_lt (length after) (byte_len w) then halts bytes Truncated
+    else in_range least bytes (from_le_bytes w (take (byte_len w) after)) (drop (byte_len w) after)
 
 unfoldable pub compact_at : List ℕ → Read ℕ
 compact_at [] = halts [] Truncated
-compact_at (first ∷ behind) =
-    if nat_eq first 0xfd then wide_at w16 0xfd (first ∷ behind) behind
-    else if nat_eq first 0xfe then wide_at w32 (2 ^ 16) (first ∷ behind) behind
-    else if nat_eq first 0xff then wide_at w64 (2 ^ 32) (first ∷ behind) behind
-    else Ok (first, behind)
+compact_at (first ∷ after) =
+    if nat_eq first 0xfd then wide_at w16 0xfd (first ∷ after) after
+    else if nat_eq first 0xfe then wide_at w32 (2 ^ 16) (first ∷ after) after
+    else if nat_eq first 0xff then wide_at w64 (2 ^ 32) (first ∷ after) after
+    else Ok (first, after)
 
 unfoldable pub sized_at : List ℕ → Read (List ℕ)
 sized_at bytes = do
   n ← compact_at bytes
   run_at n.0 n.1
 
--- ---- so many things, one behind the other
+-- ---- so many things, one after the other
 
 unfoldable pub many_at : {A : Type 0} → (List ℕ → Read A) → ℕ → List ℕ → Read (List A)
 many_at one zero bytes = Ok ([], bytes)
@@ -88,17 +91,17 @@ output_at bytes = do
 unfoldable pub stack_at : List ℕ → Read (List (List ℕ))
 stack_at bytes = counted_at sized_at bytes
 
--- the flag behind a marker
+-- the flag after a marker
 unfoldable pub flag_at : List ℕ → Read Bool
 flag_at [] = halts [] Truncated
-flag_at (first ∷ behind) = if nat_eq first 1 then Ok (true, behind) else halts (first ∷ behind) BadFlag
+flag_at (first ∷ after) = if nat_eq first 1 then Ok (true, after) else halts (first ∷ after) BadFlag
 
 -- whether there are a marker and a flag
 unfoldable pub marker_at : List ℕ → Read Bool
 marker_at [] = Ok (false, [])
-marker_at (first ∷ behind) = if nat_eq first 0 then flag_at behind else Ok (false, first ∷ behind)
+marker_at (first ∷ after) = if nat_eq first 0 then flag_at after else Ok (false, first ∷ after)
 
--- behind a marker, a list of items for each of so many inputs
+-- after a marker, a list of items for each of so many inputs
 unfoldable pub witness_at : Bool → ℕ → List ℕ → Read (Option (List (List (List ℕ))))
 witness_at false inputs bytes = Ok (None, bytes)
 witness_at true inputs bytes = do
@@ -113,7 +116,16 @@ transaction_at bytes = do
   outputs ← counted_at output_at inputs.1
   witness ← witness_at marked.0 (length inputs.0) outputs.1
   lock ← run_at 4 witness.1
-  Ok (record { version = version.0; inputs = inputs.0; outputs = outputs.0; witness = witness.0; lock_time = lock.0 }, lock.1)
+  Ok (
+    record {
+      version = version.0;
+      inputs = inputs.0;
+      outputs = outputs.0;
+      witness = witness.0;
+      lock_time = lock.0;
+    },
+    lock.1,
+  )
 
 -- ---- a block
 

@@ -2,7 +2,7 @@
 -- for the marker, the flag and the witness; Bitcoin developer reference, "Raw Transaction Format".
 use Rattle.std.specs.Prelude.{◌≡◌, ◌≤◌, ℕ, List, [], ◌∷◌, ◌++◌, length, Option, None, Some}
 use Rattle.std.specs.List.{flat_map, AllByRecursion}
-use Rattle.ots_bitcoin.specs.DoubleSha256.{double_sha256}
+use Rattle.ots_headers.specs.DoubleSha256.{double_sha256}
 use Rattle.ots_block.specs.declared.limits.TheConstants.{MAX_COMPACT}
 use Rattle.ots_block.specs.Compact.{compact}
 
@@ -17,7 +17,8 @@ pub record Output : Type 0 where
   pub value : List ℕ
   pub script : List ℕ
 
--- The fields as bytes, in the order in which they stand. A witness, where there is one, has a list of items for each input.
+-- The fields as bytes, in the order in which they stand. A witness, where there is one, has a list of items for each
+-- input.
 pub record Transaction : Type 0 where
   pub version : List ℕ
   pub inputs : List Input
@@ -27,11 +28,11 @@ pub record Transaction : Type 0 where
 
 -- ---- the bytes
 
--- bytes behind their number
+-- bytes after their number
 abbrev pub sized : List ℕ → List ℕ
 sized bytes = compact (length bytes) ++ bytes
 
--- things behind their number, each with these bytes
+-- things after their number, each with these bytes
 abbrev pub counted : {A : Type 0} → (A → List ℕ) → List A → List ℕ
 counted bytes things = compact (length things) ++ flat_map bytes things
 

@@ -1,7 +1,7 @@
 //! A block.
 ghost use Rattle.std.specs.Prelude.{◌≡◌, ◌<◌, ◌≤◌, ◌^◌, ℕ, [], Ok, Err, IfOk, IfErr, length, slice_index_or};
 ghost use Rattle.ots_base.specs.Memory.{UnlessOutOfMemory};
-ghost use Rattle.ots_bitcoin.specs.Header.{header_in};
+ghost use Rattle.ots_headers.specs.Header.{header_in};
 ghost use Rattle.ots_block.specs.Block.{Contents, IsBlock, stripped_forms, txids};
 ghost use Rattle.ots_block.specs.BlockRead.{read_block, HasFault, IsBlockError};
 ghost use Rattle.ots_block.specs.Ends.{stripped_in, AreWithin};
@@ -11,7 +11,7 @@ use crate::fault::BlockError;
 use crate::places::Places;
 use crate::transactions::read_places;
 use ots_base::OutOfMemory;
-use ots_bitcoin::{Header, double_sha256};
+use ots_headers::{Header, double_sha256};
 use std::alloc::Global;
 use std::marker::Model;
 
@@ -45,8 +45,10 @@ impl Block {
     pub fn read(alloc: Global, bytes: &[u8]) -> Result<Block, BlockError>
         ensures ok { IfOk result (λ block. IsBlock bytes.now block) }
         ensures err { IfErr result (λ e. IsBlockError bytes.now e) }
-        ensures accepts { (block : Contents) → IsBlock bytes.now block → UnlessOutOfMemory BlockError.OutOfMemory result (Ok block) }
-        ensures refuses { (place : ℕ) (why : BlockReason) → HasFault bytes.now place why → UnlessOutOfMemory BlockError.OutOfMemory result (Err (BlockError.BadBlock place why)) }
+        ensures accepts { (block : Contents) → IsBlock bytes.now block
+            → UnlessOutOfMemory BlockError.OutOfMemory result (Ok block) }
+        ensures refuses { (place : ℕ) (why : BlockReason) → HasFault bytes.now place why
+            → UnlessOutOfMemory BlockError.OutOfMemory result (Err (BlockError.BadBlock place why)) }
     {
         keep(alloc, bytes)
     }
@@ -95,7 +97,7 @@ fn keep(alloc: Global, bytes: &[u8]) -> Result<Block, BlockError>
     Ok(Block { bytes, places })
 }
 
-/// The header at the front of the bytes.
+/// The header at the start of the bytes.
 fn header_from(bytes: &[u8]) -> Header
     requires { 80 ≤ length bytes.now }
     ensures { result ≡ header_in bytes.now }

@@ -15,7 +15,7 @@ pub enum BlockReason {
     NonMinimal,
     /// Such a number is above `MAX_COMPACT`. The place is its first byte.
     TooLarge,
-    /// The byte behind a marker is not `01`. The place is that byte.
+    /// The byte after a marker is not `01`. The place is that byte.
     BadFlag,
     /// There are 0 transactions. The place is the first byte of their number.
     NoTransaction,

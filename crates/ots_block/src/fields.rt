@@ -1,6 +1,7 @@
 //! Where the fields of a transaction end.
 ghost use Rattle.ots_block.specs.Reading.{compact_at, marker_at, flag_at};
-ghost use Rattle.ots_block.specs.Ends.{run_end, sized_end, many_end, counted_end, input_end, output_end, stack_end, witness_end, laid_at};
+ghost use Rattle.ots_block.specs.Ends.{run_end, sized_end, many_end, counted_end, input_end, output_end, stack_end};
+ghost use Rattle.ots_block.specs.Ends.{witness_end, laid_at};
 ghost use Rattle.ots_block.specs.Given.{Gives};
 
 use crate::compact::read_compact;
@@ -8,7 +9,7 @@ use crate::fault::BlockReason;
 use crate::places::Places;
 use crate::stop::Stop;
 
-/// The bytes behind a run of so many.
+/// The bytes after a run of so many.
 pub(crate) fn skip_run(bytes: &[u8], count: usize) -> Result<&[u8], Stop>
     ensures { Gives (λ x. x.now) result (run_end count bytes.now) }
 {
@@ -18,7 +19,7 @@ pub(crate) fn skip_run(bytes: &[u8], count: usize) -> Result<&[u8], Stop>
     Ok(&bytes[count..])
 }
 
-/// The bytes behind a run of bytes and its length.
+/// The bytes after a run of bytes and its length.
 #[tactic(auto, unfolding(crate::specs::Ends::sized_end))]
 fn skip_sized(bytes: &[u8]) -> Result<&[u8], Stop>
     ensures { Gives (λ x. x.now) result (sized_end bytes.now) }
@@ -27,7 +28,7 @@ fn skip_sized(bytes: &[u8]) -> Result<&[u8], Stop>
     skip_run(rest, count)
 }
 
-/// The bytes behind an input: which output it spends, its script, and its sequence number.
+/// The bytes after an input: which output it spends, its script, and its sequence number.
 #[tactic(auto, unfolding(crate::specs::Ends::input_end))]
 fn skip_input(bytes: &[u8]) -> Result<&[u8], Stop>
     ensures { Gives (λ x. x.now) result (input_end bytes.now) }
@@ -37,7 +38,7 @@ fn skip_input(bytes: &[u8]) -> Result<&[u8], Stop>
     skip_run(rest, 4)
 }
 
-/// The bytes behind an output: its value and its script.
+/// The bytes after an output: its value and its script.
 #[tactic(auto, unfolding(crate::specs::Ends::output_end))]
 fn skip_output(bytes: &[u8]) -> Result<&[u8], Stop>
     ensures { Gives (λ x. x.now) result (output_end bytes.now) }
@@ -46,7 +47,7 @@ fn skip_output(bytes: &[u8]) -> Result<&[u8], Stop>
     skip_sized(rest)
 }
 
-/// The bytes behind so many inputs.
+/// The bytes after so many inputs.
 fn skip_inputs(bytes: &[u8], count: usize) -> Result<&[u8], Stop>
     ensures { Gives (λ x. x.now) result (many_end input_end count bytes.now) }
 {
@@ -57,7 +58,7 @@ fn skip_inputs(bytes: &[u8], count: usize) -> Result<&[u8], Stop>
     Ok(rest)
 }
 
-/// The number of inputs, and the bytes behind them.
+/// The number of inputs, and the bytes after them.
 #[tactic(auto, unfolding(crate::specs::Ends::counted_end))]
 fn read_inputs(bytes: &[u8]) -> Result<(usize, &[u8]), Stop>
     ensures { Gives (λ x. (x.0, x.1.now)) result (counted_end input_end bytes.now) }
@@ -67,7 +68,7 @@ fn read_inputs(bytes: &[u8]) -> Result<(usize, &[u8]), Stop>
     Ok((count, rest))
 }
 
-/// The bytes behind so many outputs.
+/// The bytes after so many outputs.
 fn skip_outputs(bytes: &[u8], count: usize) -> Result<&[u8], Stop>
     ensures { Gives (λ x. x.now) result (many_end output_end count bytes.now) }
 {
@@ -78,7 +79,7 @@ fn skip_outputs(bytes: &[u8], count: usize) -> Result<&[u8], Stop>
     Ok(rest)
 }
 
-/// The number of outputs, and the bytes behind them.
+/// The number of outputs, and the bytes after them.
 #[tactic(auto, unfolding(crate::specs::Ends::counted_end))]
 fn read_outputs(bytes: &[u8]) -> Result<(usize, &[u8]), Stop>
     ensures { Gives (λ x. (x.0, x.1.now)) result (counted_end output_end bytes.now) }
@@ -88,7 +89,7 @@ fn read_outputs(bytes: &[u8]) -> Result<(usize, &[u8]), Stop>
     Ok((count, rest))
 }
 
-/// The bytes behind so many items of a witness.
+/// The bytes after so many items of a witness.
 fn skip_items(bytes: &[u8], count: usize) -> Result<&[u8], Stop>
     ensures { Gives (λ x. x.now) result (many_end sized_end count bytes.now) }
 {
@@ -99,7 +100,7 @@ fn skip_items(bytes: &[u8], count: usize) -> Result<&[u8], Stop>
     Ok(rest)
 }
 
-/// The bytes behind an input's items of a witness and their number.
+/// The bytes after an input's items of a witness and their number.
 #[tactic(auto, unfolding(crate::specs::Ends::stack_end))]
 fn skip_stack(bytes: &[u8]) -> Result<&[u8], Stop>
     ensures { Gives (λ x. x.now) result (stack_end bytes.now) }
@@ -108,7 +109,7 @@ fn skip_stack(bytes: &[u8]) -> Result<&[u8], Stop>
     skip_items(rest, count)
 }
 
-/// The bytes behind the items of so many inputs.
+/// The bytes after the items of so many inputs.
 fn skip_stacks(bytes: &[u8], count: usize) -> Result<&[u8], Stop>
     ensures { Gives (λ x. x.now) result (many_end stack_end count bytes.now) }
 {
@@ -119,7 +120,7 @@ fn skip_stacks(bytes: &[u8], count: usize) -> Result<&[u8], Stop>
     Ok(rest)
 }
 
-/// The bytes behind the witness of so many inputs, where there is one.
+/// The bytes after the witness of so many inputs, where there is one.
 #[tactic(auto, unfolding(crate::specs::Ends::witness_end))]
 fn skip_witness(marked: bool, inputs: usize, bytes: &[u8]) -> Result<&[u8], Stop>
     ensures { Gives (λ x. x.now) result (witness_end marked inputs bytes.now) }
@@ -131,30 +132,30 @@ fn skip_witness(marked: bool, inputs: usize, bytes: &[u8]) -> Result<&[u8], Stop
     }
 }
 
-/// Whether the bytes begin with a marker and a flag, and the bytes behind them.
+/// Whether the bytes begin with a marker and a flag, and the bytes after them.
 #[tactic(auto, unfolding(crate::specs::Reading::marker_at))]
 fn read_marker(bytes: &[u8]) -> Result<(bool, &[u8]), Stop>
     ensures { Gives (λ x. (x.0, x.1.now)) result (marker_at bytes.now) }
 {
     match bytes {
-        [0, behind @ ..] => read_flag(behind),
+        [0, after @ ..] => read_flag(after),
         _ => Ok((false, bytes)),
     }
 }
 
-/// The flag behind a marker, and the bytes behind it.
+/// The flag after a marker, and the bytes after it.
 #[tactic(auto, unfolding(crate::specs::Reading::flag_at))]
 fn read_flag(bytes: &[u8]) -> Result<(bool, &[u8]), Stop>
     ensures { Gives (λ x. (x.0, x.1.now)) result (flag_at bytes.now) }
 {
     match bytes {
         [] => Err(Stop::at(bytes, BlockReason::Truncated)),
-        [1, behind @ ..] => Ok((true, behind)),
+        [1, after @ ..] => Ok((true, after)),
         _ => Err(Stop::at(bytes, BlockReason::BadFlag)),
     }
 }
 
-/// The places of the transaction at the front of the bytes, and the bytes behind it.
+/// The places of the transaction at the start of the bytes, and the bytes after it.
 #[tactic(auto, unfolding(crate::specs::Ends::laid_at))]
 pub(crate) fn read_transaction(bytes: &[u8]) -> Result<(Places, &[u8]), Stop>
     ensures { Gives (λ x. (x.0, x.1.now)) result (laid_at bytes.now) }
@@ -164,12 +165,12 @@ pub(crate) fn read_transaction(bytes: &[u8]) -> Result<(Places, &[u8]), Stop>
     let (inputs, rest) = read_inputs(body)?;
     let (_, witness) = read_outputs(rest)?;
     let lock_time = skip_witness(marked, inputs, witness)?;
-    let behind = skip_run(lock_time, 4)?;
+    let after = skip_run(lock_time, 4)?;
     let places = Places {
         start: bytes.len(),
         body: body.len(),
         witness: witness.len(),
         lock_time: lock_time.len(),
     };
-    Ok((places, behind))
+    Ok((places, after))
 }

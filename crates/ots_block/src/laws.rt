@@ -12,7 +12,8 @@ use crate::limits::MAX_COMPACT;
 /// Bytes are exactly one block or have exactly one fault, and never both.
 pub fn block_or_fault()
     ensures either { (bytes : List ℕ) → AllByRecursion (λ b. b < 256) bytes → HasOneBlock bytes ⊎ HasOneFault bytes }
-    ensures never_both { (bytes : List ℕ) (block : Contents) (place : ℕ) (why : BlockReason) → IsBlock bytes block → HasFault bytes place why → ⊥ }
+    ensures never_both { (bytes : List ℕ) (block : Contents) (place : ℕ) (why : BlockReason) → IsBlock bytes block
+        → HasFault bytes place why → ⊥ }
 {}
 
 /// The place of a fault lies within the bytes, or at their end.
@@ -22,5 +23,6 @@ pub fn fault_within()
 
 /// A number that may stand in a block has one form, which begins no other's.
 pub fn one_form()
-    ensures { (m n : ℕ) (x y : List ℕ) → m ≤ MAX_COMPACT → n ≤ MAX_COMPACT → compact m ++ x ≡ compact n ++ y → (m ≡ n) × (x ≡ y) }
+    ensures { (m n : ℕ) (x y : List ℕ) → m ≤ MAX_COMPACT → n ≤ MAX_COMPACT → compact m ++ x ≡ compact n ++ y
+        → (m ≡ n) × (x ≡ y) }
 {}

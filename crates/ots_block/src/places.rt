@@ -7,7 +7,7 @@ pub(crate) struct Places {
     pub start: usize,
     /// The first byte of the number of its inputs.
     pub body: usize,
-    /// The first byte behind its outputs, where its witness begins, if it has one.
+    /// The first byte after its outputs, where its witness begins, if it has one.
     pub witness: usize,
     /// The first byte of its lock time.
     pub lock_time: usize,

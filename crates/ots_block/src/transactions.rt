@@ -1,7 +1,7 @@
 //! Where the transactions of a block lie.
 ghost use Rattle.std.specs.Prelude.{length};
 ghost use Rattle.ots_block.specs.Reading.{many_at, count_at};
-ghost use Rattle.ots_block.specs.Ends.{laid_at, header_end, front_at, kept_at};
+ghost use Rattle.ots_block.specs.Ends.{laid_at, header_end, prefix_at, kept_at};
 ghost use Rattle.ots_block.specs.Given.{Gives, GivesIn};
 
 use crate::compact::read_compact;
@@ -17,8 +17,8 @@ pub(crate) fn read_places(alloc: Global, bytes: &[u8]) -> Result<Vec<Places>, Bl
     ensures { GivesIn (length bytes.now) (λ all. all.items) result (kept_at bytes.now) }
 {
     let total = bytes.len();
-    let (count, rest) = match read_front(bytes) {
-        Ok(front) => front,
+    let (count, rest) = match read_prefix(bytes) {
+        Ok(prefix) => prefix,
         Err(stop) => return Err(stop.in_block(total)),
     };
     let (all, rest) = read_transactions(alloc, total, count, rest)?;
@@ -28,16 +28,16 @@ pub(crate) fn read_places(alloc: Global, bytes: &[u8]) -> Result<Vec<Places>, Bl
     }
 }
 
-/// The number of transactions, and the bytes behind it.
-#[tactic(auto, unfolding(crate::specs::Ends::front_at))]
-fn read_front(bytes: &[u8]) -> Result<(usize, &[u8]), Stop>
-    ensures { Gives (λ x. (x.0, x.1.now)) result (front_at bytes.now) }
+/// The number of transactions, and the bytes after it.
+#[tactic(auto, unfolding(crate::specs::Ends::prefix_at))]
+fn read_prefix(bytes: &[u8]) -> Result<(usize, &[u8]), Stop>
+    ensures { Gives (λ x. (x.0, x.1.now)) result (prefix_at bytes.now) }
 {
     let rest = skip_header(bytes)?;
     read_count(rest)
 }
 
-/// The bytes behind the six fields of a header.
+/// The bytes after the six fields of a header.
 #[tactic(auto, unfolding(crate::specs::Ends::header_end))]
 fn skip_header(bytes: &[u8]) -> Result<&[u8], Stop>
     ensures { Gives (λ x. x.now) result (header_end bytes.now) }
@@ -50,7 +50,7 @@ fn skip_header(bytes: &[u8]) -> Result<&[u8], Stop>
     skip_run(rest, 4)
 }
 
-/// The number of transactions at the front of the bytes, and those behind it.
+/// The number of transactions at the start of the bytes, and those after it.
 #[tactic(auto, unfolding(crate::specs::Reading::count_at))]
 fn read_count(bytes: &[u8]) -> Result<(usize, &[u8]), Stop>
     ensures { Gives (λ x. (x.0, x.1.now)) result (count_at bytes.now) }
@@ -62,8 +62,8 @@ fn read_count(bytes: &[u8]) -> Result<(usize, &[u8]), Stop>
     Ok((count, rest))
 }
 
-/// The places of so many transactions at the front of these last bytes of a block of `total`, and
-/// the bytes behind them.
+/// The places of so many transactions at the start of these last bytes of a block of `total`, and
+/// the bytes after them.
 fn read_transactions(
     alloc: Global,
     total: usize,
@@ -75,12 +75,12 @@ fn read_transactions(
     let mut all = Vec::new(alloc);
     let mut rest = bytes;
     for _ in 0..count {
-        let (places, behind) = match read_transaction(rest) {
+        let (places, after) = match read_transaction(rest) {
             Ok(found) => found,
             Err(stop) => return Err(stop.in_block(total)),
         };
         all.push(places)?;
-        rest = behind;
+        rest = after;
     }
     Ok((all, rest))
 }

@@ -6,7 +6,8 @@ use Rattle.std.proofs.lemmas.Option.{get_or_from_slice_get, slice_get_within, sl
 use Rattle.std.specs.Prelude.{Some, slice_get, Result, Ok, Err, IfOk, OnOk}
 use Rattle.std.specs.List.{AllByRecursion, filter}
 use Rattle.memchr.specs.Find.{OccursAt}
-use Rattle.ots_bitcoin.specs.DoubleSha256.{double_sha256}
+use Rattle.ots_base.specs.declared.limits.TheConstants.{MAX_MESSAGE}
+use Rattle.ots_headers.specs.DoubleSha256.{double_sha256}
 use Rattle.ots_anchor.specs.declared.search.Found.{Found}
 use Rattle.ots_anchor.specs.Find.{form_of, root_of, IsFound}
 use Rattle.ots_anchor.specs.Path.{hashed}
@@ -168,7 +169,7 @@ module _ (records : List Record) (entries : List Entry) (block : Contents) (heig
         count = fits.has.count;
         height = high;
         root = long;
-        message = let m : length (take finds.found.place form) + length (drop (finds.found.place + 32) form) + 32 ≤ 4096 =
+        message = let m : length (take finds.found.place form) + length (drop (finds.found.place + 32) form) + 32 ≤ MAX_MESSAGE =
             omega (arith, within, short, length-take-le finds.found.place form (omega (arith, within)), length-drop (finds.found.place + 32) form) in m;
         steps = branch_is_short (txids block) finds.found.transaction (omega arith);
         hashes = branch_hashes (txids block) finds.found.transaction (ids_hashes block) inside;
@@ -177,9 +178,9 @@ module _ (records : List Record) (entries : List Entry) (block : Contents) (heig
   is_right : IsTrueAnchor (commits_of records) made
   is_right =
       let before : List ℕ = take finds.found.place form in
-      let behind : List ℕ = drop (finds.found.place + 32) form in
-      let whole : form ≡ (before ++ root (hashed (span tip.first tip.count (commits_of records)))) ++ behind =
-      around form tip.root finds.found.place 32 fits.has.root occurs ∙ ap (λ (l : List ℕ). (before ++ l) ++ behind) right.has in
+      let after : List ℕ = drop (finds.found.place + 32) form in
+      let whole : form ≡ (before ++ root (hashed (span tip.first tip.count (commits_of records)))) ++ after =
+      around form tip.root finds.found.place 32 fits.has.root occurs ∙ ap (λ (l : List ℕ). (before ++ l) ++ after) right.has in
       good ∙ sym (branch_leads (txids block) finds.found.transaction inside)
       ∙ ap (climbed (block_branch (txids block) finds.found.transaction)) (id_at block.transactions finds.found.transaction finds.is_found.short.inside ∙ ap double_sha256 whole)
 

@@ -7,7 +7,8 @@ use Rattle.std.specs.Int.{w32, to_be_bytes}
 use Rattle.std.specs.List.{AllByRecursion}
 use Rattle.sha2.specs.Sha256.{sha256}
 use Rattle.sha2.proofs.Facts256.{length-sha256}
-use Rattle.ots_anchor.specs.Path.{hashed, before, behind, twice, climb, complete_path, AreSteps}
+use Rattle.ots_base.specs.declared.limits.TheConstants.{MAX_ARGUMENT}
+use Rattle.ots_anchor.specs.Path.{hashed, before, after, twice, climb, complete_path, AreSteps}
 use Rattle.ots_attest.specs.Attestation.{payload, spell as spell_attestation}
 use Rattle.ots_attest.specs.Uri.{IsUri}
 use Rattle.ots_attest.specs.declared.attestation.Attestation.{Attestation}
@@ -56,10 +57,10 @@ lone_size : (ops : List Op) (a : Attestation) → length (spelled (pre (lone ops
 lone_size [] a = omega (arith, length-append (spell_attestation a) [])
 lone_size (o ∷ ops) a = omega (arith, length-append (spell_op o) (spelled (pre (lone ops a))), lone_size ops a)
 
-append_size : (bytes : List ℕ) → length bytes ≤ 4096 → length (spell_op (Append bytes)) ≤ 3 + length bytes
+append_size : (bytes : List ℕ) → length bytes ≤ MAX_ARGUMENT → length (spell_op (Append bytes)) ≤ 3 + length bytes
 append_size bytes few = omega (arith, varbytes_length bytes, varuint_at_most_two (length bytes) (omega arith))
 
-prepend_size : (bytes : List ℕ) → length bytes ≤ 4096 → length (spell_op (Prepend bytes)) ≤ 3 + length bytes
+prepend_size : (bytes : List ℕ) → length bytes ≤ MAX_ARGUMENT → length (spell_op (Prepend bytes)) ≤ 3 + length bytes
 prepend_size bytes few = omega (arith, varbytes_length bytes, varuint_at_most_two (length bytes) (omega arith))
 
 -- ---- up a tree of hashes
@@ -144,13 +145,13 @@ branch_size : (branch : List (Side × List ℕ)) → AreSteps branch → size (c
 branch_size [] are = omega arith
 branch_size (step ∷ steps) are = omega (arith, beside_size step steps are.0, branch_size steps are.1)
 
-before_size : (bytes : List ℕ) → length bytes ≤ 4096 → size (before bytes) ≤ 3 + length bytes
+before_size : (bytes : List ℕ) → length bytes ≤ MAX_ARGUMENT → size (before bytes) ≤ 3 + length bytes
 before_size [] few = omega arith
 before_size (b ∷ bytes) few = omega (arith, prepend_size (b ∷ bytes) few)
 
-behind_size : (bytes : List ℕ) → length bytes ≤ 4096 → size (behind bytes) ≤ 3 + length bytes
-behind_size [] few = omega arith
-behind_size (b ∷ bytes) few = omega (arith, append_size (b ∷ bytes) few)
+after_size : (bytes : List ℕ) → length bytes ≤ MAX_ARGUMENT → size (after bytes) ≤ 3 + length bytes
+after_size [] few = omega arith
+after_size (b ∷ bytes) few = omega (arith, append_size (b ∷ bytes) few)
 
 complete_size : (commits : List (List ℕ)) (i : ℕ) (a : Anchor) → length commits ≤ 2 ^ 32 → FitsAnchor a → size (complete_path commits i a.prefix a.suffix a.branch) ≤ 6500
 unfolding complete_path
@@ -161,12 +162,12 @@ complete_size commits i a few fits =
       fits.message,
       fits.steps,
       path_size 32 (hashed commits) i (sha_shorts (λ c. c) commits) (omega (arith, length-map commits sha256)),
-      size_more (path (hashed commits) i) (before a.prefix ++ (behind a.suffix ++ rest)),
-      size_more (before a.prefix) (behind a.suffix ++ rest),
-      size_more (behind a.suffix) rest,
+      size_more (path (hashed commits) i) (before a.prefix ++ (after a.suffix ++ rest)),
+      size_more (before a.prefix) (after a.suffix ++ rest),
+      size_more (after a.suffix) rest,
       size_more twice (climb a.branch),
       before_size a.prefix (omega (arith, fits.message)),
-      behind_size a.suffix (omega (arith, fits.message)),
+      after_size a.suffix (omega (arith, fits.message)),
       branch_size a.branch fits.hashes,
     )
 

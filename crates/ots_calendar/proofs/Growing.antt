@@ -1,4 +1,4 @@
--- A call that may write adds records behind those that it found.
+-- A call that may write adds records after those that it found.
 use Rattle.std.proofs.Common.{◌≡◌, inl, inr, ℕ, Bool, true, false, List, [], ◌++◌, refl, sym, ap, ◌∙◌, append_assoc}
 use Rattle.std.proofs.lemmas.List.{append-nil}
 use Rattle.std.specs.Prelude.{Option, Result, Ok, Err}
@@ -28,7 +28,7 @@ room_grows old new room = record { limit = ap (λ (j : JournalTold _). j.limit) 
 in_room : {D : Type 0} (old new : JournalTold D) (spare_entries spare_bytes : ℕ) → Grows (with_room old spare_entries spare_bytes) new → Grows old new
 in_room old new spare_entries spare_bytes grows = record { limit = grows.limit; more = grows.more; entries = grows.entries }
 
--- one call behind the other
+-- one call after the other
 pub onward : {D : Type 0} (old mid new : JournalTold D) → Grows old mid → Grows mid new → Grows old new
 onward old mid new one two = record {
   limit = two.limit ∙ one.limit;

@@ -179,7 +179,7 @@ anchor_records records entries a same are fits follows =
     records_push [] entries (entry_of (AnchorRecord a)) are (is_record (AnchorRecord a) fits)
     (subst (Follows (records_of entries)) (sym (record_read (AnchorRecord a) fits)) (subst (λ (l : List Record). FollowsAnchor l a) same follows))
 
--- ---- a commitment more, behind a refresh
+-- ---- a commitment more, after a refresh
 
 found_at : {D : Type 0} (bytes : D → Option (List ℕ)) (images : D → List ℕ → Type 0) (s : StoreTold D) (mid : JournalTold D) (spare_entries spare_bytes : ℕ) (b : Bool) → StoreStands bytes images s → s.journal.is_sure ≡ b
     → Refreshed bytes (with_room s.journal spare_entries spare_bytes) mid → InRecords mid.entries

@@ -1,5 +1,5 @@
 pub mod Growing
-mod WholeWay
+pub mod WholeWay
 mod Closing
 mod AnchoringIn
 mod Anchored

@@ -107,9 +107,9 @@ covers_not c a ends = rw (le-ltb c (anchor_end a) ends) (never (nat_le a.first c
     never true = refl
     never false = refl
 
-find_behind : (c : ℕ) (anchors : List Anchor) (a : Anchor) (rest : List Anchor) → covered_by anchors ≤ c → covers c a ≡ true → find (covers c) (anchors ++ a ∷ rest) ≡ Some a
-find_behind c [] a rest less is = rw is refl
-find_behind c (x ∷ anchors) a rest less is = rw (covers_not c x (omega arith)) (find_behind c anchors a rest (omega arith) is)
+find_after : (c : ℕ) (anchors : List Anchor) (a : Anchor) (rest : List Anchor) → covered_by anchors ≤ c → covers c a ≡ true → find (covers c) (anchors ++ a ∷ rest) ≡ Some a
+find_after c [] a rest less is = rw is refl
+find_after c (x ∷ anchors) a rest less is = rw (covers_not c x (omega arith)) (find_after c anchors a rest (omega arith) is)
 
 pub anchor_there : (records : List Record) (i : ℕ) (a : Anchor) → InOrder [] records → slice_get records i ≡ Some (AnchorRecord a) → find (covers (covered_of (take i records))) (anchors_of records) ≡ Some a
 anchor_there records i a order is =
@@ -120,7 +120,7 @@ anchor_there records i a order is =
     let o : Orderly before = orderly_at records i (AnchorRecord a) order is in
     let s = span_within (covered_of before) (length (commits_of before)) a.first a.count (tips_of before) o.tips f.tip in
     let here : covers (covered_of before) a ≡ true = rw (le-leb a.first (covered_of before) s.0, lt-ltb (covered_of before) (anchor_end a) f.past) refl in
-    ap (find (covers (covered_of before))) all ∙ find_behind (covered_of before) (anchors_of before) a (anchors_of rest) (omega arith) here
+    ap (find (covers (covered_of before))) all ∙ find_after (covered_of before) (anchors_of before) a (anchors_of rest) (omega arith) here
 
 -- ---- what is found there
 

@@ -10,7 +10,7 @@ use Rattle.ots_tickets.specs.Tickets.{TicketsTold, IsNew, IsSettled, NoneIs, Wai
 use Rattle.ots_calendar.specs.Book.{IsGone, IsTaken}
 use Rattle.ots_calendar.proofs.Standing.{all_one}
 
--- what stands behind all others, and is none of them
+-- what stands after all others, and is none of them
 last_only : (ws before after : List Ticket) (t : Ticket) → AllByRecursion (λ (x : Ticket). x.number ≢ t.number) ws → ws ++ t ∷ [] ≡ before ++ t ∷ after → before ++ after ≡ ws
 last_only [] [] after t new same = let none : [] ≡ after = cc in sym none
 last_only [] (b ∷ before) after t new same = absurd (omega (arith, ap length same, length-append before (t ∷ after)))

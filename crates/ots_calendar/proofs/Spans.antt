@@ -6,7 +6,7 @@ use Rattle.ots_anchor.specs.Path.{hashed}
 use Rattle.ots_calendar.specs.Tree.{TreeTold, IsOver}
 use Rattle.ots_calendar.specs.Values.{span}
 
--- commitments behind a span do not change it
+-- commitments after a span do not change it
 pub span_more : (first count : ℕ) (xs ys : List (List ℕ)) → first + count ≤ length xs → span first count (xs ++ ys) ≡ span first count xs
 span_more first count xs ys within =
     ap (take count) (drop-append-le first xs ys (omega arith)) ∙ take-append-le count (drop first xs) ys (omega (arith, length-drop first xs))

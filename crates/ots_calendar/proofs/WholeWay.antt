@@ -8,7 +8,7 @@ use Rattle.std.specs.Option.{option_map}
 use Rattle.std.specs.Str.{bytes_eq}
 use Rattle.sha2.specs.Sha256.{sha256}
 use Rattle.sha2.proofs.Facts256.{length-sha256}
-use Rattle.ots_anchor.specs.Path.{hashed, before, behind, twice, climb, complete_path}
+use Rattle.ots_anchor.specs.Path.{hashed, before, after, twice, climb, complete_path}
 use Rattle.ots_anchor.proofs.Paths.{leads}
 use Rattle.ots_journal.specs.declared.entry.Entry.{Entry}
 use Rattle.ots_merkle.specs.Hashes.{AreHashes}
@@ -171,9 +171,9 @@ before_few : (bytes : List ℕ) → length (before bytes) ≤ 1
 before_few [] = omega arith
 before_few (b ∷ bytes) = omega arith
 
-behind_few : (bytes : List ℕ) → length (behind bytes) ≤ 1
-behind_few [] = omega arith
-behind_few (b ∷ bytes) = omega arith
+after_few : (bytes : List ℕ) → length (after bytes) ≤ 1
+after_few [] = omega arith
+after_few (b ∷ bytes) = omega arith
 
 climb_long : (branch : List (Side × List ℕ)) → length (climb branch) ≡ 3 * length branch
 climb_long [] = refl
@@ -183,16 +183,16 @@ complete_few : (commits : List (List ℕ)) (i : ℕ) (prefix suffix : List ℕ) 
 unfolding complete_path
 complete_few commits i prefix suffix branch few short =
     let up = path_short 32 (hashed commits) i (let n : length (hashed commits) ≤ 2 ^ 32 = omega (arith, length-map commits sha256) in n) in
-    let last = before prefix ++ (behind suffix ++ (twice ++ climb branch)) in
+    let last = before prefix ++ (after suffix ++ (twice ++ climb branch)) in
     omega (
       arith,
       up,
       length-append (path (hashed commits) i) last,
-      length-append (before prefix) (behind suffix ++ (twice ++ climb branch)),
-      length-append (behind suffix) (twice ++ climb branch),
+      length-append (before prefix) (after suffix ++ (twice ++ climb branch)),
+      length-append (after suffix) (twice ++ climb branch),
       length-append twice (climb branch),
       before_few prefix,
-      behind_few suffix,
+      after_few suffix,
       climb_long branch,
     )
 

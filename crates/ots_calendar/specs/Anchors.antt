@@ -1,5 +1,6 @@
 -- What anchoring a tip in a block does.
-use Rattle.std.specs.Prelude.{◌≡◌, ◌≢◌, ◌⊎◌, ℕ, ◌+◌, List, [], ◌∷◌, map, take, drop, nat_lt, slice_get, Bool, Option, Some, Result, Ok, Err}
+use Rattle.std.specs.Prelude.{◌≡◌, ◌≢◌, ◌⊎◌, ℕ, ◌+◌, List, [], ◌∷◌, map, take, drop, nat_lt, slice_get, Bool, Option}
+use Rattle.std.specs.Prelude.{Some, Result, Ok, Err}
 use Rattle.std.specs.List.{filter}
 use Rattle.ots_journal.specs.declared.errors.AppendError.{AppendError}
 use Rattle.ots_journal.specs.declared.errors.AppendError.TheVariants as append
@@ -16,7 +17,8 @@ use Rattle.ots_store.specs.Order.{commits_of, tips_of, covered_of, tip_end, reco
 use Rattle.ots_store.specs.Records.{Record, AnchorRecord, entry_of, FitsAnchor}
 use Rattle.ots_store.specs.Store.{Added}
 use Rattle.ots_calendar.specs.declared.errors.AnchorError.{AnchorError}
-use Rattle.ots_calendar.specs.declared.errors.AnchorError.TheVariants.{BadRoot, NoTip, TransactionTooLong, DiskFault, Full, OutOfMemory}
+use Rattle.ots_calendar.specs.declared.errors.AnchorError.TheVariants.{BadRoot, NoTip, TransactionTooLong, DiskFault}
+use Rattle.ots_calendar.specs.declared.errors.AnchorError.TheVariants.{Full, OutOfMemory}
 use Rattle.ots_calendar.specs.Book.{GoesOn, Stops}
 use Rattle.ots_calendar.specs.Values.{IsTrueAnchor}
 
@@ -50,7 +52,7 @@ pub record FindsAnchor (records : List Record) (block : Contents) (height : ℕ)
   pub tip_is : slice_get (open_tips records) found.which ≡ Some tip
   pub anchor_is : anchor ≡ anchor_of block height tip found
 
--- It may be stored behind these records: it follows them, has its form, and its root is right.
+-- It may be stored after these records: it follows them, has its form, and its root is right.
 pub record MayStand (records : List Record) (anchor : Anchor) : Type 0 where
   pub follows : FollowsAnchor records anchor
   pub fits : FitsAnchor anchor
@@ -78,7 +80,8 @@ anchor_answer anchor (Ok _) = Ok anchor
 anchor_answer anchor (Err why) = Err (anchor_error why)
 
 -- The anchor that is found is answered, once it is stored.
-pub record GivesAnchor {D : Type 0} (clock : D → ℕ) (images_since : D → ℕ → List ℕ → Type 0) (block : Contents) (height : ℕ) (new : JournalTold D) (result : Result Anchor AnchorError) (mid : JournalTold D) : Type 0 where
+pub record GivesAnchor {D : Type 0} (clock : D → ℕ) (images_since : D → ℕ → List ℕ → Type 0) (block : Contents)
+    (height : ℕ) (new : JournalTold D) (result : Result Anchor AnchorError) (mid : JournalTold D) : Type 0 where
   pub anchor : Anchor
   pub finds : FindsAnchor (records_of mid.entries) block height anchor
   pub stored : Result (Unit {0}) AppendError
@@ -86,7 +89,8 @@ pub record GivesAnchor {D : Type 0} (clock : D → ℕ) (images_since : D → �
   pub answer : result ≡ anchor_answer anchor stored
 
 -- No anchor is found, and nothing is stored.
-pub record GivesNone {D : Type 0} (block : Contents) (new : JournalTold D) (result : Result Anchor AnchorError) (mid : JournalTold D) : Type 0 where
+pub record GivesNone {D : Type 0} (block : Contents) (new : JournalTold D) (result : Result Anchor AnchorError)
+    (mid : JournalTold D) : Type 0 where
   pub error : AnchorError
   pub finds : FindsNone (records_of mid.entries) block error
   pub same : new ≡ mid
@@ -98,13 +102,16 @@ pub record HasBadRoot (block : Contents) (error : AnchorError) : Type 0 where
   pub both : error ≡ BadRoot block.header.root (block_root (txids block))
 
 -- The store is refreshed, and then a tip is sought whose root the block holds.
-abbrev pub AnchorsIn : {D : Type 0} → (D → Option (List ℕ)) → (D → ℕ) → (D → ℕ → List ℕ → Type 0) → Contents → ℕ → JournalTold D → JournalTold D → Result Anchor AnchorError → Type 0
+abbrev pub AnchorsIn : {D : Type 0} → (D → Option (List ℕ)) → (D → ℕ) → (D → ℕ → List ℕ → Type 0) → Contents → ℕ
+    → JournalTold D → JournalTold D → Result Anchor AnchorError → Type 0
 AnchorsIn bytes clock images_since block height old new result =
-    GoesOn bytes clock images_since old (λ mid. GivesAnchor clock images_since block height new result mid ⊎ GivesNone block new result mid)
+    GoesOn bytes clock images_since old (λ mid. GivesAnchor clock images_since block height new result mid
+    ⊎ GivesNone block new result mid)
     ⊎ (Stops bytes clock images_since old new × (result ≡ Err DiskFault))
 
 -- The root is bad, or memory ran out, and all is as before.
-pub record AnchorsNothing {D : Type 0} (block : Contents) (old new : JournalTold D) (result : Result Anchor AnchorError) : Type 0 where
+pub record AnchorsNothing {D : Type 0} (block : Contents) (old new : JournalTold D)
+    (result : Result Anchor AnchorError) : Type 0 where
   pub error : AnchorError
   pub why : HasBadRoot block error ⊎ (error ≡ OutOfMemory)
   pub same : new ≡ old
@@ -115,6 +122,8 @@ abbrev pub OnlyRefreshed : {D : Type 0} → (D → Option (List ℕ)) → Journa
 OnlyRefreshed bytes old new = (new ≡ old) ⊎ Refreshed bytes old new
 
 -- The block's root is tested before all else.
-abbrev pub AsksAnchor : {D : Type 0} → (D → Option (List ℕ)) → (D → ℕ) → (D → ℕ → List ℕ → Type 0) → Contents → ℕ → JournalTold D → JournalTold D → Result Anchor AnchorError → Type 0
+abbrev pub AsksAnchor : {D : Type 0} → (D → Option (List ℕ)) → (D → ℕ) → (D → ℕ → List ℕ → Type 0) → Contents → ℕ
+    → JournalTold D → JournalTold D → Result Anchor AnchorError → Type 0
 AsksAnchor bytes clock images_since block height old new result =
-    ((block.header.root ≡ block_root (txids block)) × AnchorsIn bytes clock images_since block height old new result) ⊎ AnchorsNothing block old new result
+    ((block.header.root ≡ block_root (txids block)) × AnchorsIn bytes clock images_since block height old new result)
+    ⊎ AnchorsNothing block old new result

@@ -15,7 +15,8 @@ use Rattle.ots_calendar.specs.Values.{span}
 
 -- from the commitment with this index to the root of the block of an anchor that covers it
 abbrev pub way_in : List (List ℕ) → ℕ → Anchor → List Op
-way_in commits i anchor = complete_path (span anchor.first anchor.count commits) (i - anchor.first) anchor.prefix anchor.suffix anchor.branch
+way_in commits i anchor = complete_path (span anchor.first anchor.count commits) (i - anchor.first) anchor.prefix
+    anchor.suffix anchor.branch
 
 -- by the first anchor that covers its index, where there is one
 abbrev pub answer_at : List (List ℕ) → ℕ → Option Anchor → Answer

@@ -39,9 +39,10 @@ StandsAt commits receipt = slice_get commits receipt.index ≡ Some receipt.comm
 abbrev pub AllStand : List (List ℕ) → List Settled → Type 0
 AllStand commits settled = AllByRecursion (λ (s : Settled). StandsAt commits s.receipt) settled
 
--- What is given for a ticket whose round is closed: the commitment of the receipt stands at its index among those of the
--- records, and the tree leads to it.
-pub record Gives (records : List Record) (ticket : Ticket) (uri : List ℕ) (tree : List Token) (receipt : Receipt) : Type 0 where
+-- What is given for a ticket whose round is closed: the commitment of the receipt stands at its index among those of
+-- the records, and the tree leads to it.
+pub record Gives (records : List Record) (ticket : Ticket) (uri : List ℕ) (tree : List Token)
+    (receipt : Receipt) : Type 0 where
   pub stands : StandsAt (commits_of records) receipt
   pub leads : LeadsTo ticket uri tree receipt
 
@@ -72,7 +73,8 @@ pub record KeepsBook {D : Type 0} (journal : JournalTold D) (tree : TreeTold) (t
 -- ---- calls that may write
 
 -- The call refreshes the journal, and then goes on from what it finds.
-pub record GoesOn {D : Type 0} (bytes : D → Option (List ℕ)) (clock : D → ℕ) (images_since : D → ℕ → List ℕ → Type 0) (old : JournalTold D) (then : JournalTold D → Type 0) : Type 0 where
+pub record GoesOn {D : Type 0} (bytes : D → Option (List ℕ)) (clock : D → ℕ) (images_since : D → ℕ → List ℕ → Type 0)
+    (old : JournalTold D) (then : JournalTold D → Type 0) : Type 0 where
   -- the journal after the refresh
   pub mid : JournalTold D
   pub refreshed : Refreshed bytes old mid
@@ -80,18 +82,21 @@ pub record GoesOn {D : Type 0} (bytes : D → Option (List ℕ)) (clock : D → 
   pub goes_on : then mid
 
 -- The refresh failed, and nothing more was done.
-pub record Stops {D : Type 0} (bytes : D → Option (List ℕ)) (clock : D → ℕ) (images_since : D → ℕ → List ℕ → Type 0) (old new : JournalTold D) : Type 0 where
+pub record Stops {D : Type 0} (bytes : D → Option (List ℕ)) (clock : D → ℕ) (images_since : D → ℕ → List ℕ → Type 0)
+    (old new : JournalTold D) : Type 0 where
   pub unrefreshed : Unrefreshed bytes old new
   pub refreshing : LeavesOnly clock images_since old.disk new.disk (StandsForEither old.entries old.flight)
 
 -- The same in a journal in which room was made for what the call adds.
-pub record GoesOnInRoom {D : Type 0} (bytes : D → Option (List ℕ)) (clock : D → ℕ) (images_since : D → ℕ → List ℕ → Type 0) (old : JournalTold D) (then : JournalTold D → Type 0) : Type 0 where
+pub record GoesOnInRoom {D : Type 0} (bytes : D → Option (List ℕ)) (clock : D → ℕ)
+    (images_since : D → ℕ → List ℕ → Type 0) (old : JournalTold D) (then : JournalTold D → Type 0) : Type 0 where
   -- the room that the journal has at the refresh
   pub spare_entries : ℕ
   pub spare_bytes : ℕ
   pub goes_on : GoesOn bytes clock images_since (with_room old spare_entries spare_bytes) then
 
-pub record StopsInRoom {D : Type 0} (bytes : D → Option (List ℕ)) (clock : D → ℕ) (images_since : D → ℕ → List ℕ → Type 0) (old new : JournalTold D) : Type 0 where
+pub record StopsInRoom {D : Type 0} (bytes : D → Option (List ℕ)) (clock : D → ℕ)
+    (images_since : D → ℕ → List ℕ → Type 0) (old new : JournalTold D) : Type 0 where
   -- the room that the journal has at the refresh
   pub spare_entries : ℕ
   pub spare_bytes : ℕ

@@ -10,7 +10,8 @@ use Rattle.ots_calendar.specs.Book.{BookTold}
 
 -- what becomes of the tickets: all that waited are settled where the commitment is stored, or all wait as before
 abbrev pub RoundLeaves : List ℕ → ℕ → TicketsTold → TicketsTold → Result ℕ AppendError → Type 0
-RoundLeaves key second old new (Ok index) = (new.waiting ≡ []) × (new.settled ≡ old.settled ++ settles key second index old.waiting)
+RoundLeaves key second old new (Ok index) = (new.waiting ≡ [])
+    × (new.settled ≡ old.settled ++ settles key second index old.waiting)
 RoundLeaves key second old new (Err why) = (new.waiting ≡ old.waiting) × (new.settled ≡ old.settled)
 
 -- the answer, by how the commitment was added
@@ -19,10 +20,13 @@ round_answer (Ok index) = Ok (Some index)
 round_answer (Err why) = Err why
 
 -- One commitment over all that wait is added.
-pub record ClosesRound {D : Type 0} (bytes : D → Option (List ℕ)) (clock : D → ℕ) (images_since : D → ℕ → List ℕ → Type 0) (key : List ℕ) (second : ℕ) (old new : BookTold D) (result : Result (Option ℕ) AppendError) : Type 0 where
+pub record ClosesRound {D : Type 0} (bytes : D → Option (List ℕ)) (clock : D → ℕ)
+    (images_since : D → ℕ → List ℕ → Type 0) (key : List ℕ) (second : ℕ) (old new : BookTold D)
+    (result : Result (Option ℕ) AppendError) : Type 0 where
   pub some : 0 < length old.tickets.waiting
   pub added : Result ℕ AppendError
-  pub adds : Adds bytes clock images_since old.store.journal new.store.journal (entry_of (CommitRecord (round_commitment key second old.tickets.waiting)) ∷ []) added
+  pub adds : Adds bytes clock images_since old.store.journal new.store.journal
+      (entry_of (CommitRecord (round_commitment key second old.tickets.waiting)) ∷ []) added
   pub leaves : RoundLeaves key second old.tickets new.tickets added
   pub answer : result ≡ round_answer added
 
@@ -41,5 +45,7 @@ pub record ClosesNothing {D : Type 0} (old new : BookTold D) (result : Result (O
   pub settled : new.tickets.settled ≡ old.tickets.settled
   pub answer : result ≡ Ok None
 
-abbrev pub Closes : {D : Type 0} → (D → Option (List ℕ)) → (D → ℕ) → (D → ℕ → List ℕ → Type 0) → List ℕ → ℕ → BookTold D → BookTold D → Result (Option ℕ) AppendError → Type 0
-Closes bytes clock images_since key second old new result = ClosesRound bytes clock images_since key second old new result ⊎ ClosesNothing old new result ⊎ ClosesNone old new result
+abbrev pub Closes : {D : Type 0} → (D → Option (List ℕ)) → (D → ℕ) → (D → ℕ → List ℕ → Type 0) → List ℕ → ℕ → BookTold D
+    → BookTold D → Result (Option ℕ) AppendError → Type 0
+Closes bytes clock images_since key second old new result = ClosesRound bytes clock images_since key second old new
+    result ⊎ ClosesNothing old new result ⊎ ClosesNone old new result

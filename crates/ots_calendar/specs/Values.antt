@@ -18,7 +18,8 @@ IsTrueTip commits tip = tip.root ≡ root (hashed (span tip.first tip.count comm
 
 -- An anchor's root is what the path from each of its commitments leads to.
 abbrev pub IsTrueAnchor : List (List ℕ) → Anchor → Type 0
-IsTrueAnchor commits anchor = anchor.root ≡ led_to (span anchor.first anchor.count commits) anchor.prefix anchor.suffix anchor.branch
+IsTrueAnchor commits anchor = anchor.root ≡ led_to (span anchor.first anchor.count commits) anchor.prefix anchor.suffix
+    anchor.branch
 
 -- A record's values are right, where these are all commitments.
 abbrev pub IsTrue : List (List ℕ) → Record → Type 0

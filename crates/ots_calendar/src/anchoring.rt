@@ -4,7 +4,8 @@ ghost use Rattle.std.specs.List.{filter};
 ghost use Rattle.ots_anchor.specs.Find.{form_of};
 ghost use Rattle.ots_block.specs.Block.{txids};
 ghost use Rattle.ots_merkle.specs.BlockTree.{block_root};
-ghost use Rattle.ots_calendar.specs.Anchors.{reaches_past, open_tips, roots, anchor_of, FindsAnchor, FindsNone, HasBadRoot};
+ghost use Rattle.ots_calendar.specs.Anchors.{reaches_past, open_tips, roots, anchor_of, FindsAnchor, FindsNone};
+ghost use Rattle.ots_calendar.specs.Anchors.{HasBadRoot};
 ghost use Rattle.ots_calendar.specs.declared.errors.AnchorError.TheVariants as error;
 
 use crate::AnchorError;

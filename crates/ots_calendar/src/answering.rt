@@ -59,7 +59,8 @@ fn complete<D: Disk>(
     anchor: &Anchor,
 ) -> Result<Tree, OutOfMemory>
     requires covers { find (covers i) (anchors_of store.now.records) ≡ Some anchor.now }
-    ensures { IfOk result (λ tree. tree ≡ pre (lone (way_in (commits_of store.now.records) i anchor.now) (Bitcoin anchor.now.height))) }
+    ensures { IfOk result
+        (λ tree. tree ≡ pre (lone (way_in (commits_of store.now.records) i anchor.now) (Bitcoin anchor.now.height))) }
 {
     let (first, end) = bounds(store, i, anchor);
     let ops = complete_path(
@@ -73,7 +74,7 @@ fn complete<D: Disk>(
     single(alloc, ops.items(), Attestation::Bitcoin(anchor.height))
 }
 
-/// The index of the first commitment of an anchor that covers an index, and the one behind its last.
+/// The index of the first commitment of an anchor that covers an index, and the one after its last.
 fn bounds<D: Disk>(store: &Store<D>, i: u64, anchor: &Anchor) -> (usize, usize)
     requires covers { find (covers i) (anchors_of store.now.records) ≡ Some anchor.now }
     ensures first { result.0 ≡ anchor.now.first }

@@ -1,4 +1,5 @@
-ghost use Rattle.std.specs.Prelude.{◌≡◌, ◌⊎◌, ◌<◌, ◌≤◌, ◌^◌, ◌+◌, ◌++◌, ◌∷◌, [], List, ℕ, true, false, length, Some, Err, IsOk, IfOk, IfErr, IsErrOf, IfSome, OnOk, OnErr, MatchOption};
+ghost use Rattle.std.specs.Prelude.{◌≡◌, ◌⊎◌, ◌<◌, ◌≤◌, ◌^◌, ◌+◌, ◌++◌, ◌∷◌, [], List, ℕ, true, false, length, Some};
+ghost use Rattle.std.specs.Prelude.{Err, IsOk, IfOk, IfErr, IsErrOf, IfSome, OnOk, OnErr, MatchOption};
 ghost use Rattle.std.specs.List.{AllByRecursion};
 ghost use Rattle.ots_base.specs.Cause.{HasCause, HasCauseWhere};
 ghost use Rattle.ots_disk.specs.Disk.{LeavesOnly};
@@ -120,7 +121,7 @@ impl<D: Disk> Book<D> {
         let _ = &self.tree;
     }
 
-    /// The place of the closed gate behind the acknowledged entries.
+    /// The place of the closed gate after the acknowledged entries.
     pub fn gate(&self) -> u64
         ensures { result ≡ self.now.store.journal.gate }
     {
@@ -199,16 +200,23 @@ impl<D: Disk> Book<D> {
     /// of the commitment, before it calls the disk: `OutOfMemory` comes only before that.
     pub fn close(&mut self, second: u32, key: &Key) -> Result<Option<u64>, AppendError>
         ensures closes { Closes D.bytes D.clock D.images_since key.now second self.old self.new result }
-        ensures untouched { result ≡ Err AppendError.OutOfMemory → self.new.store.journal.disk ≡ self.old.store.journal.disk }
+        ensures untouched { result ≡ Err AppendError.OutOfMemory
+            → self.new.store.journal.disk ≡ self.old.store.journal.disk }
         ensures grows { Grows self.old.store.journal self.new.store.journal }
         ensures waiting { IfOk result (λ _. self.new.tickets.waiting ≡ []) }
-        ensures settled { IfOk result (λ index. IfSome index (λ i. self.new.tickets.settled ≡ self.old.tickets.settled ++ settles key.now second i self.old.tickets.waiting)) }
-        ensures refused { OnErr result ((self.new.tickets.waiting ≡ self.old.tickets.waiting) × (self.new.tickets.settled ≡ self.old.tickets.settled)) }
+        ensures settled { IfOk result (λ index. IfSome index
+            (λ i. self.new.tickets.settled ≡ self.old.tickets.settled
+            ++ settles key.now second i self.old.tickets.waiting)) }
+        ensures refused { OnErr result ((self.new.tickets.waiting ≡ self.old.tickets.waiting)
+            × (self.new.tickets.settled ≡ self.old.tickets.settled)) }
         ensures index { IfOk result (λ index. IfSome index (λ i. i + 1 ≡ length (commits_of self.new.store.records))) }
         ensures records { self.new.store.records ≡ records_of self.new.store.journal.entries }
-        ensures acknowledged { IfOk result (λ index. IfSome index (λ _. (c : List ℕ) → D.images self.new.store.journal.disk c → Stands c self.new.store.journal.entries)) }
-        ensures readable { LeavesOnly D.clock D.images_since self.old.store.journal.disk self.new.store.journal.disk StandsForBook }
-        ensures cause { HasCauseWhere (result ≡ Err AppendError.DiskFault) (D.faults self.old.store.journal.disk) (D.faults self.new.store.journal.disk) }
+        ensures acknowledged { IfOk result (λ index. IfSome index (λ _. (c : List ℕ)
+            → D.images self.new.store.journal.disk c → Stands c self.new.store.journal.entries)) }
+        ensures readable { LeavesOnly D.clock D.images_since self.old.store.journal.disk self.new.store.journal.disk
+            StandsForBook }
+        ensures cause { HasCauseWhere (result ≡ Err AppendError.DiskFault) (D.faults self.old.store.journal.disk)
+            (D.faults self.new.store.journal.disk) }
         ensures within { StaysWithin D.clock D.images_since self.old.store.journal self.new.store.journal }
     {
         let closed = self.close_round(second, key);
@@ -223,13 +231,17 @@ impl<D: Disk> Book<D> {
     /// It takes all its memory before it calls the disk: `OutOfMemory` comes only before that.
     pub fn tip(&mut self) -> Result<Tip, TipError>
         ensures asks { AsksTip D.bytes D.clock D.images_since self.old.store.journal self.new.store.journal result }
-        ensures untouched { result ≡ Err TipError.OutOfMemory → self.new.store.journal.disk ≡ self.old.store.journal.disk }
+        ensures untouched { result ≡ Err TipError.OutOfMemory
+            → self.new.store.journal.disk ≡ self.old.store.journal.disk }
         ensures grows { Grows self.old.store.journal self.new.store.journal }
         ensures tickets { self.new.tickets ≡ self.old.tickets }
         ensures records { self.new.store.records ≡ records_of self.new.store.journal.entries }
-        ensures acknowledged { OnOk result ((c : List ℕ) → D.images self.new.store.journal.disk c → Stands c self.new.store.journal.entries) }
-        ensures readable { LeavesOnly D.clock D.images_since self.old.store.journal.disk self.new.store.journal.disk StandsForBook }
-        ensures cause { HasCauseWhere (result ≡ Err TipError.DiskFault) (D.faults self.old.store.journal.disk) (D.faults self.new.store.journal.disk) }
+        ensures acknowledged { OnOk result ((c : List ℕ) → D.images self.new.store.journal.disk c
+            → Stands c self.new.store.journal.entries) }
+        ensures readable { LeavesOnly D.clock D.images_since self.old.store.journal.disk self.new.store.journal.disk
+            StandsForBook }
+        ensures cause { HasCauseWhere (result ≡ Err TipError.DiskFault) (D.faults self.old.store.journal.disk)
+            (D.faults self.new.store.journal.disk) }
         ensures within { StaysWithin D.clock D.images_since self.old.store.journal self.new.store.journal }
     {
         match self.find_tip()? {
@@ -241,8 +253,8 @@ impl<D: Disk> Book<D> {
         }
     }
 
-    /// Anchors a tip in a block at this height. Of the transactions that have at most 4096 bytes
-    /// without their witness and in them the root of a stored tip that reaches past what is
+    /// Anchors a tip in a block at this height. Of the transactions that have at most `MAX_MESSAGE`
+    /// bytes without their witness and in them the root of a stored tip that reaches past what is
     /// covered, the first is taken, and in it the first such root; of tips with one root the last.
     ///
     /// `BadRoot` comes exactly where the block's header has another root than its transactions, and
@@ -255,15 +267,21 @@ impl<D: Disk> Book<D> {
         requires height { height < 2 ^ 63 }
         requires some { 1 ≤ length block.now.transactions }
         requires most { length block.now.transactions ≤ MAX_COMPACT }
-        ensures asks { AsksAnchor D.bytes D.clock D.images_since block.now height self.old.store.journal self.new.store.journal result }
-        ensures untouched { self.old.store.journal.is_sure ≡ true → result ≡ Err AnchorError.OutOfMemory → self.new.store.journal.disk ≡ self.old.store.journal.disk }
-        ensures only_refreshed { result ≡ Err AnchorError.OutOfMemory → OnlyRefreshed D.bytes self.old.store.journal self.new.store.journal }
+        ensures asks { AsksAnchor D.bytes D.clock D.images_since block.now height self.old.store.journal
+            self.new.store.journal result }
+        ensures untouched { self.old.store.journal.is_sure ≡ true → result ≡ Err AnchorError.OutOfMemory
+            → self.new.store.journal.disk ≡ self.old.store.journal.disk }
+        ensures only_refreshed { result ≡ Err AnchorError.OutOfMemory
+            → OnlyRefreshed D.bytes self.old.store.journal self.new.store.journal }
         ensures grows { Grows self.old.store.journal self.new.store.journal }
         ensures tickets { self.new.tickets ≡ self.old.tickets }
         ensures records { self.new.store.records ≡ records_of self.new.store.journal.entries }
-        ensures acknowledged { OnOk result ((c : List ℕ) → D.images self.new.store.journal.disk c → Stands c self.new.store.journal.entries) }
-        ensures readable { LeavesOnly D.clock D.images_since self.old.store.journal.disk self.new.store.journal.disk StandsForBook }
-        ensures cause { HasCauseWhere (result ≡ Err AnchorError.DiskFault) (D.faults self.old.store.journal.disk) (D.faults self.new.store.journal.disk) }
+        ensures acknowledged { OnOk result ((c : List ℕ) → D.images self.new.store.journal.disk c
+            → Stands c self.new.store.journal.entries) }
+        ensures readable { LeavesOnly D.clock D.images_since self.old.store.journal.disk self.new.store.journal.disk
+            StandsForBook }
+        ensures cause { HasCauseWhere (result ≡ Err AnchorError.DiskFault) (D.faults self.old.store.journal.disk)
+            (D.faults self.new.store.journal.disk) }
         ensures within { StaysWithin D.clock D.images_since self.old.store.journal self.new.store.journal }
     {
         self.start();
@@ -275,7 +293,7 @@ impl<D: Disk> Book<D> {
         anchored
     }
 
-    // Anchors a tip in a block whose root is good.
+    /// Anchors a tip in a block whose root is good.
     fn anchor_in(
         &mut self,
         block: &Block,
@@ -286,12 +304,16 @@ impl<D: Disk> Book<D> {
         requires most { length ids.now < 2 ^ 32 }
         requires root { block.now.header.root ≡ block_root (txids block.now) }
         requires height { height < 2 ^ 63 }
-        ensures asks { AnchorsIn D.bytes D.clock D.images_since block.now height self.old.store.journal self.new.store.journal result }
+        ensures asks { AnchorsIn D.bytes D.clock D.images_since block.now height self.old.store.journal
+            self.new.store.journal result }
         ensures tickets { self.new.tickets ≡ self.old.tickets }
         ensures records { self.new.store.records ≡ records_of self.new.store.journal.entries }
-        ensures acknowledged { OnOk result ((c : List ℕ) → D.images self.new.store.journal.disk c → Stands c self.new.store.journal.entries) }
-        ensures readable { LeavesOnly D.clock D.images_since self.old.store.journal.disk self.new.store.journal.disk StandsForBook }
-        ensures cause { HasCauseWhere (result ≡ Err AnchorError.DiskFault) (D.faults self.old.store.journal.disk) (D.faults self.new.store.journal.disk) }
+        ensures acknowledged { OnOk result ((c : List ℕ) → D.images self.new.store.journal.disk c
+            → Stands c self.new.store.journal.entries) }
+        ensures readable { LeavesOnly D.clock D.images_since self.old.store.journal.disk self.new.store.journal.disk
+            StandsForBook }
+        ensures cause { HasCauseWhere (result ≡ Err AnchorError.DiskFault) (D.faults self.old.store.journal.disk)
+            (D.faults self.new.store.journal.disk) }
         ensures within { StaysWithin D.clock D.images_since self.old.store.journal self.new.store.journal }
     {
         self.refresh()?;
@@ -300,24 +322,28 @@ impl<D: Disk> Book<D> {
         Ok(anchor)
     }
 
-    // What stands before a call does anything.
+    /// What stands before a call does anything.
     fn start(&mut self)
         ensures same { self.new ≡ self.old }
         ensures records { self.new.store.records ≡ records_of self.new.store.journal.entries }
-        ensures readable { LeavesOnly D.clock D.images_since self.old.store.journal.disk self.new.store.journal.disk StandsForBook }
+        ensures readable { LeavesOnly D.clock D.images_since self.old.store.journal.disk self.new.store.journal.disk
+            StandsForBook }
         ensures within { StaysWithin D.clock D.images_since self.old.store.journal self.new.store.journal }
     {
         self.store.stands();
     }
 
-    // Closes the round of all tickets that wait.
+    /// Closes the round of all tickets that wait.
     fn close_round(&mut self, second: u32, key: &Key) -> Result<Option<u64>, AppendError>
         ensures closes { Closes D.bytes D.clock D.images_since key.now second self.old self.new result }
         ensures index { IfOk result (λ index. IfSome index (λ i. i + 1 ≡ length (commits_of self.new.store.records))) }
         ensures records { self.new.store.records ≡ records_of self.new.store.journal.entries }
-        ensures acknowledged { IfOk result (λ index. IfSome index (λ _. (c : List ℕ) → D.images self.new.store.journal.disk c → Stands c self.new.store.journal.entries)) }
-        ensures readable { LeavesOnly D.clock D.images_since self.old.store.journal.disk self.new.store.journal.disk StandsForBook }
-        ensures cause { HasCauseWhere (result ≡ Err AppendError.DiskFault) (D.faults self.old.store.journal.disk) (D.faults self.new.store.journal.disk) }
+        ensures acknowledged { IfOk result (λ index. IfSome index (λ _. (c : List ℕ)
+            → D.images self.new.store.journal.disk c → Stands c self.new.store.journal.entries)) }
+        ensures readable { LeavesOnly D.clock D.images_since self.old.store.journal.disk self.new.store.journal.disk
+            StandsForBook }
+        ensures cause { HasCauseWhere (result ≡ Err AppendError.DiskFault) (D.faults self.old.store.journal.disk)
+            (D.faults self.new.store.journal.disk) }
         ensures within { StaysWithin D.clock D.images_since self.old.store.journal self.new.store.journal }
     {
         self.start();
@@ -332,27 +358,33 @@ impl<D: Disk> Book<D> {
         }
     }
 
-    // Adds a commitment.
+    /// Adds a commitment.
     fn add_commit(&mut self, commitment: &[u8; 44]) -> Result<u64, AppendError>
-        ensures adds { Adds D.bytes D.clock D.images_since self.old.store.journal self.new.store.journal (entry_of (CommitRecord commitment.now) ∷ []) result }
+        ensures adds { Adds D.bytes D.clock D.images_since self.old.store.journal self.new.store.journal
+            (entry_of (CommitRecord commitment.now) ∷ []) result }
         ensures tickets { self.new.tickets ≡ self.old.tickets }
         ensures index { IfOk result (λ i. i + 1 ≡ length (commits_of self.new.store.records)) }
         ensures records { self.new.store.records ≡ records_of self.new.store.journal.entries }
-        ensures acknowledged { OnOk result ((c : List ℕ) → D.images self.new.store.journal.disk c → Stands c self.new.store.journal.entries) }
-        ensures readable { LeavesOnly D.clock D.images_since self.old.store.journal.disk self.new.store.journal.disk StandsForBook }
-        ensures cause { HasCauseWhere (IsErrOf result AppendError.DiskFault) (D.faults self.old.store.journal.disk) (D.faults self.new.store.journal.disk) }
+        ensures acknowledged { OnOk result ((c : List ℕ) → D.images self.new.store.journal.disk c
+            → Stands c self.new.store.journal.entries) }
+        ensures readable { LeavesOnly D.clock D.images_since self.old.store.journal.disk self.new.store.journal.disk
+            StandsForBook }
+        ensures cause { HasCauseWhere (IsErrOf result AppendError.DiskFault) (D.faults self.old.store.journal.disk)
+            (D.faults self.new.store.journal.disk) }
         ensures within { StaysWithin D.clock D.images_since self.old.store.journal self.new.store.journal }
     {
         self.store.stands();
         self.store.add_commit(commitment)
     }
 
-    // Finds out whether the record in flight is kept.
+    /// Finds out whether the record in flight is kept.
     fn refresh(&mut self) -> Result<(), DiskFault>
         ensures ok { OnOk result (Refreshed D.bytes self.old.store.journal self.new.store.journal) }
         ensures err { OnErr result (Unrefreshed D.bytes self.old.store.journal self.new.store.journal) }
-        ensures any_moment { LeavesOnly D.clock D.images_since self.old.store.journal.disk self.new.store.journal.disk (StandsForEither self.old.store.journal.entries self.old.store.journal.flight) }
-        ensures readable { LeavesOnly D.clock D.images_since self.old.store.journal.disk self.new.store.journal.disk StandsForBook }
+        ensures any_moment { LeavesOnly D.clock D.images_since self.old.store.journal.disk self.new.store.journal.disk
+            (StandsForEither self.old.store.journal.entries self.old.store.journal.flight) }
+        ensures readable { LeavesOnly D.clock D.images_since self.old.store.journal.disk self.new.store.journal.disk
+            StandsForBook }
         ensures tickets { self.new.tickets ≡ self.old.tickets }
         ensures records { self.new.store.records ≡ records_of self.new.store.journal.entries }
         ensures cause { HasCause (D.faults self.old.store.journal.disk) (D.faults self.new.store.journal.disk) result }
@@ -362,34 +394,38 @@ impl<D: Disk> Book<D> {
         self.store.refresh()
     }
 
-    // Takes the memory for a tip, refreshes, and finds the next tip, where there is one.
+    /// Takes the memory for a tip, refreshes, and finds the next tip, where there is one.
     fn find_tip(&mut self) -> Result<Option<Tip>, TipError>
         ensures finds { FindsTip D.bytes D.clock D.images_since self.old.store.journal self.new.store.journal result }
         ensures sure { OnOk result (self.new.store.journal.is_sure ≡ true) }
         ensures spare { OnOk result (0 < self.new.store.spare) }
-        ensures next { IfOk result (λ next. MatchOption next (AllCovered self.new.store.records) (IsNextTip self.new.store.records)) }
+        ensures next { IfOk result (λ next. MatchOption next (AllCovered self.new.store.records)
+            (IsNextTip self.new.store.records)) }
         ensures fits { IfOk result (λ next. IfSome next FitsTip) }
         ensures tickets { self.new.tickets ≡ self.old.tickets }
         ensures records { self.new.store.records ≡ records_of self.new.store.journal.entries }
-        ensures readable { LeavesOnly D.clock D.images_since self.old.store.journal.disk self.new.store.journal.disk StandsForBook }
-        ensures cause { HasCauseWhere (result ≡ Err TipError.DiskFault) (D.faults self.old.store.journal.disk) (D.faults self.new.store.journal.disk) }
+        ensures readable { LeavesOnly D.clock D.images_since self.old.store.journal.disk self.new.store.journal.disk
+            StandsForBook }
+        ensures cause { HasCauseWhere (result ≡ Err TipError.DiskFault) (D.faults self.old.store.journal.disk)
+            (D.faults self.new.store.journal.disk) }
         ensures within { StaysWithin D.clock D.images_since self.old.store.journal self.new.store.journal }
     {
         self.store.stands();
         find_tip(&mut self.store, &mut self.tree)
     }
 
-    // The next tip, where there is one.
+    /// The next tip, where there is one.
     fn next_tip(&mut self) -> Result<Option<Tip>, OutOfMemory>
         ensures same { self.new ≡ self.old }
-        ensures next { IfOk result (λ next. MatchOption next (AllCovered self.old.store.records) (IsNextTip self.old.store.records)) }
+        ensures next { IfOk result (λ next. MatchOption next (AllCovered self.old.store.records)
+            (IsNextTip self.old.store.records)) }
         ensures fits { IfOk result (λ next. IfSome next FitsTip) }
     {
         self.store.stands();
         next_tip(&self.store, &mut self.tree)
     }
 
-    // Stores the next tip where none over the same commitments is.
+    /// Stores the next tip where none over the same commitments is.
     fn store_tip(&mut self, tip: &Tip) -> Result<(), AppendError>
         requires sure { self.old.store.journal.is_sure ≡ true }
         requires next { IsNextTip self.old.store.records tip.now }
@@ -398,9 +434,12 @@ impl<D: Disk> Book<D> {
         ensures not_refused { 0 < self.old.store.spare → result ≡ Err AppendError.OutOfMemory → ⊥ }
         ensures tickets { self.new.tickets ≡ self.old.tickets }
         ensures records { self.new.store.records ≡ records_of self.new.store.journal.entries }
-        ensures acknowledged { OnOk result ((c : List ℕ) → D.images self.new.store.journal.disk c → Stands c self.new.store.journal.entries) }
-        ensures readable { LeavesOnly D.clock D.images_since self.old.store.journal.disk self.new.store.journal.disk StandsForBook }
-        ensures cause { HasCauseWhere (result ≡ Err AppendError.DiskFault) (D.faults self.old.store.journal.disk) (D.faults self.new.store.journal.disk) }
+        ensures acknowledged { OnOk result ((c : List ℕ) → D.images self.new.store.journal.disk c
+            → Stands c self.new.store.journal.entries) }
+        ensures readable { LeavesOnly D.clock D.images_since self.old.store.journal.disk self.new.store.journal.disk
+            StandsForBook }
+        ensures cause { HasCauseWhere (result ≡ Err AppendError.DiskFault) (D.faults self.old.store.journal.disk)
+            (D.faults self.new.store.journal.disk) }
         ensures within { StaysWithin D.clock D.images_since self.old.store.journal self.new.store.journal }
     {
         self.store.stands();
@@ -410,7 +449,7 @@ impl<D: Disk> Book<D> {
         self.store.add_tip(tip)
     }
 
-    // The anchor of the open tip whose root a block holds first.
+    /// The anchor of the open tip whose root a block holds first.
     fn find_anchor(
         &self,
         block: &Block,
@@ -430,16 +469,20 @@ impl<D: Disk> Book<D> {
         find_anchor(self.alloc, &self.store, block, ids, height)
     }
 
-    // Stores an anchor.
+    /// Stores an anchor.
     fn store_anchor(&mut self, anchor: &Anchor) -> Result<(), AppendError>
         requires sure { self.old.store.journal.is_sure ≡ true }
         requires may_stand { MayStand self.old.store.records anchor.now }
-        ensures added { Added D.clock D.images_since self.old.store.journal self.new.store.journal (entry_of (AnchorRecord anchor.now) ∷ []) result }
+        ensures added { Added D.clock D.images_since self.old.store.journal self.new.store.journal
+            (entry_of (AnchorRecord anchor.now) ∷ []) result }
         ensures tickets { self.new.tickets ≡ self.old.tickets }
         ensures records { self.new.store.records ≡ records_of self.new.store.journal.entries }
-        ensures acknowledged { OnOk result ((c : List ℕ) → D.images self.new.store.journal.disk c → Stands c self.new.store.journal.entries) }
-        ensures readable { LeavesOnly D.clock D.images_since self.old.store.journal.disk self.new.store.journal.disk StandsForBook }
-        ensures cause { HasCauseWhere (result ≡ Err AppendError.DiskFault) (D.faults self.old.store.journal.disk) (D.faults self.new.store.journal.disk) }
+        ensures acknowledged { OnOk result ((c : List ℕ) → D.images self.new.store.journal.disk c
+            → Stands c self.new.store.journal.entries) }
+        ensures readable { LeavesOnly D.clock D.images_since self.old.store.journal.disk self.new.store.journal.disk
+            StandsForBook }
+        ensures cause { HasCauseWhere (result ≡ Err AppendError.DiskFault) (D.faults self.old.store.journal.disk)
+            (D.faults self.new.store.journal.disk) }
         ensures within { StaysWithin D.clock D.images_since self.old.store.journal self.new.store.journal }
     {
         self.store.stands();
@@ -447,7 +490,7 @@ impl<D: Disk> Book<D> {
     }
 }
 
-// Takes the memory for a tip, refreshes, and finds the next tip, where there is one.
+/// Takes the memory for a tip, refreshes, and finds the next tip, where there is one.
 fn find_tip<D: Disk>(store: &mut Store<D>, tree: &mut OpenTree) -> Result<Option<Tip>, TipError>
     requires over { IsOver (commits_of store.old.records) tree.old }
     requires records { store.old.records ≡ records_of store.old.journal.entries }
@@ -458,7 +501,8 @@ fn find_tip<D: Disk>(store: &mut Store<D>, tree: &mut OpenTree) -> Result<Option
     ensures next { IfOk result (λ next. MatchOption next (AllCovered store.new.records) (IsNextTip store.new.records)) }
     ensures fits { IfOk result (λ next. IfSome next FitsTip) }
     ensures records { store.new.records ≡ records_of store.new.journal.entries }
-    ensures cause { HasCauseWhere (result ≡ Err TipError.DiskFault) (D.faults store.old.journal.disk) (D.faults store.new.journal.disk) }
+    ensures cause { HasCauseWhere (result ≡ Err TipError.DiskFault) (D.faults store.old.journal.disk)
+        (D.faults store.new.journal.disk) }
     ensures within { StaysWithin D.clock D.images_since store.old.journal store.new.journal }
 {
     store.stands();
@@ -468,7 +512,7 @@ fn find_tip<D: Disk>(store: &mut Store<D>, tree: &mut OpenTree) -> Result<Option
     Ok(next_tip(store, tree)?)
 }
 
-// The next tip, where there is one.
+/// The next tip, where there is one.
 fn next_tip<D: Disk>(store: &Store<D>, tree: &mut OpenTree) -> Result<Option<Tip>, OutOfMemory>
     requires over { IsOver (commits_of store.now.records) tree.old }
     ensures over { IsOver (commits_of store.now.records) tree.new }
@@ -486,7 +530,7 @@ fn next_tip<D: Disk>(store: &Store<D>, tree: &mut OpenTree) -> Result<Option<Tip
     }
 }
 
-// Whether one of the tips is over the same commitments.
+/// Whether one of the tips is over the same commitments.
 fn has_tip(tips: &[Tip], tip: &Tip) -> bool
     ensures yes { result ≡ true → HasSpan tip.now.first tip.now.count tips.now }
     ensures no { result ≡ false → HasSpan tip.now.first tip.now.count tips.now → ⊥ }
@@ -499,7 +543,7 @@ fn has_tip(tips: &[Tip], tip: &Tip) -> bool
     false
 }
 
-// Whether two tips are over the same commitments.
+/// Whether two tips are over the same commitments.
 fn is_same_span(first: &Tip, second: &Tip) -> bool
     ensures yes { result ≡ true → (first.now.first ≡ second.now.first) × (first.now.count ≡ second.now.count) }
     ensures no { result ≡ false → first.now.first ≡ second.now.first → first.now.count ≡ second.now.count → ⊥ }

@@ -69,7 +69,7 @@ pub enum AnchorError {
     /// No transaction without its witness has the root of a tip in it that reaches past what is
     /// covered.
     NoTip,
-    /// Only transactions that have more than 4096 bytes without their witness have one in them. The
+    /// Only transactions that have more than `MAX_MESSAGE` bytes without their witness have one in them. The
     /// first of them has so many.
     TransactionTooLong(u64),
     /// A call of the disk failed, and the disk has counted the fault.

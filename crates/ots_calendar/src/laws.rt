@@ -1,5 +1,6 @@
 //! What the definitions say of a calendar's answers, beside what each call says.
-ghost use Rattle.std.specs.Prelude.{◌≡◌, ◌≤◌, ◌<◌, ◌+◌, ◌^◌, ◌++◌, ◌∷◌, ℕ, Bool, List, [], Some, find, length, slice_get};
+ghost use Rattle.std.specs.Prelude.{◌≡◌, ◌≤◌, ◌<◌, ◌+◌, ◌^◌, ◌++◌, ◌∷◌, ℕ, Bool, List, [], Some, find, length};
+ghost use Rattle.std.specs.Prelude.{slice_get};
 ghost use Rattle.std.specs.Prelude.{Option, Result};
 ghost use Rattle.ots_block.specs.Block.{Contents};
 ghost use Rattle.ots_journal.specs.Journal.{JournalTold};
@@ -34,34 +35,36 @@ ghost use Rattle.ots_calendar.specs.Values.{AreTrue};
 ghost use Rattle.ots_calendar.specs.declared.answer.Answer.TheVariants.{Complete, Pending};
 
 use ots_disk::Disk;
-use ots_merkle::path_leads_to_root;
 
 /// What is answered of a stored commitment stays when records are added, as those in flight may be
 /// by a crash: a complete answer is the same, and a pending one is as the first of the added anchors
 /// has it that covers the commitment.
 pub fn answers_stay()
-    ensures complete { (records more : List Record) (c : List ℕ) (tree : List Token) → InOrder [] records → answer records c ≡ Complete tree → answer (records ++ more) c ≡ Complete tree }
+    ensures complete { (records more : List Record) (c : List ℕ) (tree : List Token) → InOrder [] records
+        → answer records c ≡ Complete tree → answer (records ++ more) c ≡ Complete tree }
     ensures pending { (records more : List Record) (c : List ℕ) → answer records c ≡ Pending
-        → (i : ℕ) × (least c (commits_of records) ≡ Some i) × (answer (records ++ more) c ≡ answer_at (commits_of (records ++ more)) i (find (covers i) (anchors_of more))) }
+        → (i : ℕ) × (least c (commits_of records) ≡ Some i) × (answer (records ++ more) c
+        ≡ answer_at (commits_of (records ++ more)) i (find (covers i) (anchors_of more))) }
 {}
 
 /// The way of a ticket to its commitment, and then that of the commitment to its anchor, lead from
 /// the digest to the anchor's root, which is the Merkle root in the header of the anchor's block.
 /// They have at most 201 operations.
 pub fn cycle()
-    ensures leads { (entries : List Entry) (key : List ℕ) (second : ℕ) (tickets : List Ticket) (i : ℕ) (ticket : Ticket) (j : ℕ) (anchor : Anchor)
+    ensures leads { (entries : List Entry) (key : List ℕ) (second : ℕ) (tickets : List Ticket) (i : ℕ) (ticket : Ticket)
+        (j : ℕ) (anchor : Anchor)
         → InRecords entries → AreTrue (records_of entries)
         → slice_get tickets i ≡ Some ticket → length ticket.leaf ≤ 64 → length ticket.nonce ≡ 16
         → least (round_commitment key second tickets) (commits_of (records_of entries)) ≡ Some j
         → find (covers j) (anchors_of (records_of entries)) ≡ Some anchor
-        → value (round_way key second tickets i ticket ++ way_in (commits_of (records_of entries)) j anchor) ticket.leaf ≡ Some anchor.root }
-    ensures few { (entries : List Entry) (key : List ℕ) (second : ℕ) (tickets : List Ticket) (i : ℕ) (ticket : Ticket) (j : ℕ) (anchor : Anchor)
+        → value (round_way key second tickets i ticket ++ way_in (commits_of (records_of entries)) j anchor) ticket.leaf
+        ≡ Some anchor.root }
+    ensures few { (entries : List Entry) (key : List ℕ) (second : ℕ) (tickets : List Ticket) (i : ℕ) (ticket : Ticket)
+        (j : ℕ) (anchor : Anchor)
         → InRecords entries → length (commits_of (records_of entries)) ≤ 2 ^ 32 → length tickets ≤ 2 ^ 16
         → find (covers j) (anchors_of (records_of entries)) ≡ Some anchor
         → length (round_way key second tickets i ticket ++ way_in (commits_of (records_of entries)) j anchor) ≤ 201 }
-{
-    path_leads_to_root();
-}
+{}
 
 /// What a calendar answers is spelled in less than 10,000 bytes, the most that a client takes of a
 /// reply: the tree of a ticket whose round is closed, which ends in a pending attestation, and that
@@ -79,7 +82,8 @@ pub fn trees_are_short()
 pub fn calls_grow<D: Disk>()
     ensures close { (key : List ℕ) (second : ℕ) (old new : BookTold D) (result : Result (Option ℕ) AppendError)
         → Closes D.bytes D.clock D.images_since key second old new result → Grows old.store.journal new.store.journal }
-    ensures tip { (old new : JournalTold D) (result : Result Tip TipError) → AsksTip D.bytes D.clock D.images_since old new result → Grows old new }
+    ensures tip { (old new : JournalTold D) (result : Result Tip TipError)
+        → AsksTip D.bytes D.clock D.images_since old new result → Grows old new }
     ensures anchor { (block : Contents) (height : ℕ) (old new : JournalTold D) (result : Result Anchor AnchorError)
         → AsksAnchor D.bytes D.clock D.images_since block height old new result → Grows old new }
 {}
@@ -87,9 +91,11 @@ pub fn calls_grow<D: Disk>()
 /// What becomes of a ticket that is put. Withdrawn, it leaves those that waited before it. Where the
 /// round over all that wait is closed, as it was put last, it is then given.
 pub fn one_ticket()
-    ensures withdrawn { (old mid new : TicketsTold) (ticket : Ticket) → IsNew ticket.number old → mid.waiting ≡ old.waiting ++ ticket ∷ [] → mid.settled ≡ old.settled
+    ensures withdrawn { (old mid new : TicketsTold) (ticket : Ticket) → IsNew ticket.number old
+        → mid.waiting ≡ old.waiting ++ ticket ∷ [] → mid.settled ≡ old.settled
         → (answer : Bool) → Withdraws ticket mid new answer → IsGone old new answer }
-    ensures taken { (key : List ℕ) (second index : ℕ) (waited : List Ticket) (before : List Settled) (closed new : TicketsTold) (ticket : Ticket) (uri : List ℕ)
+    ensures taken { (key : List ℕ) (second index : ℕ) (waited : List Ticket) (before : List Settled)
+        (closed new : TicketsTold) (ticket : Ticket) (uri : List ℕ)
         → closed.settled ≡ before ++ settles key second index (waited ++ ticket ∷ [])
         → (answer : Taken) → Takes ticket uri closed new answer → IsTaken closed new answer }
 {}

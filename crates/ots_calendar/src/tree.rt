@@ -1,5 +1,6 @@
 //! The tree over the commitments that are not covered.
-ghost use Rattle.std.specs.Prelude.{◌≡◌, ◌⊎◌, ◌+◌, ◌++◌, ◌∷◌, [], ◌≤◌, ◌<◌, ◌^◌, length, is_ok, IsOk, if◌then◌else◌, OnOk};
+ghost use Rattle.std.specs.Prelude.{◌≡◌, ◌⊎◌, ◌+◌, ◌++◌, ◌∷◌, [], ◌≤◌, ◌<◌, ◌^◌, length, is_ok, IsOk, if◌then◌else◌};
+ghost use Rattle.std.specs.Prelude.{OnOk};
 ghost use Rattle.ots_anchor.specs.Path.{hashed};
 ghost use Rattle.ots_merkle.specs.CalendarTree.{root_if_any};
 ghost use Rattle.ots_calendar.specs.Tree.{TreeTold, IsOver, HasRoom};
@@ -99,11 +100,12 @@ impl OpenTree {
         }
     }
 
-    /// Adds a commitment behind the others. Where memory ran out they are as before.
+    /// Adds a commitment after the others. Where memory ran out they are as before.
     fn push(&mut self, commitment: &[u8; 44]) -> Result<(), OutOfMemory>
         requires { length self.old.leaves < 2 ^ 32 }
         ensures first { self.new.first ≡ self.old.first }
-        ensures leaves { self.new.leaves ≡ (if is_ok result then self.old.leaves ++ hashed (commitment.now ∷ []) else self.old.leaves) }
+        ensures leaves { self.new.leaves ≡ (if is_ok result then self.old.leaves ++ hashed (commitment.now ∷ [])
+            else self.old.leaves) }
         ensures spare { OnOk result (self.old.spare ≤ self.new.spare + 1) }
         ensures not_refused { 0 < self.old.spare → IsOk result }
     {

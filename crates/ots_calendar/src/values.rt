@@ -1,7 +1,8 @@
 //! Whether the values of records are right.
-ghost use Rattle.std.specs.Prelude.{◌≡◌, ◌+◌, ◌++◌, ◌≤◌, ◌<◌, ◌^◌, ℕ, true, false, length, IfOk, OnOk, MatchOption, slice_get, Some};
+ghost use Rattle.std.specs.Prelude.{◌≡◌, ◌+◌, ◌++◌, ◌≤◌, ◌<◌, ◌^◌, ℕ, true, false, length, IfOk, OnOk, MatchOption};
+ghost use Rattle.std.specs.Prelude.{slice_get, Some};
 ghost use Rattle.ots_anchor.specs.Path.{hashed};
-ghost use Rattle.ots_bitcoin.specs.DoubleSha256.{double_sha256};
+ghost use Rattle.ots_headers.specs.DoubleSha256.{double_sha256};
 ghost use Rattle.ots_merkle.specs.BlockTree.{above_side, climbed};
 ghost use Rattle.ots_merkle.specs.CalendarTree.{root};
 ghost use Rattle.ots_merkle.specs.Hashes.{block_node};
@@ -54,7 +55,7 @@ pub(crate) fn first_untrue<D: Disk>(
     Ok(None)
 }
 
-/// Whether the values of the next record are right, behind those that were looked at.
+/// Whether the values of the next record are right, after those that were looked at.
 fn next_is_true<D: Disk>(
     alloc: Global,
     store: &Store<D>,
@@ -65,8 +66,10 @@ fn next_is_true<D: Disk>(
     requires few { i < 2 ^ 32 }
     requires seen { IsSeen store.now.records i seen.old }
     ensures seen { OnOk result (IsSeen store.now.records (i + 1) seen.new) }
-    ensures yes { IfOk result (λ yes. yes ≡ true → (r : Record) → slice_get store.now.records i ≡ Some r → IsTrue (commits_of store.now.records) r) }
-    ensures no { IfOk result (λ yes. yes ≡ false → (r : Record) → slice_get store.now.records i ≡ Some r → IsTrue (commits_of store.now.records) r → ⊥) }
+    ensures yes { IfOk result (λ yes. yes ≡ true → (r : Record) → slice_get store.now.records i ≡ Some r
+        → IsTrue (commits_of store.now.records) r) }
+    ensures no { IfOk result (λ yes. yes ≡ false → (r : Record) → slice_get store.now.records i ≡ Some r
+        → IsTrue (commits_of store.now.records) r → ⊥) }
 {
     if let Some(tip) = tip_at(store, i, seen) {
         seen.tips += 1;
@@ -83,7 +86,8 @@ fn next_is_true<D: Disk>(
 fn tip_at<D: Disk>(store: &Store<D>, i: u64, seen: &Seen) -> Option<Tip>
     requires there { i < length store.now.records }
     requires seen { IsSeen store.now.records i seen.now }
-    ensures { MatchOption result ((tip : Tip) → slice_get store.now.records i ≡ Some (TipRecord tip) → ⊥) (IsTipAt store.now.records i) }
+    ensures { MatchOption result ((tip : Tip) → slice_get store.now.records i ≡ Some (TipRecord tip)
+        → ⊥) (IsTipAt store.now.records i) }
 {
     store.stands();
     let _ = store.commits();
@@ -103,7 +107,8 @@ fn tip_at<D: Disk>(store: &Store<D>, i: u64, seen: &Seen) -> Option<Tip>
 fn anchor_at<'a, D: Disk>(store: &'a Store<D>, i: u64, seen: &Seen) -> Option<&'a Anchor>
     requires there { i < length store.now.records }
     requires seen { IsSeen store.now.records i seen.now }
-    ensures { MatchOption result ((anchor : Anchor) → slice_get store.now.records i ≡ Some (AnchorRecord anchor) → ⊥) (λ anchor. IsAnchorAt store.now.records i anchor.now) }
+    ensures { MatchOption result ((anchor : Anchor) → slice_get store.now.records i ≡ Some (AnchorRecord anchor)
+        → ⊥) (λ anchor. IsAnchorAt store.now.records i anchor.now) }
 {
     store.stands();
     let _ = store.commits();
@@ -171,7 +176,7 @@ fn root_of(alloc: Global, commitments: &[[u8; 44]]) -> Result<[u8; 32], OutOfMem
 }
 
 /// The id of a transaction without its witness: the hash of what stands before a root, the root and
-/// what stands behind it.
+/// what stands after it.
 fn transaction_id(prefix: &[u8], root: &[u8; 32], suffix: &[u8]) -> [u8; 32]
     ensures { result ≡ double_sha256 (prefix.now ++ root.now ++ suffix.now) }
 {

@@ -11,7 +11,7 @@
 //! | `text NAME TEXT` | names the bytes of a text, in which `\r` and `\n` stand for the ends of lines |
 //! | `journal BYTES`, `nonces BYTES`, `second N` | what the runs below it are done on |
 //! | `file NAME BYTES` | puts a file on the shelf |
-//! | `disk file`, `disk memory` | the journal lies on a device behind a file, or in memory |
+//! | `disk file`, `disk memory` | the journal lies on a device under a file, or in memory |
 //! | `room N` | the sink takes so many bytes |
 //! | `link BYTES` | one connection more in the next run, and what it sends |
 //! | `OBJECT fails N..` | these of its calls fail in the next run; `link` is the last one |
@@ -19,11 +19,11 @@
 //! | `otsd WORDS` | a run; `''` is the empty word |
 //! | `keep` | the journal is what the last run left |
 //! | `left BYTES` | asks whether the last run left a journal of these bytes |
-//! | `front` | asks whether the last run printed some of what the run before printed, from its start, and not all |
+//! | `prefix` | asks whether the last run printed some of what the run before printed, from its start, and not all |
 //! | `each OBJECT N` | begins a block of lines, up to the line `end` |
 //!
 //! An object is the `disk`, the `shelf`, the `sink`, the `nonce`s, the `accept`er or a `link`, and its
-//! first call is 1. BYTES are words: hexadecimal digits, `$NAME`, or either with `*N` behind it for so
+//! first call is 1. BYTES are words: hexadecimal digits, `$NAME`, or either with `*N` after it for so
 //! many times. A block is done N times, and in its first run the first call of the object fails, then
 //! the second, up to the Nth, which may be more than there are. What came of several calls side by
 //! side is told once, where it was the same.

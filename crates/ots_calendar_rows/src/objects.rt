@@ -18,12 +18,12 @@ const DISK_ROOM: DiskRoom = DiskRoom {
     file: 40000,
 };
 
-// How many bytes a link takes, and a name has, at most.
+/// How many bytes a link takes, and a name has, at most.
 const LINK_ROOM: usize = 2000;
 
 const NAME_LENGTH: usize = 16;
 
-// How many bytes a call of a file reads or writes at most.
+/// How many bytes a call of a file reads or writes at most.
 const AT_A_TIME: usize = 7;
 
 /// What a run is done on beside the disk.
@@ -55,13 +55,13 @@ pub fn memory_disk(alloc: Global, on: &On) -> Result<MemoryDisk, OutOfMemory> {
     MemoryDisk::new(alloc, &on.journal, DISK_ROOM, &on.faults.disk)
 }
 
-/// The journal on a device behind a file.
+/// The journal on a device under a file.
 pub fn file_disk(alloc: Global, on: &On) -> Result<FileDisk<MemoryFile>, OutOfMemory> {
     let file = MemoryFile::new(alloc, &on.journal, &on.faults.disk, AT_A_TIME)?;
     Ok(FileDisk::new(file))
 }
 
-// The shelf with the files.
+/// The shelf with the files.
 fn shelf_of(alloc: Global, on: &On) -> Result<MapShelf, OutOfMemory> {
     let room = ShelfRoom {
         names: on.files.len(),
@@ -78,7 +78,7 @@ fn shelf_of(alloc: Global, on: &On) -> Result<MapShelf, OutOfMemory> {
     Ok(shelf)
 }
 
-// How many bytes the longest file has.
+/// How many bytes the longest file has.
 fn longest(on: &On) -> usize {
     let mut most = 0usize;
     for bytes in on.files.values() {
@@ -87,17 +87,17 @@ fn longest(on: &On) -> usize {
     most
 }
 
-// The sink.
+/// The sink.
 fn sink_of(alloc: Global, on: &On) -> Result<BytesSink, OutOfMemory> {
     BytesSink::new(alloc, on.room, &on.faults.sink)
 }
 
-// The nonces.
+/// The nonces.
 fn nonces_of(alloc: Global, on: &On) -> Result<ListNonces, OutOfMemory> {
     ListNonces::new(alloc, &on.nonces, &on.faults.nonces)
 }
 
-// Where the links come in.
+/// Where the links come in.
 fn accepter_of(alloc: Global, on: &On) -> Result<ListAccepter<BytesLink>, OutOfMemory>
     ensures { IfOk result (λ accepter. returned_of accepter ≡ Some []) }
 {
@@ -105,7 +105,7 @@ fn accepter_of(alloc: Global, on: &On) -> Result<ListAccepter<BytesLink>, OutOfM
     ListAccepter::new(alloc, links, &on.faults.accepter)
 }
 
-// The links, of which none was read or written yet.
+/// The links, of which none was read or written yet.
 fn links_of(alloc: Global, coming: &[Coming]) -> Result<VecDeque<BytesLink>, OutOfMemory>
     ensures { IfOk result (λ links. All (λ link. IsFresh (Some link.link) link.faults) links.items) }
 {
@@ -116,7 +116,7 @@ fn links_of(alloc: Global, coming: &[Coming]) -> Result<VecDeque<BytesLink>, Out
     Ok(links)
 }
 
-// A link with these bytes.
+/// A link with these bytes.
 fn new_link(alloc: Global, link: &Coming) -> Result<BytesLink, OutOfMemory>
     ensures { IfOk result (λ link. IsFresh (Some link.link) link.faults) }
 {

@@ -12,7 +12,7 @@ const ROOM: usize = 20_000;
 pub enum Place {
     /// In memory.
     Memory,
-    /// On a device behind a file.
+    /// On a device under a file.
     File,
 }
 
@@ -88,7 +88,7 @@ impl On {
         }
     }
 
-    // These calls of the last link fail.
+    /// These calls of the last link fail.
     fn fail_link(&mut self, calls: Vec<u64>) {
         if let Some(link) = self.links.last_mut() {
             link.failing = calls;
@@ -120,7 +120,7 @@ impl On {
         Ok(())
     }
 
-    // Puts a file with this name and these bytes.
+    /// Puts a file with this name and these bytes.
     fn put_file(&mut self, alloc: Global, names: &Names, rest: &str) -> Result<(), OutOfMemory> {
         let (name, bytes) = rest.split_once(' ').unwrap_or((rest, ""));
         let bytes = bytes_of(alloc, names, bytes)?;
@@ -136,7 +136,7 @@ impl On {
     }
 }
 
-// The place of this name.
+/// The place of this name.
 fn place_of(name: &str) -> Place {
     if name == "file" {
         Place::File

@@ -63,7 +63,7 @@ pub fn run_on<R: AllocGlobal + Threads + Wait + Sync>(
     }
 }
 
-// A run over any disk.
+/// A run over any disk.
 fn run_over<D: Disk + Send + Drop, R: Threads + Wait + Sync>(
     rt: &R,
     alloc: Global,
@@ -85,7 +85,7 @@ fn run_over<D: Disk + Send + Drop, R: Threads + Wait + Sync>(
     Ok((ended, returned.disk))
 }
 
-// What a run left of its sink and its accepter.
+/// What a run left of its sink and its accepter.
 fn ended_of(
     alloc: Global,
     status: u8,
@@ -99,7 +99,7 @@ fn ended_of(
     })
 }
 
-// What was done with the links.
+/// What was done with the links.
 fn what_links_took(
     alloc: Global,
     accepter: &ListAccepter<BytesLink>,
@@ -115,7 +115,7 @@ fn what_links_took(
     })
 }
 
-// What is left of a journal in memory.
+/// What is left of a journal in memory.
 fn left_in_memory(alloc: Global, disk: &MemoryDisk) -> Result<Left, OutOfMemory> {
     let known = if disk.calls().is_empty() {
         Known::NotCalled
@@ -128,7 +128,7 @@ fn left_in_memory(alloc: Global, disk: &MemoryDisk) -> Result<Left, OutOfMemory>
     })
 }
 
-// What is left of a journal behind a file.
+/// What is left of a journal over a file.
 fn left_on_device(alloc: Global, disk: &FileDisk<MemoryFile>) -> Result<Left, OutOfMemory> {
     Ok(Left {
         known: Known::Device,

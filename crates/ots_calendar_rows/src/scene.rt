@@ -43,7 +43,7 @@ impl Scene {
         match word {
             "otsd" => self.run(rt, &words_of(alloc, rest)?),
             "left" => compared(alloc, &self.left, &bytes_of(alloc, &self.names, rest)?),
-            "front" => answer(alloc, is_part(&self.text, &self.text_before)),
+            "prefix" => answer(alloc, is_part(&self.text, &self.text_before)),
             _ => {
                 self.set(alloc, word, rest)?;
                 Ok(Vec::new(alloc))
@@ -51,7 +51,7 @@ impl Scene {
         }
     }
 
-    // Takes what a line says of the runs to come.
+    /// Takes what a line says of the runs to come.
     fn set(&mut self, alloc: Global, word: &str, rest: &str) -> Result<(), OutOfMemory> {
         match word {
             "" => self.on = On::new(alloc),
@@ -66,7 +66,7 @@ impl Scene {
         Ok(())
     }
 
-    // Gives bytes a name.
+    /// Gives bytes a name.
     fn name(&mut self, alloc: Global, rest: &str, spelled: Spelled) -> Result<(), OutOfMemory> {
         let (name, rest) = rest.split_once(' ').unwrap_or((rest, ""));
         let bytes = match spelled {
@@ -77,7 +77,7 @@ impl Scene {
         Ok(())
     }
 
-    // Does a run, and says what came of it.
+    /// Does a run, and says what came of it.
     fn run<R: AllocGlobal + Threads + Wait + Sync>(
         &mut self,
         rt: &R,
@@ -112,14 +112,14 @@ impl Scene {
     }
 }
 
-// How bytes are spelled.
+/// How bytes are spelled.
 #[derive(Clone, Copy)]
 enum Spelled {
     Bytes,
     Text,
 }
 
-// Whether a text is a part of another, from its start and not the whole, and has some of it.
+/// Whether a text is a part of another, from its start and not the whole, and has some of it.
 fn is_part(text: &[u8], whole: &[u8]) -> bool {
     !text.is_empty() && text.len() < whole.len() && whole.starts_with(text)
 }

@@ -55,7 +55,7 @@ impl Script {
         Ok(said)
     }
 
-    // Begins a block, of an object and the number of its last call that fails.
+    /// Begins a block, of an object and the number of its last call that fails.
     fn begin(&mut self, alloc: Global, calls: &str) -> Result<(), OutOfMemory> {
         let (object, last) = calls.split_once(' ').unwrap_or((calls, ""));
         self.block = Some(Block {
@@ -66,7 +66,7 @@ impl Script {
         Ok(())
     }
 
-    // Takes a line of a block, or does the block where it ends.
+    /// Takes a line of a block, or does the block where it ends.
     fn go_on<R: AllocGlobal + Threads + Wait + Sync>(
         &mut self,
         rt: &R,
@@ -84,7 +84,7 @@ impl Script {
     }
 }
 
-// What came of calls that made the same difference: the first and the last of them.
+/// What came of calls that made the same difference: the first and the last of them.
 #[derive(Drop)]
 struct Span {
     first: u64,
@@ -92,8 +92,8 @@ struct Span {
     came: Vec<u8>,
 }
 
-// Does a block where each call fails in turn, and tells what came of it, once for calls side by side
-// of which the same came.
+/// Does a block where each call fails in turn, and tells what came of it, once for calls side by side
+/// of which the same came.
 fn each_call<R: AllocGlobal + Threads + Wait + Sync>(
     rt: &R,
     scene: &mut Scene,
@@ -120,7 +120,7 @@ fn each_call<R: AllocGlobal + Threads + Wait + Sync>(
     Ok(said)
 }
 
-// Does the lines of a block from this journal on, where this call fails in the first run.
+/// Does the lines of a block from this journal on, where this call fails in the first run.
 fn once<R: AllocGlobal + Threads + Wait + Sync>(
     rt: &R,
     scene: &mut Scene,
@@ -138,7 +138,7 @@ fn once<R: AllocGlobal + Threads + Wait + Sync>(
     Ok(came)
 }
 
-// Appends which calls made this difference, and what came of it.
+/// Appends which calls made this difference, and what came of it.
 fn push_span(alloc: Global, said: &mut Vec<u8>, span: &Span) -> Result<(), OutOfMemory> {
     let first = span.first;
     let last = span.last;

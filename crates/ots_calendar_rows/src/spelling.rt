@@ -18,7 +18,7 @@ pub fn bytes_of(alloc: Global, names: &Names, text: &str) -> Result<Vec<u8>, Out
     Ok(bytes)
 }
 
-// The bytes of a name behind a dollar sign, or of hexadecimal digits.
+/// The bytes of a name after a dollar sign, or of hexadecimal digits.
 fn part_of(alloc: Global, names: &Names, part: &str) -> Result<Vec<u8>, OutOfMemory> {
     match part.strip_prefix('$') {
         Some(name) => match names.get(name) {
@@ -32,7 +32,7 @@ fn part_of(alloc: Global, names: &Names, part: &str) -> Result<Vec<u8>, OutOfMem
     }
 }
 
-// Appends a part so many times.
+/// Appends a part so many times.
 fn push_times(bytes: &mut Vec<u8>, part: &[u8], count: u32) -> Result<(), OutOfMemory> {
     for _ in 0..count {
         bytes.extend_from_slice(part)?;
@@ -43,13 +43,13 @@ fn push_times(bytes: &mut Vec<u8>, part: &[u8], count: u32) -> Result<(), OutOfM
 /// The bytes of a text, in which a backslash stands before the letters of the ends of lines.
 pub fn text_of(alloc: Global, text: &str) -> Result<Vec<u8>, OutOfMemory> {
     let mut bytes = Vec::new(alloc);
-    let mut is_behind_backslash = false;
+    let mut is_after_backslash = false;
     for byte in text.as_bytes() {
-        if is_behind_backslash {
+        if is_after_backslash {
             bytes.push(end_of_line(*byte))?;
-            is_behind_backslash = false;
+            is_after_backslash = false;
         } else if *byte == b'\\' {
-            is_behind_backslash = true;
+            is_after_backslash = true;
         } else {
             bytes.push(*byte)?;
         }
@@ -57,7 +57,7 @@ pub fn text_of(alloc: Global, text: &str) -> Result<Vec<u8>, OutOfMemory> {
     Ok(bytes)
 }
 
-// What a letter behind a backslash stands for.
+/// What a letter after a backslash stands for.
 fn end_of_line(letter: u8) -> u8 {
     match letter {
         b'n' => b'\n',

@@ -6,7 +6,7 @@ use ots_io::OutOfMemory;
 use sha2::{Digest, Sha256};
 use std::alloc::Global;
 
-// The longest text that is repeated, and the most bytes that are told where others were wanted.
+/// The longest text that is repeated, and the most bytes that are told where others were wanted.
 const REPEATED: usize = 20_000;
 
 const TOLD: usize = 1000;
@@ -31,7 +31,7 @@ pub fn told_of(alloc: Global, ended: &Ended, left: &Left, on: &On) -> Result<Vec
     Ok(said)
 }
 
-// What is known of the disk.
+/// What is known of the disk.
 fn word_of(known: Known) -> &'static str {
     match known {
         Known::Called => "disk called",
@@ -40,13 +40,13 @@ fn word_of(known: Known) -> &'static str {
     }
 }
 
-// Appends a text.
+/// Appends a text.
 fn push(said: &mut Vec<u8>, text: &str) -> Result<(), OutOfMemory> {
     said.extend_from_slice(text.as_bytes())?;
     Ok(())
 }
 
-// Appends what was printed, or what a long text is known by.
+/// Appends what was printed, or what a long text is known by.
 fn push_text(alloc: Global, said: &mut Vec<u8>, text: &[u8]) -> Result<(), OutOfMemory> {
     if text.len() <= REPEATED {
         said.extend_from_slice(text)?;
@@ -61,7 +61,7 @@ fn push_text(alloc: Global, said: &mut Vec<u8>, text: &[u8]) -> Result<(), OutOf
     )
 }
 
-// Appends what was done with the links, and a line for each reply.
+/// Appends what was done with the links, and a line for each reply.
 fn push_links(alloc: Global, said: &mut Vec<u8>, links: &Links) -> Result<(), OutOfMemory> {
     let accepted = links.accepted;
     let returned = links.replies.len();
@@ -78,7 +78,7 @@ fn push_links(alloc: Global, said: &mut Vec<u8>, links: &Links) -> Result<(), Ou
     Ok(())
 }
 
-// Appends bytes as a text, in which those that are no printed character stand behind a backslash.
+/// Appends bytes as a text, in which those that are no printed character stand after a backslash.
 fn push_escaped(alloc: Global, said: &mut Vec<u8>, bytes: &[u8]) -> Result<(), OutOfMemory> {
     for byte in bytes {
         match *byte {

@@ -9,7 +9,7 @@ use Rattle.ots_tree.specs.Wire.{Node, Path, below, paths}
 use Rattle.ots_canon.specs.Order.{Has}
 use Rattle.ots_canon.specs.Places.{Among}
 use Rattle.ots_canon.proofs.Rising.{has_left, has_right, has_either}
-use Rattle.ots_canon.proofs.Growing.{front, front_first}
+use Rattle.ots_canon.proofs.Growing.{prefix, prefix_first}
 
 pub contains_none : {X : Type 0} (x : X) → Contains [] x → ⊥
 contains_none x h = absurd (let l = h.1 in omega arith)
@@ -97,4 +97,4 @@ is_below o (q ∷ qs) p (inr h) = let g = is_below o qs p h in record { inner = 
 
 -- each node has a path
 pub some_has : (t : Node) → (p : Path) × Has (paths t) p
-some_has t = let h = front_first t in (front t, subst (λ (z : List Path). Has z (front t)) (sym h.are) (inl refl))
+some_has t = let h = prefix_first t in (prefix t, subst (λ (z : List Path). Has z (prefix t)) (sym h.are) (inl refl))

@@ -29,8 +29,8 @@ here t xs = record { rest = xs; are = refl }
 alone : (t : Node) → IsNodeAt (pre t) 0 t
 alone t = record { rest = []; are = sym (append-nil (pre t)) }
 
-behind : (t u : Node) → IsNodeAt (pre t ++ pre u) (length (pre t)) u
-behind t u = record { rest = []; are = drop-append_seam (pre t) (pre u) ∙ sym (append-nil (pre u)) }
+after : (t u : Node) → IsNodeAt (pre t ++ pre u) (length (pre t)) u
+after t u = record { rest = []; are = drop-append_seam (pre t) (pre u) ∙ sym (append-nil (pre u)) }
 
 -- ---- of one tree
 
@@ -58,7 +58,7 @@ pub two_roots : {ts us vs : List Token} {n : ℕ} → vs ≡ ts ++ us → IsPre 
 two_roots {ts} {us} {vs} {n} e p q len =
     subst (λ (z : List Token). All (HasNode z) (0 ∷ n ∷ [])) ((λ i. p.1 i ++ q.1 i) ∙ sym e)
     (both_places 0 n (record { node = p.0; is_at = here p.0 (pre q.0) })
-    (subst (HasNode (pre p.0 ++ pre q.0)) (ap length p.1 ∙ sym len) (record { node = q.0; is_at = behind p.0 q.0 })))
+    (subst (HasNode (pre p.0 ++ pre q.0)) (ap length p.1 ∙ sym len) (record { node = q.0; is_at = after p.0 q.0 })))
 
 pub two_nodes : {ts us vs : List Token} → vs ≡ ts ++ us → IsPre ts → IsPre us → AreNodes vs
 two_nodes e p q = subst AreNodes ((λ i. p.1 i ++ q.1 i) ∙ sym e) (nodes_of_both p.0 q.0)
@@ -67,7 +67,7 @@ of_two : (t u : Node) (vs : List Token) → IsFormOf (pre t ++ pre u) (0 ∷ len
 of_two t u vs f = canon_tree (pre t ++ pre u) (0 ∷ length (pre t) ∷ []) (paths t ++ paths u) vs (λ p.
     onward (union (HasAt (pre t ++ pre u)) (0 ∷ []) (length (pre t) ∷ []) p)
     (onward (both (onward (at_one (HasAt (pre t ++ pre u)) 0 p) (has_here (pre t ++ pre u) 0 t (here t (pre u)) p))
-    (onward (at_one (HasAt (pre t ++ pre u)) (length (pre t)) p) (has_here (pre t ++ pre u) (length (pre t)) u (behind t u) p)))
+    (onward (at_one (HasAt (pre t ++ pre u)) (length (pre t)) p) (has_here (pre t ++ pre u) (length (pre t)) u (after t u) p)))
     (has_append (paths t) (paths u) p))) f
 
 pub join_of : {ts us vs out tree : List Token} {n : ℕ} → vs ≡ ts ++ us → IsPre ts → IsPre us → n ≡ length ts → IsFormOf vs (0 ∷ n ∷ []) out → tree ≡ out → IsJoinOf ts us tree

@@ -1,4 +1,4 @@
--- Operations that follow alike behind several places.
+-- Operations that follow alike after several places.
 use Rattle.std.proofs.Common.{◌≡◌, ◌↔◌, ℕ, zero, suc, ◌+◌, ◌<◌, ◌≤◌, List, [], ◌∷◌, length, get_or, refl, sym, ap, subst, ◌∙◌, inl, inr, arith}
 use Rattle.std.specs.Prelude.{All, slice_get, Option, Some, None, true}
 use Rattle.std.proofs.lemmas.Bool.{cases_lt, cases_order}
@@ -11,11 +11,11 @@ use Rattle.ots_tree.specs.declared.token.Token.TheVariants as token
 use Rattle.ots_tree.specs.Wire.{last, step, Path}
 use Rattle.ots_canon.specs.Steps.{step_of, step_at}
 use Rattle.ots_canon.specs.Tags.{is_op}
-use Rattle.ots_canon.specs.Places.{IsItem, AreEnds, HasAt, HasBehind, size, total, AreBehind}
+use Rattle.ots_canon.specs.Places.{IsItem, AreEnds, HasAt, HasAfter, size, total, AreAfter}
 use Rattle.ots_canon.specs.Chains.{shifted, AreAlike, IsChain}
 use Rattle.ots_canon.proofs.Nodes.{node_in, item_has, length_op, op_item, size_is}
 use Rattle.ots_canon.proofs.Among.{alike, back, onward, both, union, at_one}
-use Rattle.ots_canon.proofs.Gathering.{behind_none, behind_at, behind_node, op_here}
+use Rattle.ots_canon.proofs.Gathering.{after_none, after_at, after_node, op_here}
 
 -- ---- an operation at a place
 
@@ -81,10 +81,10 @@ stepped {ts} {first} {k} {d} h =
 
 -- ---- one step
 
--- the node behind the item at a place is the item at the next place
+-- the node after the item at a place is the item at the next place
 pub record IsStep (ts : List Token) (es : List ℕ) (k : ℕ) : Type 0 where
   item : IsItem ts (k + 1)
-  same : (p : Path) → HasBehind ts k p ↔ HasAt ts (k + 1) p
+  same : (p : Path) → HasAfter ts k p ↔ HasAt ts (k + 1) p
   less : size es (k + 1) + 1 ≤ size es k
 
 step_of_alike : {ts : List Token} {es : List ℕ} {first k d : ℕ} → AreEnds ts es → IsItem ts k → AreAlike ts first k (suc d) → IsStep ts es k
@@ -95,11 +95,11 @@ step_of_alike {ts} {es} {first} {k} {d} ends i h =
     let e1 : first + 0 + 1 ≡ first + 1 = omega arith in
     let next : is_op (slice_get ts (k + 1)) ≡ true = alike_op ts (k + 1) (first + 1) (h.same 1 (omega arith)) (subst (λ (z : ℕ). is_op (slice_get ts z) ≡ true) e1 ops.1) in
     let at = op_here {es = es} i ends here in
-    let item = op_item (behind_node at) next in
-    let size_one = size_is ts es (k + 1) at.node ends at.behind in
+    let item = op_item (after_node at) next in
+    let size_one = size_is ts es (k + 1) at.node ends at.after in
     let size_all = size_is ts es k (last (step at.op at.node)) ends at.is_at in
     let all = length_op at.op at.node in
-    record { item = record { item = step item.0 item.1; is_at = item.2 }; same = λ p. behind_at at p; less = omega arith }
+    record { item = record { item = step item.0 item.1; is_at = item.2 }; same = λ p. after_at at p; less = omega arith }
 
 tail_all : (P : ℕ → Type 0) {k : ℕ} (ks : List ℕ) → All P (k ∷ ks) → All P ks
 tail_all P ks h = λ j d l. h (suc j) d (omega arith)
@@ -109,11 +109,11 @@ items_next {ts} [] h = All-nil (IsItem ts)
 items_next {ts} {es} (k ∷ ks) h =
     All-append (IsItem ts) ((k + 1) ∷ []) (shifted 1 ks) (All-push (IsItem ts) [] (k + 1) (All-nil (IsItem ts)) (h 0 0 (omega arith)).item) (items_next ks (tail_all (IsStep ts es) ks h))
 
-pub step_behind : {ts : List Token} {es : List ℕ} (ks : List ℕ) → All (IsStep ts es) ks → AreBehind ts es ks (shifted 1 ks)
-step_behind {ts} {es} [] h = behind_none ts es
-step_behind {ts} {es} (k ∷ ks) h =
+pub step_after : {ts : List Token} {es : List ℕ} (ks : List ℕ) → All (IsStep ts es) ks → AreAfter ts es ks (shifted 1 ks)
+step_after {ts} {es} [] h = after_none ts es
+step_after {ts} {es} (k ∷ ks) h =
     let s = h 0 0 (omega arith) in
-    let rest = step_behind ks (tail_all (IsStep ts es) ks h) in
+    let rest = step_after ks (tail_all (IsStep ts es) ks h) in
     let less = s.less in
     let few = rest.few in
     let sum_all = sum_by-append (size es) (k ∷ []) ks in
@@ -122,7 +122,7 @@ step_behind {ts} {es} (k ∷ ks) h =
       covers = record {
         items = items_next (k ∷ ks) h;
         same = λ p. onward (union (HasAt ts) ((k + 1) ∷ []) (shifted 1 ks) p) (onward (both (onward (at_one (HasAt ts) (k + 1) p) (back (s.same p))) (rest.covers.same p))
-            (back (onward (union (HasBehind ts) (k ∷ []) ks p) (both (at_one (HasBehind ts) k p) alike))));
+            (back (onward (union (HasAfter ts) (k ∷ []) ks p) (both (at_one (HasAfter ts) k p) alike))));
       };
       few = omega arith;
     }
@@ -166,7 +166,7 @@ pub record IsNext (ts : List Token) (es run : List ℕ) (d : ℕ) : Type 0 where
   pub first : get_or (shifted 1 run) 0 0 ≡ get_or run 0 0 + 1
   pub is_run : IsRun ts (shifted 1 run)
   pub chain : IsChain ts (shifted 1 run) d
-  pub are_behind : AreBehind ts es run (shifted 1 run)
+  pub are_after : AreAfter ts es run (shifted 1 run)
 
 pub next_run : {ts : List Token} {es : List ℕ} {run : List ℕ} {d : ℕ} → AreEnds ts es → IsRun ts run → IsChain ts run (suc d) → IsNext ts es run d
 next_run {ts} {es} {run} {d} ends r c =
@@ -187,19 +187,19 @@ next_run {ts} {es} {run} {d} ends r c =
           let m : k < length run = omega arith in
           subst (λ (z : ℕ). AreAlike ts z (get_or (shifted 1 run) k e) d) (sym first)
           (subst (λ (z : ℕ). AreAlike ts (get_or run 0 0 + 1) z d) (sym (get_or-map (λ (k : ℕ). k + 1) run k 0 e m)) (stepped (c k 0 m)));
-      are_behind = step_behind run steps;
+      are_after = step_after run steps;
     }
 
 pub chain_items : {ts : List Token} {es : List ℕ} (d : ℕ) (run : List ℕ) → AreEnds ts es → IsRun ts run → IsChain ts run d → All (IsItem ts) (shifted d run)
 chain_items {ts} zero run ends r c = subst (All (IsItem ts)) (sym (shifted_none run)) r.items
 chain_items {ts} (suc d) run ends r c = let n = next_run ends r c in subst (All (IsItem ts)) (sym (shifted_more d run)) (chain_items d (shifted 1 run) ends n.is_run n.chain)
 
--- what stands behind so many steps has no more tokens
+-- what stands after so many steps has no more tokens
 pub chain_few : {ts : List Token} {es : List ℕ} (d : ℕ) (run : List ℕ) → AreEnds ts es → IsRun ts run → IsChain ts run d → total es (shifted d run) ≤ total es run
 chain_few {es = es} zero run ends r c = let e = ap (total es) (shifted_none run) in omega arith
 chain_few {es = es} (suc d) run ends r c =
     let n = next_run ends r c in
     let e = ap (total es) (shifted_more d run) in
     let rest = chain_few d (shifted 1 run) ends n.is_run n.chain in
-    let few = n.are_behind.few in
+    let few = n.are_after.few in
     omega arith

@@ -14,7 +14,7 @@ use Rattle.ots_tree.specs.Wire.{Node, Item, last, attested, step, Path, below, p
 use Rattle.ots_canon.specs.Order.{op_step, end_step, Has}
 use Rattle.ots_canon.specs.Canonical.{place, IsCanonical, IsCanonicalItem}
 use Rattle.ots_canon.specs.Steps.{step_at}
-use Rattle.ots_canon.specs.Places.{IsNodeAt, IsItem, AreEnds, Among, HasAmong, HasBehind, AreBehind}
+use Rattle.ots_canon.specs.Places.{IsNodeAt, IsItem, AreEnds, Among, HasAmong, HasAfter, AreAfter}
 use Rattle.ots_canon.specs.Chains.{shifted, IsChain}
 use Rattle.ots_canon.proofs.Orders.{same_op, same_end, op_step-apart}
 use Rattle.ots_canon.proofs.Joins.{token_limits}
@@ -54,7 +54,7 @@ all_ends ts a k (attested b) limits ha h e =
     subst (λ (z : Attestation). IsNodeAt ts k (last (attested z))) (same_end b a hb ha e) h
 all_ends ts a k (step o t) limits ha h e = absurd (op_step-apart o a e)
 
--- or that operation, with some node behind it
+-- or that operation, with some node after it
 record HasOp (ts : List Token) (o : Op) (k : ℕ) : Type 0 where
   node : Node
   is_at : IsNodeAt ts k (last (step o node))
@@ -63,13 +63,13 @@ all_ops : (ts : List Token) (o : Op) (k : ℕ) (i : Item) → IsNodeAt ts k (las
 all_ops ts o k (attested b) h e = absurd (op_step-apart o b (sym e))
 all_ops ts o k (step u t) h e = record { node = t; is_at = subst (λ (z : Op). IsNodeAt ts k (last (step z t))) (same_op u o e) h }
 
-one_behind : {o u : Op} {t v : Node} → last (step o t) ≡ last (step u v) → t ≡ v
-one_behind e = cc
+one_after : {o u : Op} {t v : Node} → last (step o t) ≡ last (step u v) → t ≡ v
+one_after e = cc
 
 not_both : {a : Attestation} {o : Op} {t : Node} → last (step o t) ≡ last (attested a) → ⊥
 not_both e = cc
 
--- a run of attestations, behind which nothing stands
+-- a run of attestations, after which nothing stands
 run_of_ends : {ts : List Token} {run : List ℕ} (a : Attestation) → IsRun ts run → ((j : ℕ) → Contains run j → IsNodeAt ts j (last (attested a))) → RunComes ts run (token.Attestation a ∷ [])
 run_of_ends {ts} {run} a r ats =
     let first = Contains-get_or run 0 0 r.some in
@@ -84,11 +84,11 @@ run_of_ends {ts} {run} a r ats =
       are = refl;
     }
 
-none_behind_ends : {ts : List Token} {run : List ℕ} (a : Attestation) (p : Path) → ((j : ℕ) → Contains run j → IsNodeAt ts j (last (attested a))) → Among (HasBehind ts) run p → ⊥
-none_behind_ends {ts} a p ats h = not_both (one_node ts h.place (last (step h.has.op h.has.node)) (last (attested a)) h.has.is_at (ats h.place h.listed))
+none_after_ends : {ts : List Token} {run : List ℕ} (a : Attestation) (p : Path) → ((j : ℕ) → Contains run j → IsNodeAt ts j (last (attested a))) → Among (HasAfter ts) run p → ⊥
+none_after_ends {ts} a p ats h = not_both (one_node ts h.place (last (step h.has.op h.has.node)) (last (attested a)) h.has.is_at (ats h.place h.listed))
 
 -- a run of operations
-run_of_ops : {ts : List Token} {es run behind : List ℕ} (o : Op) (v : Node) → IsRun ts run → ((j : ℕ) → Contains run j → HasOp ts o j) → AreBehind ts es run behind → Makes ts behind v
+run_of_ops : {ts : List Token} {es run after : List ℕ} (o : Op) (v : Node) → IsRun ts run → ((j : ℕ) → Contains run j → HasOp ts o j) → AreAfter ts es run after → Makes ts after v
     → RunComes ts run (token.Op o ∷ pre v)
 run_of_ops {ts} {run = run} o v r ats b m = record {
   item = step o v;
@@ -110,16 +110,16 @@ run_of_ops {ts} {run = run} o v r ats b m = record {
         let g = is_below o (paths v) p h in
         let hb = (b.covers.same g.inner).0 ((m.same g.inner).1 g.has) in
         let at = ats hb.place hb.listed in
-        let same = one_behind (one_node ts hb.place (last (step hb.has.op hb.has.node)) (last (step o at.node)) hb.has.is_at at.is_at) in
+        let same = one_after (one_node ts hb.place (last (step hb.has.op hb.has.node)) (last (step o at.node)) hb.has.is_at at.is_at) in
         let has = has_below o (paths at.node) g.inner (subst (λ (z : Node). Has (paths z) g.inner) same hb.has.has) in
         record { place = hb.place; listed = hb.listed; has = (has_here ts hb.place (last (step o at.node)) at.is_at p).1 (subst (Has (map (below o) (paths at.node))) g.is has) }
 
--- what stands at the first place comes first, and then the tokens of the node with the items behind
-pub run_comes : {ts front : List Token} {es run behind : List ℕ} → AllByRecursion IsToken ts → IsRun ts run → AreBehind ts es run behind → AreMade ts behind front
-    → RunComes ts run (get_or ts (get_or run 0 0) token.Fork ∷ front)
-run_comes {ts} {front} {es} {run} {behind} limits r b made =
+-- what stands at the first place comes first, and then the tokens of the node with the items after
+pub run_comes : {ts prefix : List Token} {es run after : List ℕ} → AllByRecursion IsToken ts → IsRun ts run → AreAfter ts es run after → AreMade ts after prefix
+    → RunComes ts run (get_or ts (get_or run 0 0) token.Fork ∷ prefix)
+run_comes {ts} {prefix} {es} {run} {after} limits r b made =
     let i = r.items 0 0 r.some in
-    subst (λ (z : Token). RunComes ts run (z ∷ front)) (sym (read_is ts (get_or run 0 0) (last i.item) token.Fork i.is_at)) (by i.item i.is_at made)
+    subst (λ (z : Token). RunComes ts run (z ∷ prefix)) (sym (read_is ts (get_or run 0 0) (last i.item) token.Fork i.is_at)) (by i.item i.is_at made)
   where
     same_place : (j : ℕ) (i : Item) → Contains run j → IsNodeAt ts (get_or run 0 0) (last i) → (it : IsItem ts j) → place it.item ≡ place i
     same_place j i c h it = sym (step_is ts j it.item it.is_at) ∙ All-contains (λ (k : ℕ). step_at ts k ≡ step_at ts (get_or run 0 0)) run j r.alike c ∙ step_is ts (get_or run 0 0) i h
@@ -129,15 +129,15 @@ run_comes {ts} {front} {es} {run} {behind} limits r b made =
         let it = All-contains (IsItem ts) run j r.items c in
         all_ends ts a j it.item limits (end_at ts (get_or run 0 0) a limits h) it.is_at (same_place j (attested a) c h it)
 
-    by : (i : Item) → IsNodeAt ts (get_or run 0 0) (last i) → AreMade ts behind front → RunComes ts run (head_token (last i) ∷ front)
-    by (attested a) h (inl m) = let p = some_has m.0 in absurd (none_behind_ends a p.0 (ends a h) ((b.covers.same p.0).0 ((m.1.same p.0).1 p.1)))
+    by : (i : Item) → IsNodeAt ts (get_or run 0 0) (last i) → AreMade ts after prefix → RunComes ts run (head_token (last i) ∷ prefix)
+    by (attested a) h (inl m) = let p = some_has m.0 in absurd (none_after_ends a p.0 (ends a h) ((b.covers.same p.0).0 ((m.1.same p.0).1 p.1)))
     by (attested a) h (inr n) = subst (λ (z : List Token). RunComes ts run (token.Attestation a ∷ z)) (sym n.1) (run_of_ends a r (ends a h))
     by (step o t) h (inl m) =
         subst (λ (z : List Token). RunComes ts run (token.Op o ∷ z)) (sym m.2)
         (run_of_ops o m.0 r (λ j c. let it = All-contains (IsItem ts) run j r.items c in all_ops ts o j it.item it.is_at (same_place j (step o t) c h it)) b m.1)
     by (step o t) h (inr n) =
         let p = some_has t in
-        let has : Among (HasBehind ts) run p.0 = record { place = get_or run 0 0; listed = Contains-get_or run 0 0 r.some; has = record { op = o; node = t; is_at = h; has = p.1 } } in
+        let has : Among (HasAfter ts) run p.0 = record { place = get_or run 0 0; listed = Contains-get_or run 0 0 r.some; has = record { op = o; node = t; is_at = h; has = p.1 } } in
         absurd (among_none (subst (λ (z : List ℕ). HasAmong ts z p.0) n.0 ((b.covers.same p.0).1 has)))
 
 -- ---- many steps
@@ -165,15 +165,15 @@ line_more ts first from at {now} {x} l e pushed =
 run_within : {ts : List Token} {run : List ℕ} {d : ℕ} → IsRun ts run → IsChain ts run d → get_or run 0 0 < length ts
 run_within r c = let w = (c 0 0 r.some).within.0 in omega arith
 
--- their tokens come first, and then those of the node behind
-pub chain_comes : {ts front : List Token} {es behind : List ℕ} (d : ℕ) (run : List ℕ) → AllByRecursion IsToken ts → AreEnds ts es → IsRun ts run → IsChain ts run d
-    → AreBehind ts es (shifted d run) behind → AreMade ts behind front → RunComes ts run (take (suc d) (drop (get_or run 0 0) ts) ++ front)
-chain_comes {ts} {front} {es} {behind} zero run limits ends r c b made =
-    subst (λ (z : List Token). RunComes ts run (z ++ front)) (sym (line_first ts (get_or run 0 0) 0 (run_within r c)))
-    (run_comes limits r (subst (λ (z : List ℕ). AreBehind ts es z behind) (shifted_none run) b) made)
-chain_comes {ts} {front} {es} {behind} (suc d) run limits ends r c b made =
+-- their tokens come first, and then those of the node after
+pub chain_comes : {ts prefix : List Token} {es after : List ℕ} (d : ℕ) (run : List ℕ) → AllByRecursion IsToken ts → AreEnds ts es → IsRun ts run → IsChain ts run d
+    → AreAfter ts es (shifted d run) after → AreMade ts after prefix → RunComes ts run (take (suc d) (drop (get_or run 0 0) ts) ++ prefix)
+chain_comes {ts} {prefix} {es} {after} zero run limits ends r c b made =
+    subst (λ (z : List Token). RunComes ts run (z ++ prefix)) (sym (line_first ts (get_or run 0 0) 0 (run_within r c)))
+    (run_comes limits r (subst (λ (z : List ℕ). AreAfter ts es z after) (shifted_none run) b) made)
+chain_comes {ts} {prefix} {es} {after} (suc d) run limits ends r c b made =
     let n = next_run ends r c in
-    let rest = chain_comes d (shifted 1 run) limits ends n.is_run n.chain (subst (λ (z : List ℕ). AreBehind ts es z behind) (shifted_more d run) b) made in
+    let rest = chain_comes d (shifted 1 run) limits ends n.is_run n.chain (subst (λ (z : List ℕ). AreAfter ts es z after) (shifted_more d run) b) made in
     let e : get_or run 0 0 + 1 ≡ suc (get_or run 0 0) = omega arith in
-    subst (λ (z : List Token). RunComes ts run (z ++ front)) (ap (λ (z : ℕ). get_or ts (get_or run 0 0) token.Fork ∷ take (suc d) (drop z ts)) (n.first ∙ e) ∙ sym (line_first ts (get_or run 0 0) (suc d) (run_within r c)))
-    (run_comes limits r n.are_behind (inl (last rest.item, record { canonical = rest.canonical; same = rest.same }, sym rest.are)))
+    subst (λ (z : List Token). RunComes ts run (z ++ prefix)) (ap (λ (z : ℕ). get_or ts (get_or run 0 0) token.Fork ∷ take (suc d) (drop z ts)) (n.first ∙ e) ∙ sym (line_first ts (get_or run 0 0) (suc d) (run_within r c)))
+    (run_comes limits r n.are_after (inl (last rest.item, record { canonical = rest.canonical; same = rest.same }, sym rest.are)))

@@ -7,8 +7,8 @@ use Rattle.std.proofs.lemmas.List.Sums.{sum_by-append, sum_by_push}
 use Rattle.ots_tree.specs.declared.token.Token.{Token}
 use Rattle.ots_tree.specs.Wire.{last, more, step, Path, paths, paths_of_item, pre_item}
 use Rattle.ots_canon.specs.Tags.{is_fork, is_op}
-use Rattle.ots_canon.specs.Places.{IsNodeAt, HasNode, IsItem, AreEnds, HasAt, HasAmong, HasBehind, Covers, size, total, Gathers, GathersBehind, AreBehind, IsFormOf}
-use Rattle.ots_canon.proofs.Nodes.{item_has, node_in, behind_op, behind_fork, behind_item, some_token, length_op, length_more, token_is, item_node, size_is, has_here}
+use Rattle.ots_canon.specs.Places.{IsNodeAt, HasNode, IsItem, AreEnds, HasAt, HasAmong, HasAfter, Covers, size, total, Gathers, GathersAfter, AreAfter, IsFormOf}
+use Rattle.ots_canon.proofs.Nodes.{item_has, node_in, after_op, after_fork, after_item, some_token, length_op, length_more, token_is, item_node, size_is, has_here}
 use Rattle.ots_canon.proofs.Ends.{AtFork, AtOp, at_fork, at_op, weaker}
 use Rattle.ots_canon.proofs.Among.{contains_some, alike, back, onward, both, regrouped, among_none, union, pushed, has_append, some_has}
 
@@ -39,14 +39,14 @@ fork_paths {ts} {es} {k} f p =
     subst (λ (z : ℕ). HasAt ts k p ↔ (HasAt ts (k + 1) p ⊎ HasAt ts z p)) (sym f.next)
     (onward (has_here ts k (more f.item f.node) f.is_at p)
     (onward (back (has_append (paths_of_item f.item) (paths f.node) p))
-    (back (both (has_here ts (k + 1) (last f.item) (behind_fork ts k f.item f.node f.is_at) p)
-    (has_here ts (k + 1 + length (pre_item f.item)) f.node (behind_item ts k f.item f.node f.is_at) p)))))
+    (back (both (has_here ts (k + 1) (last f.item) (after_fork ts k f.item f.node f.is_at) p)
+    (has_here ts (k + 1 + length (pre_item f.item)) f.node (after_item ts k f.item f.node f.is_at) p)))))
 
 pub gathering_more : {ts : List Token} {es : List ℕ} {node at : ℕ} {before now : List ℕ} (after : List ℕ) → AreEnds ts es → AtFork ts es at
     → after ≡ now ++ (at + 1) ∷ [] → Gathering ts es node at before now → Gathering ts es node (get_or es (at + 1) 0) before after
 gathering_more {ts} {es} {node} {at} {before} {now} after ends f e g =
-    let one = behind_fork ts at f.item f.node f.is_at in
-    let two : IsNodeAt ts (get_or es (at + 1) 0) f.node = subst (λ (z : ℕ). IsNodeAt ts z f.node) (sym f.next) (behind_item ts at f.item f.node f.is_at) in
+    let one = after_fork ts at f.item f.node f.is_at in
+    let two : IsNodeAt ts (get_or es (at + 1) 0) f.node = subst (λ (z : ℕ). IsNodeAt ts z f.node) (sym f.next) (after_item ts at f.item f.node f.is_at) in
     let size_one = size_is ts es (at + 1) (last f.item) ends one in
     let size_two = size_is ts es (get_or es (at + 1) 0) f.node ends two in
     let size_all = size_is ts es at (more f.item f.node) ends f.is_at in
@@ -113,42 +113,42 @@ items_some {ts} {ks} {now} l h g =
 pub form_of : {ts : List Token} {ks now : List ℕ} {us : List Token} → Covers ts (HasAt ts) ks now → IsFormOf ts now us → IsFormOf ts ks us
 form_of g f = record { node = f.node; canonical = f.canonical; same = λ p. onward (back (g.same p)) (f.same p); are = f.are }
 
--- ---- the items behind operations
+-- ---- the items after operations
 
-pub behind_none : (ts : List Token) (es : List ℕ) → AreBehind ts es [] []
-behind_none ts es = record { covers = covers_none ts (HasBehind ts); few = omega arith }
+pub after_none : (ts : List Token) (es : List ℕ) → AreAfter ts es [] []
+after_none ts es = record { covers = covers_none ts (HasAfter ts); few = omega arith }
 
-behind_more : {ts : List Token} {es ks before : List ℕ} (k : ℕ) (ls : List ℕ) → All (IsItem ts) ls → ((p : Path) → HasAmong ts ls p ↔ HasBehind ts k p) → total es ls + 1 ≤ size es k
-    → AreBehind ts es ks before → AreBehind ts es (ks ++ k ∷ []) (before ++ ls)
-behind_more {ts} {es} {ks} {before} k ls items same l b =
+after_more : {ts : List Token} {es ks before : List ℕ} (k : ℕ) (ls : List ℕ) → All (IsItem ts) ls → ((p : Path) → HasAmong ts ls p ↔ HasAfter ts k p) → total es ls + 1 ≤ size es k
+    → AreAfter ts es ks before → AreAfter ts es (ks ++ k ∷ []) (before ++ ls)
+after_more {ts} {es} {ks} {before} k ls items same l b =
     let added = sum_by_push (size es) ks k in
     let joined = sum_by-append (size es) before ls in
     let longer = length-append ks (k ∷ []) in
     let few = b.few in
     record { covers = covers_more k ls items same b.covers; few = omega arith }
 
-pub behind_at : {ts : List Token} {es : List ℕ} {k : ℕ} → AtOp ts es k → (p : Path) → HasBehind ts k p ↔ HasAt ts (k + 1) p
-behind_at {ts} {es} {k} f p = (
-  (λ h. record { node = h.node; is_at = behind_op ts k h.op h.node h.is_at; has = h.has }),
-  (λ h. record { op = f.op; node = f.node; is_at = f.is_at; has = (has_here ts (k + 1) f.node f.behind p).0 h }),
+pub after_at : {ts : List Token} {es : List ℕ} {k : ℕ} → AtOp ts es k → (p : Path) → HasAfter ts k p ↔ HasAt ts (k + 1) p
+after_at {ts} {es} {k} f p = (
+  (λ h. record { node = h.node; is_at = after_op ts k h.op h.node h.is_at; has = h.has }),
+  (λ h. record { op = f.op; node = f.node; is_at = f.is_at; has = (has_here ts (k + 1) f.node f.after p).0 h }),
 )
 
 -- an operation
 pub gathered_op : {ts : List Token} {es : List ℕ} {k : ℕ} {before after : List ℕ} → AreEnds ts es → AtOp ts es k
-    → Gathers ts es (k + 1) before after → GathersBehind ts es k before after
+    → Gathers ts es (k + 1) before after → GathersAfter ts es k before after
 gathered_op {ts} {es} {k} ends at g =
-    let size_one = size_is ts es (k + 1) at.node ends at.behind in
+    let size_one = size_is ts es (k + 1) at.node ends at.after in
     let size_all = size_is ts es k (last (step at.op at.node)) ends at.is_at in
     let all = length_op at.op at.node in
     let few = g.few in
-    record { more = g.more; are = g.are; items = g.items; same = λ p. onward (g.same p) (back (behind_at at p)); few = omega arith }
+    record { more = g.more; are = g.are; items = g.items; same = λ p. onward (g.same p) (back (after_at at p)); few = omega arith }
 
--- nothing stands behind an attestation
-pub gathered_none : {ts : List Token} {es : List ℕ} {k : ℕ} (before : List ℕ) → AreEnds ts es → IsItem ts k → is_op (slice_get ts k) ≡ false → GathersBehind ts es k before before
+-- nothing stands after an attestation
+pub gathered_none : {ts : List Token} {es : List ℕ} {k : ℕ} (before : List ℕ) → AreEnds ts es → IsItem ts k → is_op (slice_get ts k) ≡ false → GathersAfter ts es k before before
 gathered_none {ts} {es} {k} before ends i no_op =
     let size_all = size_is ts es k (last i.item) ends i.is_at in
     let some = some_token (last i.item) in
-    let none : (p : Path) → HasBehind ts k p → ⊥ = λ p a. (let g = ap is_op (token_is ts k (last (step a.op a.node)) a.is_at) in absurd cc) in
+    let none : (p : Path) → HasAfter ts k p → ⊥ = λ p a. (let g = ap is_op (token_is ts k (last (step a.op a.node)) a.is_at) in absurd cc) in
     record {
       more = [];
       are = sym (append-nil before);
@@ -161,12 +161,12 @@ gathered_none {ts} {es} {k} before ends i no_op =
 pub op_here : {ts : List Token} {es : List ℕ} {k : ℕ} → IsItem ts k → AreEnds ts es → is_op (slice_get ts k) ≡ true → AtOp ts es k
 op_here {ts} {es} {k} i ends f = at_op (weaker ts es (k + 1) ends) (item_has i) f
 
-pub behind_next : {ts : List Token} {es : List ℕ} (run : List ℕ) (n : ℕ) {before after : List ℕ} → n < length run
-    → GathersBehind ts es (get_or run n 0) before after → AreBehind ts es (take n run) before → AreBehind ts es (take (n + 1) run) after
-behind_next {ts} {es} run n {before} l g b =
-    subst (AreBehind ts es (take (n + 1) run)) (sym g.are)
-    (subst (λ (z : List ℕ). AreBehind ts es z (before ++ g.more)) (sym (take_more run n 0 l))
-    (behind_more (get_or run n 0) g.more g.items g.same g.few b))
+pub after_next : {ts : List Token} {es : List ℕ} (run : List ℕ) (n : ℕ) {before after : List ℕ} → n < length run
+    → GathersAfter ts es (get_or run n 0) before after → AreAfter ts es (take n run) before → AreAfter ts es (take (n + 1) run) after
+after_next {ts} {es} run n {before} l g b =
+    subst (AreAfter ts es (take (n + 1) run)) (sym g.are)
+    (subst (λ (z : List ℕ). AreAfter ts es z (before ++ g.more)) (sym (take_more run n 0 l))
+    (after_more (get_or run n 0) g.more g.items g.same g.few b))
 
-pub behind_node : {ts : List Token} {es : List ℕ} {k : ℕ} → AtOp ts es k → HasNode ts (k + 1)
-behind_node h = record { node = h.node; is_at = h.behind }
+pub after_node : {ts : List Token} {es : List ℕ} {k : ℕ} → AtOp ts es k → HasNode ts (k + 1)
+after_node h = record { node = h.node; is_at = h.after }

@@ -40,7 +40,7 @@ mutual
       Contains-append_right (token.Op o ∷ []) (pre t) (token.Attestation p.end) (subst (λ (z : Path). Contains (pre t) (token.Attestation z.end)) b.is (path_token t b.inner b.has))
 
 -- a path that ends in an attestation
-pub record Ending (ps : List Path) (a : Attestation) : Type 0 where
+pub record EndsIn (ps : List Path) (a : Attestation) : Type 0 where
   pub path : Path
   pub has : Has ps path
   pub ends : path.end ≡ a
@@ -55,7 +55,7 @@ no_op : {o : Op} {a : Attestation} → token.Op o ≡ token.Attestation a → �
 no_op e = cc
 
 mutual
-  pub token_path : (t : Node) (a : Attestation) → Contains (pre t) (token.Attestation a) → Ending (paths t) a
+  pub token_path : (t : Node) (a : Attestation) → Contains (pre t) (token.Attestation a) → EndsIn (paths t) a
   token_path (last i) a h = token_item i a h
   token_path (more i t) a h = elim (Contains-append_cases (token.Fork ∷ []) (pre_item i ++ pre t) (token.Attestation a) h) [
     | inl f ↦ absurd (no_fork (contains_one token.Fork (token.Attestation a) f))
@@ -65,7 +65,7 @@ mutual
     ]
   ]
 
-  token_item : (i : Item) (a : Attestation) → Contains (pre_item i) (token.Attestation a) → Ending (paths_of_item i) a
+  token_item : (i : Item) (a : Attestation) → Contains (pre_item i) (token.Attestation a) → EndsIn (paths_of_item i) a
   token_item (attested b) a h = record { path = path_of [] b; has = inl refl; ends = same_attestation (contains_one (token.Attestation b) (token.Attestation a) h) }
   token_item (step o t) a h = elim (Contains-append_cases (token.Op o ∷ []) (pre t) (token.Attestation a) h) [
     | inl f ↦ absurd (no_op (contains_one (token.Op o) (token.Attestation a) f))
@@ -153,10 +153,10 @@ pub leads_op : {ts : List Token} {es : List ℕ} {k height : ℕ} → AtOp ts es
 leads_op {ts} {es} {k} {height} f = (
   (λ h.
       let b = is_below f.op (paths f.node) h.path ((has_here ts k (last (step f.op f.node)) f.is_at h.path).0 h.has) in
-      record { path = b.inner; has = (has_here ts (k + 1) f.node f.behind b.inner).1 b.has; ends = ap (λ (z : Path). z.end) b.is ∙ h.ends }),
+      record { path = b.inner; has = (has_here ts (k + 1) f.node f.after b.inner).1 b.has; ends = ap (λ (z : Path). z.end) b.is ∙ h.ends }),
   (λ h. record {
     path = below f.op h.path;
-    has = (has_here ts k (last (step f.op f.node)) f.is_at (below f.op h.path)).1 (has_below f.op (paths f.node) h.path ((has_here ts (k + 1) f.node f.behind h.path).0 h.has));
+    has = (has_here ts k (last (step f.op f.node)) f.is_at (below f.op h.path)).1 (has_below f.op (paths f.node) h.path ((has_here ts (k + 1) f.node f.after h.path).0 h.has));
     ends = h.ends;
   }),
 )

@@ -20,22 +20,22 @@ use Rattle.ots_canon.specs.Places.{IsNodeAt, HasNode, IsItem, AreNodes, AreEnds,
 pub one_node : (ts : List Token) (k : ℕ) (t u : Node) → IsNodeAt ts k t → IsNodeAt ts k u → t ≡ u
 one_node ts k t u h g = (pre-apart t u h.rest g.rest (sym h.are ∙ g.are)).0
 
--- ---- what stands behind
+-- ---- what stands after
 
 dropped : (ts xs ys : List Token) (k : ℕ) → drop k ts ≡ xs ++ ys → drop (k + length xs) ts ≡ ys
 dropped ts xs ys k e = sym (drop-drop (length xs) k ts) ∙ ap (drop (length xs)) e ∙ drop-append_seam xs ys
 
-pub behind_op : (ts : List Token) (k : ℕ) (o : Op) (t : Node) → IsNodeAt ts k (last (step o t)) → IsNodeAt ts (k + 1) t
-behind_op ts k o t h = record { rest = h.rest; are = dropped ts (token.Op o ∷ []) (pre t ++ h.rest) k h.are }
+pub after_op : (ts : List Token) (k : ℕ) (o : Op) (t : Node) → IsNodeAt ts k (last (step o t)) → IsNodeAt ts (k + 1) t
+after_op ts k o t h = record { rest = h.rest; are = dropped ts (token.Op o ∷ []) (pre t ++ h.rest) k h.are }
 
 fork_dropped : (ts : List Token) (k : ℕ) (i : Item) (t : Node) (xs : List Token) → drop k ts ≡ pre (more i t) ++ xs → drop (k + 1) ts ≡ pre_item i ++ (pre t ++ xs)
 fork_dropped ts k i t xs e = dropped ts (token.Fork ∷ []) ((pre_item i ++ pre t) ++ xs) k e ∙ append_assoc (pre_item i) (pre t) xs
 
-pub behind_fork : (ts : List Token) (k : ℕ) (i : Item) (t : Node) → IsNodeAt ts k (more i t) → IsNodeAt ts (k + 1) (last i)
-behind_fork ts k i t h = record { rest = pre t ++ h.rest; are = fork_dropped ts k i t h.rest h.are }
+pub after_fork : (ts : List Token) (k : ℕ) (i : Item) (t : Node) → IsNodeAt ts k (more i t) → IsNodeAt ts (k + 1) (last i)
+after_fork ts k i t h = record { rest = pre t ++ h.rest; are = fork_dropped ts k i t h.rest h.are }
 
-pub behind_item : (ts : List Token) (k : ℕ) (i : Item) (t : Node) → IsNodeAt ts k (more i t) → IsNodeAt ts (k + 1 + length (pre_item i)) t
-behind_item ts k i t h = record { rest = h.rest; are = dropped ts (pre_item i) (pre t ++ h.rest) (k + 1) (fork_dropped ts k i t h.rest h.are) }
+pub after_item : (ts : List Token) (k : ℕ) (i : Item) (t : Node) → IsNodeAt ts k (more i t) → IsNodeAt ts (k + 1 + length (pre_item i)) t
+after_item ts k i t h = record { rest = h.rest; are = dropped ts (pre_item i) (pre t ++ h.rest) (k + 1) (fork_dropped ts k i t h.rest h.are) }
 
 -- ---- lengths
 
@@ -140,7 +140,7 @@ one_more x ys k h = record { node = h.node; is_at = record { rest = h.is_at.rest
 pub shifted : (xs ys : List Token) (k : ℕ) → HasNode ys k → HasNode (xs ++ ys) (length xs + k)
 shifted xs ys k h = record { node = h.node; is_at = record { rest = h.is_at.rest; are = drop-append-add xs ys k ∙ h.is_at.are } }
 
--- in front, or behind
+-- in prefix, or after
 in_either : (xs ys : List Token) (n k : ℕ) → ((j : ℕ) → j < length xs → HasNode (xs ++ ys) j) → ((j : ℕ) → j < n → HasNode ys j)
     → k < length xs + n → HasNode (xs ++ ys) k
 in_either xs ys n k f g l = elim (cases_lt k (length xs)) [

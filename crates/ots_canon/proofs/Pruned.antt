@@ -20,7 +20,7 @@ use Rattle.ots_canon.specs.Order.{op_step, end_step, step_cmp, path_cmp, Has}
 use Rattle.ots_canon.specs.Canonical.{IsCanonOf}
 use Rattle.ots_canon.specs.Prune.{IsPruneOf}
 use Rattle.ots_canon.specs.Steps.{step_at}
-use Rattle.ots_canon.specs.Places.{IsNodeAt, IsItem, HasAt, HasAmong, Covers, AreBehind, Gathers, size, total}
+use Rattle.ots_canon.specs.Places.{IsNodeAt, IsItem, HasAt, HasAmong, Covers, AreAfter, Gathers, size, total}
 use Rattle.ots_canon.specs.Leading.{IsLeastHeight, is_marked, AreLeads, first_of, IsFirst, IsFirstMarked, is_of_run, line, IsFirstPath, IsLineOfFirst}
 use Rattle.ots_canon.proofs.Orders.{is_less, equal_of, step_total, same_step, same_op}
 use Rattle.ots_canon.proofs.Growing.{single, single-paths, single-canonical, path_of}
@@ -94,12 +94,12 @@ first_unmarked ts ls ks n found l m f =
 
 -- ---- one step of the walk
 
--- from the items of a group to those behind the first that leads to the height
-pub record Turn (ts : List Token) (es : List ℕ) (ls : List Bool) (height : ℕ) (ks : List ℕ) (first : ℕ) (behind : List ℕ) : Type 0 where
+-- from the items of a group to those after the first that leads to the height
+pub record Turn (ts : List Token) (es : List ℕ) (ls : List Bool) (height : ℕ) (ks : List ℕ) (first : ℕ) (after : List ℕ) : Type 0 where
   pub items : All (IsItem ts) ks
   pub marks : AreLeads ts height ls
   pub is_first : IsFirst ts ls ks first
-  pub are_behind : AreBehind ts es (filter (is_of_run ts ls first) ks) behind
+  pub are_after : AreAfter ts es (filter (is_of_run ts ls first) ks) after
 
 filter_keeps : (p : ℕ → Bool) (xs : List ℕ) (x : ℕ) → Contains xs x → p x ≡ true → Contains (filter p xs) x
 filter_keeps p [] x c e = absurd (contains_none x c)
@@ -176,24 +176,24 @@ ends_there {ts} {ls} {height} {ks} {first} a items marks f at = record {
 
 -- ---- it is an operation
 
--- what lies behind the run
-behind_run : {ts : List Token} {es : List ℕ} {ls : List Bool} {height : ℕ} {ks : List ℕ} {first : ℕ} {behind : List ℕ} {k : ℕ} {o : Op} {v : Node} {r : Path}
-    → Turn ts es ls height ks first behind → Contains ks k → IsNodeAt ts k (last (step o v)) → step_at ts first ≡ op_step o → Has (paths v) r → r.end ≡ Bitcoin height → HasAmong ts behind r
-behind_run {ts} {es} {ls} {height} {ks} {first} {behind} {k} {o} {v} {r} t c at e h ends =
+-- what lies after the run
+after_run : {ts : List Token} {es : List ℕ} {ls : List Bool} {height : ℕ} {ks : List ℕ} {first : ℕ} {after : List ℕ} {k : ℕ} {o : Op} {v : Node} {r : Path}
+    → Turn ts es ls height ks first after → Contains ks k → IsNodeAt ts k (last (step o v)) → step_at ts first ≡ op_step o → Has (paths v) r → r.end ≡ Bitcoin height → HasAmong ts after r
+after_run {ts} {es} {ls} {height} {ks} {first} {after} {k} {o} {v} {r} t c at e h ends =
     let has : HasAt ts k (below o r) = (has_here ts k (last (step o v)) at (below o r)).1 (has_below o (paths v) r h) in
     let mark = (marked t.marks (All-contains (IsItem ts) ks k t.items c)).1 (record { path = below o r; has = has; ends = ends }) in
-    (t.are_behind.covers.same r).1 (record { place = k; listed = in_run ts ls ks first k c mark (e ∙ sym (step_is ts k (step o v) at)); has = record { op = o; node = v; is_at = at; has = h } })
+    (t.are_after.covers.same r).1 (record { place = k; listed = in_run ts ls ks first k c mark (e ∙ sym (step_is ts k (step o v) at)); has = record { op = o; node = v; is_at = at; has = h } })
 
 then_after : (o : Ordering) (p : Ordering) → o ≡ Equal → ordering_then o p ≡ p
 then_after o p e = ap (λ (z : Ordering). ordering_then z p) e
 
-goes_on : {ts : List Token} {es : List ℕ} {ls : List Bool} {height : ℕ} {ks : List ℕ} {first : ℕ} {behind : List ℕ} (us : List Token) (o : Op) (v : Node)
-    → Turn ts es ls height ks first behind → IsNodeAt ts first (last (step o v)) → IsLineOfFirst ts height behind us → IsLineOfFirst ts height ks (token.Op o ∷ us)
-goes_on {ts} {es} {ls} {height} {ks} {first} {behind} us o v t at (inl g) = inl (
+goes_on : {ts : List Token} {es : List ℕ} {ls : List Bool} {height : ℕ} {ks : List ℕ} {first : ℕ} {after : List ℕ} (us : List Token) (o : Op) (v : Node)
+    → Turn ts es ls height ks first after → IsNodeAt ts first (last (step o v)) → IsLineOfFirst ts height after us → IsLineOfFirst ts height ks (token.Op o ∷ us)
+goes_on {ts} {es} {ls} {height} {ks} {first} {after} us o v t at (inl g) = inl (
   below o g.0,
   record {
     one =
-        let b = (t.are_behind.covers.same g.0).0 g.1.one in
+        let b = (t.are_after.covers.same g.0).0 g.1.one in
         let r = of_run ts ls ks first b.place b.listed in
         let same : b.has.op ≡ o = same_op b.has.op o (sym (step_is ts b.place (step b.has.op b.has.node) b.has.is_at) ∙ sym r.alike ∙ step_is ts first (step o v) at) in
         let here : IsNodeAt ts b.place (last (step o b.has.node)) = subst (λ (z : Op). IsNodeAt ts b.place (last (step z b.has.node))) same b.has.is_at in
@@ -218,7 +218,7 @@ goes_on {ts} {es} {ls} {height} {ks} {first} {behind} us o v t at (inl g) = inl 
     by_op r u c h has e f Less x = inr (ap (λ (z : Ordering). ordering_then z (path_cmp g.0 r)) x)
     by_op r u {k} {w} c h has e f Equal x =
         let same : o ≡ u = same_op o u (same_step (op_step o) (op_step u) x) in
-        elim (g.1.least r (behind_run t c h (step_first ∙ ap op_step same) has e) e) [
+        elim (g.1.least r (after_run t c h (step_first ∙ ap op_step same) has e) e) [
           | inl eq ↦ inl (λ i. below (sym same i) (eq i))
           | inr less ↦ inr (then_after (step_cmp (op_step o) (op_step u)) (path_cmp g.0 r) x ∙ less)
         ]
@@ -231,15 +231,15 @@ goes_on {ts} {es} {ls} {height} {ks} {first} {behind} us o v t at (inl g) = inl 
           (by_op b.inner b.op h.listed b.is_at b.has (ap (λ (z : Path). z.end) b.is ∙ e)
           (not_before q h.place (op_step b.op) h.listed h.has e (step_is ts h.place (step b.op b.node) b.is_at)) (step_cmp (op_step o) (op_step b.op)) refl)
     ]
-goes_on {ts} {es} {ls} {height} {ks} {first} {behind} us o v t at (inr n) =
+goes_on {ts} {es} {ls} {height} {ks} {first} {after} us o v t at (inr n) =
     let l = (marked t.marks (All-contains (IsItem ts) ks first t.items t.is_first.listed)).0 t.is_first.marked in
     let b = is_below o (paths v) l.path ((has_here ts first (last (step o v)) at l.path).0 l.has) in
     let e : b.inner.end ≡ Bitcoin height = ap (λ (z : Path). z.end) b.is ∙ l.ends in
-    absurd (n.0 b.inner (behind_run t t.is_first.listed at (step_is ts first (step o v) at) b.has e) e)
+    absurd (n.0 b.inner (after_run t t.is_first.listed at (step_is ts first (step o v) at) b.has e) e)
 
-turned : {ts : List Token} {es : List ℕ} {ls : List Bool} {height : ℕ} {ks : List ℕ} {first : ℕ} {behind : List ℕ} (us : List Token) (x : Token)
-    → slice_get ts first ≡ Some x → ((a : Attestation) → x ≡ token.Attestation a → ⊥) → Turn ts es ls height ks first behind → IsLineOfFirst ts height behind us → IsLineOfFirst ts height ks (x ∷ us)
-turned {ts} {es} {ls} {height} {ks} {first} {behind} us x is not_end t given = by i.item i.is_at
+turned : {ts : List Token} {es : List ℕ} {ls : List Bool} {height : ℕ} {ks : List ℕ} {first : ℕ} {after : List ℕ} (us : List Token) (x : Token)
+    → slice_get ts first ≡ Some x → ((a : Attestation) → x ≡ token.Attestation a → ⊥) → Turn ts es ls height ks first after → IsLineOfFirst ts height after us → IsLineOfFirst ts height ks (x ∷ us)
+turned {ts} {es} {ls} {height} {ks} {first} {after} us x is not_end t given = by i.item i.is_at
   where
     i : IsItem ts first
     i = All-contains (IsItem ts) ks first t.items t.is_first.listed
@@ -264,11 +264,11 @@ walk_begin {ts} {es} {before} {now} {written} height e f g =
     let all = items_more (0 ∷ []) 0 (omega arith) g (subst (Covers ts (HasAt ts) []) (sym e) (covers_none ts (HasAt ts))) in
     record { items = all.items; owes = λ us given. subst (λ (z : List Token). IsLineOfFirst ts height (0 ∷ []) (z ++ us)) (sym f) (line_same ts height now (0 ∷ []) us all.same given) }
 
-pub walk_next : {ts : List Token} {es : List ℕ} {ls : List Bool} {height : ℕ} {ks : List ℕ} {first : ℕ} {behind : List ℕ} {x : Token} {written now : List Token}
-    → slice_get ts first ≡ Some x → ((a : Attestation) → x ≡ token.Attestation a → ⊥) → now ≡ written ++ x ∷ [] → Turn ts es ls height ks first behind → IsWalking ts height ks written
-    → IsWalking ts height behind now
+pub walk_next : {ts : List Token} {es : List ℕ} {ls : List Bool} {height : ℕ} {ks : List ℕ} {first : ℕ} {after : List ℕ} {x : Token} {written now : List Token}
+    → slice_get ts first ≡ Some x → ((a : Attestation) → x ≡ token.Attestation a → ⊥) → now ≡ written ++ x ∷ [] → Turn ts es ls height ks first after → IsWalking ts height ks written
+    → IsWalking ts height after now
 walk_next {ts} {height = height} {x = x} {written = written} is not_end e t h = record {
-  items = t.are_behind.covers.items;
+  items = t.are_after.covers.items;
   owes = λ us given. subst (IsLineOfFirst ts height (0 ∷ [])) (sym (append_assoc written (x ∷ []) us) ∙ ap (λ (z : List Token). z ++ us) (sym e)) (h.owes (x ∷ us) (turned us x is not_end t given));
 }
 
@@ -282,11 +282,11 @@ walk_done {ts} {ls} {height} {ks} {first} {x} {a} {written} now is e pushed mark
     subst (IsLineOfFirst ts height (0 ∷ [])) (ap (λ (z : Token). written ++ z ∷ []) (sym e) ∙ sym pushed)
     (h.owes (token.Attestation a ∷ []) (inl (path_of [] a, ends_there a h.items marks f at, refl)))
 
-pub walk_falls : {ts : List Token} {es : List ℕ} {ls : List Bool} {height : ℕ} {ks : List ℕ} {first : ℕ} {behind : List ℕ} → Turn ts es ls height ks first behind → total es behind < total es ks
-walk_falls {ts} {es} {ls} {height} {ks} {first} {behind} t =
+pub walk_falls : {ts : List Token} {es : List ℕ} {ls : List Bool} {height : ℕ} {ks : List ℕ} {first : ℕ} {after : List ℕ} → Turn ts es ls height ks first after → total es after < total es ks
+walk_falls {ts} {es} {ls} {height} {ks} {first} {after} t =
     let some = contains_some (filter (is_of_run ts ls first) ks) first (in_run ts ls ks first first t.is_first.listed t.is_first.marked refl) in
     let both = sum_by-filter_both (is_of_run ts ls first) (λ (x : ℕ). not (is_of_run ts ls first x)) (λ _. refl) (size es) ks in
-    let few = t.are_behind.few in
+    let few = t.are_after.few in
     omega arith
 
 pub walk_end : (ts : List Token) (ls : List Bool) (height : ℕ) (ks : List ℕ) (written : List Token) → IsFirstMarked ts ls ks None → AreLeads ts height ls → IsWalking ts height ks written

@@ -14,7 +14,7 @@ use Rattle.ots_tree.specs.Wire.{Node, last, more, paths, paths_of_item, pre, pre
 use Rattle.ots_canon.specs.declared.merging.Frame.{Frame}
 use Rattle.ots_canon.specs.Order.{step_cmp}
 use Rattle.ots_canon.specs.Steps.{step_at}
-use Rattle.ots_canon.specs.Places.{IsItem, HasAt, HasAmong, size, total, AreEnds, AreBehind, IsFormOf}
+use Rattle.ots_canon.specs.Places.{IsItem, HasAt, HasAmong, size, total, AreEnds, AreAfter, IsFormOf}
 use Rattle.ots_canon.specs.Frames.{comes_before, left, IsFrame, owed, ComesTo, Owes, IsRunEnd, LeavesMore, LeavesNone, Leaves, Opens, OpensSome, OwesAfter, Writes}
 use Rattle.ots_canon.proofs.Among.{onward, both, union, permuted, has_append}
 use Rattle.ots_canon.proofs.Runs.{next_later}
@@ -62,18 +62,18 @@ run_alike ts ks from end r = λ j d l.
     let l' : j < end - from = omega arith in
     ap (step_at ts) (run_read ks from end j d l') ∙ r.alike (from + j) d (omega arith) (omega arith)
 
--- ---- what is behind an item is opened
+-- ---- what is after an item is opened
 
 reverse_push : {X : Type 0} (xs : List X) (x : X) → reverse (xs ++ x ∷ []) ≡ x ∷ reverse xs
 reverse_push xs x = reverse-append xs (x ∷ [])
 
--- the tokens of the node behind come first
-record Opened (ts : List Token) (behind : List ℕ) (before : List Frame) (vs : List Token) : Type 0 where
-  front : List Token
+-- the tokens of the node after come first
+record Opened (ts : List Token) (following : List ℕ) (before : List Frame) (vs : List Token) : Type 0 where
+  prefix : List Token
   rest : List Token
-  are : vs ≡ front ++ rest
+  are : vs ≡ prefix ++ rest
   owes : Owes ts (reverse before) rest
-  made : AreMade ts behind front
+  made : AreMade ts following prefix
 
 left_all : (f : Frame) → f.next ≡ 0 → left f ≡ f.places.items
 left_all f e = ap (λ (z : ℕ). drop z f.places.items) e
@@ -87,18 +87,18 @@ makes_permuted ts ks f t e m c = record {
   );
 }
 
-opened : {ts : List Token} {behind : List ℕ} {before after : List Frame} (vs : List Token) → OpensSome ts behind before after → Owes ts (reverse after) vs → Opened ts behind before vs
-opened {ts} {behind} {before} vs (inl o) owes =
+opened : {ts : List Token} {following : List ℕ} {before after : List Frame} (vs : List Token) → OpensSome ts following before after → Owes ts (reverse after) vs → Opened ts following before vs
+opened {ts} {following} {before} vs (inl o) owes =
     let g : Owes ts (o.1.frame ∷ reverse before) vs = subst (λ (z : List Frame). Owes ts z vs) (ap reverse o.1.frames_are ∙ reverse_push before o.1.frame) owes in
     record {
-      front = pre g.0;
+      prefix = pre g.0;
       rest = g.1;
       are = g.3;
       owes = g.4;
-      made = inl (g.0, makes_permuted ts behind o.1.frame g.0 o.1.next_is o.1.sort.permutation g.2, refl);
+      made = inl (g.0, makes_permuted ts following o.1.frame g.0 o.1.next_is o.1.sort.permutation g.2, refl);
     }
 opened {ts} vs (inr n) owes = record {
-  front = [];
+  prefix = [];
   rest = vs;
   are = refl;
   owes = subst (λ (z : List Frame). Owes ts (reverse z) vs) n.1 owes;
@@ -123,21 +123,21 @@ line_within {ts} {ks} {from} {end} {d} r facts chain = subst (λ (z : ℕ). z + 
 
 -- ---- what is left of the frame
 
-tokens_more : (out xs front pw us : List Token) → out ++ (token.Fork ∷ (((xs ++ front) ++ pw) ++ us)) ≡ ((out ++ token.Fork ∷ []) ++ xs) ++ (front ++ (pw ++ us))
-tokens_more out xs front pw us =
-    ap (λ (z : List Token). out ++ (token.Fork ∷ z)) (append_assoc (xs ++ front) pw us ∙ append_assoc xs front (pw ++ us))
-    ∙ sym (append_assoc (out ++ token.Fork ∷ []) xs (front ++ (pw ++ us)) ∙ append_assoc out (token.Fork ∷ []) (xs ++ (front ++ (pw ++ us))))
+tokens_more : (out xs prefix pw us : List Token) → out ++ (token.Fork ∷ (((xs ++ prefix) ++ pw) ++ us)) ≡ ((out ++ token.Fork ∷ []) ++ xs) ++ (prefix ++ (pw ++ us))
+tokens_more out xs prefix pw us =
+    ap (λ (z : List Token). out ++ (token.Fork ∷ z)) (append_assoc (xs ++ prefix) pw us ∙ append_assoc xs prefix (pw ++ us))
+    ∙ sym (append_assoc (out ++ token.Fork ∷ []) xs (prefix ++ (pw ++ us)) ∙ append_assoc out (token.Fork ∷ []) (xs ++ (prefix ++ (pw ++ us))))
 
-tokens_last : (out xs front us : List Token) → out ++ ((xs ++ front) ++ us) ≡ (out ++ xs) ++ (front ++ us)
-tokens_last out xs front us = ap (λ (z : List Token). out ++ z) (append_assoc xs front us) ∙ sym (append_assoc out xs (front ++ us))
+tokens_last : (out xs prefix us : List Token) → out ++ ((xs ++ prefix) ++ us) ≡ (out ++ xs) ++ (prefix ++ us)
+tokens_last out xs prefix us = ap (λ (z : List Token). out ++ z) (append_assoc xs prefix us) ∙ sym (append_assoc out xs (prefix ++ us))
 
 -- tokens are written, and others are owed, which together are those of what a run comes to
 record WritesRun (ts : List Token) (run : List ℕ) (now later vs ws : List Token) : Type 0 where
   line : List Token
-  front : List Token
+  prefix : List Token
   later_is : later ≡ now ++ line
-  vs_are : vs ≡ front ++ ws
-  comes : RunComes ts run (line ++ front)
+  vs_are : vs ≡ prefix ++ ws
+  comes : RunComes ts run (line ++ prefix)
 
 -- the tokens of a frame whose first run comes to an item
 owes_more : {ts : List Token} {f : Frame} {end : ℕ} {before mid : List Frame} {out now later vs : List Token} (ws : List Token) → IsFrame ts f → IsRunEnd ts f.places.items f.next end
@@ -157,8 +157,8 @@ owes_more {ts} {f} {end} {before} {out = out} ws frame r l owes w =
     record {
       owed = pre (more w.comes.item g.0) ++ g.1;
       owes = (more w.comes.item g.0, g.1, subst (λ (z : List ℕ). ComesTo ts z (more w.comes.item g.0)) split joined, refl, g.4);
-      same = ap (λ (z : List Token). out ++ (token.Fork ∷ ((z ++ pre g.0) ++ g.1))) w.comes.are ∙ tokens_more out w.line w.front (pre g.0) g.1
-          ∙ (λ i. ((sym l.written i) ++ w.line) ++ (w.front ++ sym g.3 i))
+      same = ap (λ (z : List Token). out ++ (token.Fork ∷ ((z ++ pre g.0) ++ g.1))) w.comes.are ∙ tokens_more out w.line w.prefix (pre g.0) g.1
+          ∙ (λ i. ((sym l.written i) ++ w.line) ++ (w.prefix ++ sym g.3 i))
           ∙ (λ i. sym w.later_is i ++ sym w.vs_are i);
     }
 
@@ -180,7 +180,7 @@ owes_last {ts} {f} {end} {before} {out = out} {vs = vs} ws r l owes w =
         refl,
         subst (λ (z : List Frame). Owes ts (reverse z) ws) l.frames_are owes,
       );
-      same = ap (λ (z : List Token). out ++ (z ++ ws)) w.comes.are ∙ tokens_last out w.line w.front ws ∙ (λ i. ((sym l.written i) ++ w.line) ++ sym w.vs_are i) ∙ (λ i. sym w.later_is i ++ vs);
+      same = ap (λ (z : List Token). out ++ (z ++ ws)) w.comes.are ∙ tokens_last out w.line w.prefix ws ∙ (λ i. ((sym l.written i) ++ w.line) ++ sym w.vs_are i) ∙ (λ i. sym w.later_is i ++ vs);
     }
 
 -- ---- frames
@@ -201,14 +201,14 @@ frames_left {ts} {f} {end} {before} h r (inl l) all =
     All-append_right xs ys g = λ k d len. All-contains (IsItem ts) (xs ++ ys) (get_or ys k d) g (Contains-append_right xs ys (get_or ys k d) (Contains-get_or ys k d len))
 frames_left {ts} h r (inr l) all = subst (All (IsFrame ts)) (sym l.frames_are) all
 
-frames_opened : {ts : List Token} {behind : List ℕ} {before after : List Frame} → OpensSome ts behind before after → All (IsItem ts) behind → All (IsFrame ts) before → All (IsFrame ts) after
-frames_opened {ts} {behind} {before} (inl o) items all =
-    let len = length_permutation behind o.1.frame.places.items o.1.sort.permutation in
+frames_opened : {ts : List Token} {following : List ℕ} {before after : List Frame} → OpensSome ts following before after → All (IsItem ts) following → All (IsFrame ts) before → All (IsFrame ts) after
+frames_opened {ts} {following} {before} (inl o) items all =
+    let len = length_permutation following o.1.frame.places.items o.1.sort.permutation in
     let some = o.0 in
     let e = o.1.next_is in
     subst (All (IsFrame ts)) (sym o.1.frames_are) (All-push (IsFrame ts) before o.1.frame all (record {
       some = omega arith;
-      items = subst (All (IsItem ts)) (sym (left_all o.1.frame o.1.next_is)) (All-permutation (IsItem ts) behind o.1.frame.places.items o.1.sort.permutation items);
+      items = subst (All (IsItem ts)) (sym (left_all o.1.frame o.1.next_is)) (All-permutation (IsItem ts) following o.1.frame.places.items o.1.sort.permutation items);
       sorted = o.1.sort.sorted;
     }))
 frames_opened {ts} (inr n) items all = subst (All (IsFrame ts)) (sym n.1) all
@@ -222,26 +222,26 @@ owed_left es {ks} {end} {before} (inl l) =
     omega arith
 owed_left es (inr l) = let same = ap (owed es) l.frames_are in omega arith
 
-owed_opened : (es : List ℕ) {ts : List Token} {behind : List ℕ} {before after : List Frame} → OpensSome ts behind before after → owed es after ≤ owed es before + total es behind
-owed_opened es {behind = behind} {before} (inl o) =
+owed_opened : (es : List ℕ) {ts : List Token} {following : List ℕ} {before after : List Frame} → OpensSome ts following before after → owed es after ≤ owed es before + total es following
+owed_opened es {following = following} {before} (inl o) =
     let pushed = ap (owed es) o.1.frames_are ∙ sum_by_push (λ (f : Frame). total es (left f)) before o.1.frame in
-    let same = ap (total es) (left_all o.1.frame o.1.next_is) ∙ sum_by-IsPermutation (size es) behind o.1.frame.places.items o.1.sort.permutation in
+    let same = ap (total es) (left_all o.1.frame o.1.next_is) ∙ sum_by-IsPermutation (size es) following o.1.frame.places.items o.1.sort.permutation in
     omega arith
 owed_opened es (inr n) = let same = ap (owed es) n.1 in omega arith
 
 -- ---- one item is written
 
--- the run at which a frame begins, the steps that follow alike, and what stands behind
-pub record Advances (ts : List Token) (es : List ℕ) (f : Frame) (end d : ℕ) (behind : List ℕ) : Type 0 where
+-- the run at which a frame begins, the steps that follow alike, and what stands after
+pub record Advances (ts : List Token) (es : List ℕ) (f : Frame) (end d : ℕ) (following : List ℕ) : Type 0 where
   pub is_end : IsRunEnd ts f.places.items f.next end
   pub chain : IsChain ts (take (end - f.next) (drop f.next f.places.items)) d
-  pub are_behind : AreBehind ts es (shifted d (take (end - f.next) (drop f.next f.places.items))) behind
+  pub are_after : AreAfter ts es (shifted d (take (end - f.next) (drop f.next f.places.items))) following
 
-pub writes : {ts : List Token} {es : List ℕ} {f : Frame} {end d : ℕ} {behind : List ℕ} {before mid after : List Frame} {out now later : List Token}
-    → AllByRecursion IsToken ts → AreEnds ts es → IsFrame ts f → Advances ts es f end d behind → Leaves f.places.items end before mid out now
-    → later ≡ now ++ take (suc d) (drop (get_or f.places.items f.next 0) ts) → OpensSome ts behind mid after → Writes ts es f before after out later
-writes {ts} {es} {f} {end} {d} {behind} {before} {mid} {after} {out} {now} {later} limits ends frame a l e o = record {
-  frames = λ all. frames_opened o a.are_behind.covers.items (frames_left frame a.is_end l all);
+pub writes : {ts : List Token} {es : List ℕ} {f : Frame} {end d : ℕ} {following : List ℕ} {before mid after : List Frame} {out now later : List Token}
+    → AllByRecursion IsToken ts → AreEnds ts es → IsFrame ts f → Advances ts es f end d following → Leaves f.places.items end before mid out now
+    → later ≡ now ++ take (suc d) (drop (get_or f.places.items f.next 0) ts) → OpensSome ts following mid after → Writes ts es f before after out later
+writes {ts} {es} {f} {end} {d} {following} {before} {mid} {after} {out} {now} {later} limits ends frame a l e o = record {
+  frames = λ all. frames_opened o a.are_after.covers.items (frames_left frame a.is_end l all);
   owes = owes;
   fewer = fewer;
 }
@@ -252,11 +252,11 @@ writes {ts} {es} {f} {end} {d} {behind} {before} {mid} {after} {out} {now} {late
         let run = take (end - f.next) (drop f.next f.places.items) in
         let w : WritesRun ts run now later vs g.rest = record {
           line = take (suc d) (drop (get_or f.places.items f.next 0) ts);
-          front = g.front;
+          prefix = g.prefix;
           later_is = e;
           vs_are = g.are;
-          comes = subst (λ (z : ℕ). RunComes ts run (take (suc d) (drop z ts) ++ g.front)) (run_first f.places.items f.next end a.is_end.some)
-              (chain_comes d run limits ends (run_facts a.is_end frame.items) a.chain a.are_behind g.made);
+          comes = subst (λ (z : ℕ). RunComes ts run (take (suc d) (drop z ts) ++ g.prefix)) (run_first f.places.items f.next end a.is_end.some)
+              (chain_comes d run limits ends (run_facts a.is_end frame.items) a.chain a.are_after g.made);
         } in
         elim l [
           | inl m ↦ owes_more g.rest frame a.is_end m g.owes w
@@ -269,7 +269,7 @@ writes {ts} {es} {f} {end} {d} {behind} {before} {mid} {after} {out} {now} {late
         let two = owed_opened es o in
         let facts = run_facts a.is_end frame.items in
         let some = facts.some in
-        let few = a.are_behind.few in
+        let few = a.are_after.few in
         let steps = chain_few d (take (end - f.next) (drop f.next f.places.items)) ends facts a.chain in
         let len = length-map (take (end - f.next) (drop f.next f.places.items)) (λ (k : ℕ). k + d) in
         let less_or = a.is_end.some in

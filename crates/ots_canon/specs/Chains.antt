@@ -8,12 +8,12 @@ use Rattle.ots_canon.specs.Tags.{is_op}
 abbrev pub shifted : ℕ → List ℕ → List ℕ
 shifted d ks = map (λ k. k + d) ks
 
--- so many operations follow behind one place, no fork between, and alike behind the other
+-- so many operations follow after one place, no fork between, and alike after the other
 pub record AreAlike (ts : List Token) (first k d : ℕ) : Type 0 where
   pub within : (first + d < length ts) × (k + d < length ts)
   pub ops : (j : ℕ) → j < d → (is_op (slice_get ts (first + j)) ≡ true) × (is_op (slice_get ts (first + j + 1)) ≡ true)
   pub same : (j : ℕ) → j ≤ d → step_at ts (k + j) ≡ step_at ts (first + j)
 
--- behind all of these places
+-- after all of these places
 abbrev pub IsChain : List Token → List ℕ → ℕ → Type 0
 IsChain ts ks d = All (λ k. AreAlike ts (slice_index ks 0) k d) ks

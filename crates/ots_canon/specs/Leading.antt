@@ -1,6 +1,7 @@
 -- Which nodes lead to a Bitcoin attestation of one height, and the first path that ends there. It
 -- serves the functions that prune.
-use Rattle.std.specs.Prelude.{◌≡◌, ◌⊎◌, ◌↔◌, ℕ, ◌<◌, ◌≤◌, List, [], ◌∷◌, ◌++◌, map, length, Contains, slice_index_or, nat_lt, Bool, true, false, ◌&&◌, Option, Some, None, if◌then◌else◌}
+use Rattle.std.specs.Prelude.{◌≡◌, ◌⊎◌, ◌↔◌, ℕ, ◌<◌, ◌≤◌, List, [], ◌∷◌, ◌++◌, map, length, Contains, slice_index_or}
+use Rattle.std.specs.Prelude.{nat_lt, Bool, true, false, ◌&&◌, Option, Some, None, if◌then◌else◌}
 use Rattle.std.specs.Ordering.{is_lt, is_eq}
 use Rattle.std.specs.declared.cmp.Ordering.TheVariants.{Less}
 use Rattle.ots_ops.specs.declared.op.Op.{Op}
@@ -38,7 +39,8 @@ bitcoin height = token.Attestation (Bitcoin height)
 -- the least height of those that stand among tokens
 abbrev pub IsLeastHeight : List Token → Option ℕ → Type 0
 IsLeastHeight ts None = (height : ℕ) → Contains ts (bitcoin height) → ⊥
-IsLeastHeight ts (Some least) = Contains ts (bitcoin least) × ((height : ℕ) → Contains ts (bitcoin height) → least ≤ height)
+IsLeastHeight ts (Some least) = Contains ts (bitcoin least) × ((height : ℕ) → Contains ts (bitcoin height)
+    → least ≤ height)
 
 -- the node at a place has a path that ends in this height
 pub record Leads (ts : List Token) (height k : ℕ) : Type 0 where
@@ -66,7 +68,8 @@ first_of ts (Some first) k = if is_lt (step_cmp (step_at ts k) (step_at ts first
 pub record IsFirst (ts : List Token) (ls : List Bool) (ks : List ℕ) (first : ℕ) : Type 0 where
   pub listed : Contains ks first
   pub marked : is_marked ls first ≡ true
-  pub least : (k : ℕ) → Contains ks k → is_marked ls k ≡ true → is_lt (step_cmp (step_at ts k) (step_at ts first)) ≡ false
+  pub least : (k : ℕ) → Contains ks k → is_marked ls k ≡ true
+      → is_lt (step_cmp (step_at ts k) (step_at ts first)) ≡ false
 
 -- the first of the marked ones among some places
 abbrev pub IsFirstMarked : List Token → List Bool → List ℕ → Option ℕ → Type 0
@@ -90,4 +93,5 @@ pub record IsFirstPath (ts : List Token) (height : ℕ) (ks : List ℕ) (p : Pat
 -- its tokens, or none where no path ends in that height
 abbrev pub IsLineOfFirst : List Token → ℕ → List ℕ → List Token → Type 0
 IsLineOfFirst ts height ks us =
-    ((p : Path) × IsFirstPath ts height ks p × (us ≡ line p)) ⊎ (((p : Path) → HasAmong ts ks p → p.end ≡ Bitcoin height → ⊥) × (us ≡ []))
+    ((p : Path) × IsFirstPath ts height ks p × (us ≡ line p))
+    ⊎ (((p : Path) → HasAmong ts ks p → p.end ≡ Bitcoin height → ⊥) × (us ≡ []))

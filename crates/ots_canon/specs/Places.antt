@@ -1,5 +1,6 @@
 -- What begins at places among the tokens of trees. It serves the functions that merge nodes.
-use Rattle.std.specs.Prelude.{◌≡◌, ◌↔◌, ℕ, ◌+◌, ◌-◌, ◌<◌, ◌≤◌, List, ◌++◌, length, drop, slice_index, All, Contains, sum_by}
+use Rattle.std.specs.Prelude.{◌≡◌, ◌↔◌, ℕ, ◌+◌, ◌-◌, ◌<◌, ◌≤◌, List, ◌++◌, length, drop, slice_index, All, Contains}
+use Rattle.std.specs.Prelude.{sum_by}
 use Rattle.ots_ops.specs.declared.op.Op.{Op}
 use Rattle.ots_tree.specs.declared.token.Token.{Token}
 use Rattle.ots_tree.specs.Wire.{Node, Item, last, step, Path, paths, pre}
@@ -56,8 +57,8 @@ pub record Among (H : ℕ → Path → Type 0) (ks : List ℕ) (p : Path) : Type
 abbrev pub HasAmong : List Token → List ℕ → Path → Type 0
 HasAmong ts ks p = Among (HasAt ts) ks p
 
--- the node behind the operation at a place has
-pub record HasBehind (ts : List Token) (k : ℕ) (p : Path) : Type 0 where
+-- the node after the operation at a place has
+pub record HasAfter (ts : List Token) (k : ℕ) (p : Path) : Type 0 where
   pub op : Op
   pub node : Node
   pub is_at : IsNodeAt ts k (last (step op node))
@@ -76,18 +77,18 @@ pub record Gathers (ts : List Token) (es : List ℕ) (k : ℕ) (before after : L
   pub same : (p : Path) → HasAmong ts more p ↔ HasAt ts k p
   pub few : total es more ≤ size es k
 
--- those behind the item at a place, of which an attestation has none
-pub record GathersBehind (ts : List Token) (es : List ℕ) (k : ℕ) (before after : List ℕ) : Type 0 where
+-- those after the item at a place, of which an attestation has none
+pub record GathersAfter (ts : List Token) (es : List ℕ) (k : ℕ) (before after : List ℕ) : Type 0 where
   pub more : List ℕ
   pub are : after ≡ before ++ more
   pub items : All (IsItem ts) more
-  pub same : (p : Path) → HasAmong ts more p ↔ HasBehind ts k p
+  pub same : (p : Path) → HasAmong ts more p ↔ HasAfter ts k p
   pub few : total es more + 1 ≤ size es k
 
--- the places of the items of all nodes behind the operations at these places
-pub record AreBehind (ts : List Token) (es ks behind : List ℕ) : Type 0 where
-  pub covers : Covers ts (HasBehind ts) ks behind
-  pub few : total es behind + length ks ≤ total es ks
+-- the places of the items of all nodes after the operations at these places
+pub record AreAfter (ts : List Token) (es ks after : List ℕ) : Type 0 where
+  pub covers : Covers ts (HasAfter ts) ks after
+  pub few : total es after + length ks ≤ total es ks
 
 -- the tokens of the canonical tree with the paths of the nodes at these places
 pub record IsFormOf (ts : List Token) (ks : List ℕ) (us : List Token) : Type 0 where

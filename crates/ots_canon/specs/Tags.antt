@@ -1,6 +1,7 @@
 -- The bytes with which tokens are spelled first. They serve the functions that compare tokens.
 use Rattle.std.specs.Prelude.{ℕ, nat_eq, Option, Some, Bool, true, false, ◌&&◌, not}
 use Rattle.ots_ops.specs.Operation.{tag}
+use Rattle.ots_ops.specs.declared.tags.TheConstants.{APPEND_TAG, PREPEND_TAG}
 use Rattle.ots_tree.specs.declared.token.Token.{Token}
 use Rattle.ots_tree.specs.declared.token.Token.TheVariants as token
 
@@ -11,7 +12,7 @@ tag_of (token.Attestation a) = 0
 
 -- all tokens with this tag are equal
 abbrev pub is_bare : ℕ → Bool
-is_bare n = not (nat_eq n 0) && not (nat_eq n 0xf0) && not (nat_eq n 0xf1)
+is_bare n = not (nat_eq n 0) && not (nat_eq n APPEND_TAG) && not (nat_eq n PREPEND_TAG)
 
 abbrev pub is_fork : Option Token → Bool
 is_fork (Some token.Fork) = true

@@ -3,7 +3,7 @@ ghost use Rattle.std.specs.Prelude.{◌≡◌, ◌<◌, ◌-◌, ◌≤◌, ◌+
 ghost use Rattle.std.specs.List.{AllByRecursion};
 ghost use Rattle.std.specs.List.Sorted.{IsSortedBy};
 ghost use Rattle.ots_tree.specs.Wire.{IsToken};
-ghost use Rattle.ots_canon.specs.Places.{HasNode, AreNodes, IsItem, AreEnds, Gathers, GathersBehind, AreBehind, IsFormOf};
+ghost use Rattle.ots_canon.specs.Places.{HasNode, AreNodes, IsItem, AreEnds, Gathers, GathersAfter, AreAfter, IsFormOf};
 ghost use Rattle.ots_canon.specs.Chains.{shifted, AreAlike, IsChain};
 ghost use Rattle.ots_canon.specs.Frames.{IsFrame, IsRunEnd, comes_before, Leaves, IsSort, Opens, OpensSome, Writes};
 
@@ -64,7 +64,7 @@ fn write_node(
 }
 
 /// Writes the first item of a frame, and puts what is then still to be written on the stack: what is
-/// left of the frame, and on it the node behind the item.
+/// left of the frame, and on it the node after the item.
 fn write_item(
     alloc: Global,
     tokens: &Tokens<'_>,
@@ -76,16 +76,17 @@ fn write_item(
     requires limits { AllByRecursion IsToken tokens.now }
     requires ends { AreEnds tokens.now ends.now }
     requires frame { IsFrame tokens.now frame }
-    ensures { OnOk result (Writes tokens.now ends.now frame frames.old.items frames.new.items written.old.items written.new.items) }
+    ensures { OnOk result (Writes tokens.now ends.now frame frames.old.items frames.new.items written.old.items
+        written.new.items) }
 {
     let Frame { places, next } = frame;
     let first = places[next];
     let end = run_end(tokens, &places, next);
     let steps = common_steps(tokens, &places[next..end]);
-    let behind = items_behind(alloc, tokens, ends, &places[next..end], steps)?;
+    let after = items_after(alloc, tokens, ends, &places[next..end], steps)?;
     leave(places, end, frames, written)?;
     write_line(tokens, first, first + steps + 1, written)?;
-    open_some(alloc, tokens, behind, frames)
+    open_some(alloc, tokens, after, frames)
 }
 
 /// Puts what is left of a node on the stack. If it is something, a fork is written.
@@ -95,7 +96,8 @@ fn leave(
     frames: &mut Vec<Frame>,
     written: &mut Vec<Token>,
 ) -> Result<(), OutOfMemory>
-    ensures { OnOk result (Leaves places.items end frames.old.items frames.new.items written.old.items written.new.items) }
+    ensures { OnOk result (Leaves places.items end frames.old.items frames.new.items written.old.items
+        written.new.items) }
 {
     if end < places.len() {
         frames.push(Frame { places, next: end })?;
@@ -191,7 +193,7 @@ fn run_end(tokens: &Tokens<'_>, places: &[usize], from: usize) -> usize
     end
 }
 
-/// How many operations, one behind the other and no fork between, follow alike on those at all of
+/// How many operations, one after the other and no fork between, follow alike on those at all of
 /// these places.
 ///
 /// It goes along each chain for itself, and each time looks about twice as far ahead: so it reads
@@ -228,7 +230,7 @@ fn steps_within(tokens: &Tokens<'_>, run: &[usize], known: usize, ahead: usize) 
     steps
 }
 
-/// How many of the next `ahead` operations behind one place follow behind the other too.
+/// How many of the next `ahead` operations after one place follow after the other too.
 fn steps_alike(tokens: &Tokens<'_>, first: usize, place: usize, known: usize, ahead: usize) -> usize
     requires alike { AreAlike tokens.now first place known }
     requires ahead { known ≤ ahead }
@@ -249,9 +251,9 @@ fn steps_alike(tokens: &Tokens<'_>, first: usize, place: usize, known: usize, ah
     steps
 }
 
-/// The places of the items of all nodes that stand behind the operations which follow so many steps
-/// behind these places.
-pub(crate) fn items_behind(
+/// The places of the items of all nodes that stand after the operations which follow so many steps
+/// after these places.
+pub(crate) fn items_after(
     alloc: Global,
     tokens: &Tokens<'_>,
     ends: &[usize],
@@ -260,29 +262,29 @@ pub(crate) fn items_behind(
 ) -> Result<Vec<usize>, OutOfMemory>
     requires ends { AreEnds tokens.now ends.now }
     requires items { All (IsItem tokens.now) (shifted steps run.now) }
-    ensures { IfOk result (λ behind. AreBehind tokens.now ends.now (shifted steps run.now) behind.items) }
+    ensures { IfOk result (λ after. AreAfter tokens.now ends.now (shifted steps run.now) after.items) }
 {
-    let mut behind = Vec::new(alloc);
+    let mut after = Vec::new(alloc);
     for place in run {
-        gather_behind(tokens, ends, *place + steps, &mut behind)?;
+        gather_after(tokens, ends, *place + steps, &mut after)?;
     }
-    Ok(behind)
+    Ok(after)
 }
 
-/// Adds the places of the items behind the one at a place: those of the node behind an operation, none
-/// behind an attestation.
-fn gather_behind(
+/// Adds the places of the items after the one at a place: those of the node after an operation, none
+/// after an attestation.
+fn gather_after(
     tokens: &Tokens<'_>,
     ends: &[usize],
     place: usize,
-    behind: &mut Vec<usize>,
+    after: &mut Vec<usize>,
 ) -> Result<(), OutOfMemory>
     requires ends { AreEnds tokens.now ends.now }
     requires item { IsItem tokens.now place }
-    ensures { OnOk result (GathersBehind tokens.now ends.now place behind.old.items behind.new.items) }
+    ensures { OnOk result (GathersAfter tokens.now ends.now place after.old.items after.new.items) }
 {
     if tokens.is_op(place) {
-        gather_items(tokens, ends, place + 1, behind)?;
+        gather_items(tokens, ends, place + 1, after)?;
     }
     Ok(())
 }

@@ -2,12 +2,13 @@
 ghost use Rattle.std.specs.Prelude.{◌≡◌, ◌+◌, ◌<◌, ◌↔◌, ◌∷◌, [], IfOk, Some, true, length, All, slice_get};
 ghost use Rattle.ots_tree.specs.declared.token.Token.{Token};
 ghost use Rattle.std.specs.List.{filter};
-ghost use Rattle.ots_canon.specs.Leading.{token_height, lower, IsLeastHeight, Leads, AreLeadsFrom, AreLeads, IsFirstMarked, first_of, is_of_run, IsLineOfFirst};
+ghost use Rattle.ots_canon.specs.Leading.{token_height, lower, IsLeastHeight, Leads, AreLeadsFrom, AreLeads};
+ghost use Rattle.ots_canon.specs.Leading.{IsFirstMarked, first_of, is_of_run, IsLineOfFirst};
 ghost use Rattle.ots_canon.specs.Places.{HasNode, AreNodes, AreEnds};
 ghost use Rattle.ots_canon.specs.Prune.{IsPruneOf};
 
 use crate::form::canon;
-use crate::merging::{gather_items, items_behind};
+use crate::merging::{gather_items, items_after};
 use crate::tokens::{Tokens, ends_of};
 use ots_attest::Attestation;
 use ots_base::OutOfMemory;
@@ -87,7 +88,7 @@ fn first_path(alloc: Global, tokens: &Tokens<'_>, height: u64) -> Result<Vec<Tok
             return Ok(path);
         }
         let run = run_of(alloc, tokens, &leads, &items, first)?;
-        items = items_behind(alloc, tokens, &ends, &run, 0)?;
+        items = items_after(alloc, tokens, &ends, &run, 0)?;
     }
     Ok(path)
 }
@@ -113,7 +114,7 @@ fn leads_of(
     Ok(leads)
 }
 
-/// Whether the node that begins here has such a path, where that is known of those behind.
+/// Whether the node that begins here has such a path, where that is known of those after.
 fn leads_at(tokens: &Tokens<'_>, ends: &[usize], height: u64, at: usize, leads: &[bool]) -> bool
     requires nodes { AreNodes tokens.now }
     requires ends { AreEnds tokens.now ends.now }

@@ -7,26 +7,19 @@ ghost use Rattle.ots_canon.specs.Tags.{tag_of, is_bare, is_fork, is_op};
 ghost use Rattle.ots_canon.specs.Places.{IsNodeAt, AreNodes, AreEnds, AreEndsFrom};
 
 use ots_base::OutOfMemory;
-use ots_ops::{HashOp, Op};
+use ots_ops::{APPEND_TAG, HEXLIFY_TAG, HashOp, Op, PREPEND_TAG, REVERSE_TAG};
 use ots_tree::Token;
 use std::alloc::Global;
 use std::cmp::Ordering;
 use std::marker::Model;
 
-/// The tag of an attestation, and those of the tokens that have one.
+/// The tag of an attestation.
 const ATTESTATION: u8 = 0x00;
 
-const APPEND: u8 = 0xf0;
-
-const PREPEND: u8 = 0xf1;
-
-const REVERSE: u8 = 0xf2;
-
-const HEXLIFY: u8 = 0xf3;
-
+/// The tag of a fork.
 const FORK: u8 = 0xff;
 
-/// The tokens of one tree, or of two, one behind the other.
+/// The tokens of one tree, or of two, one after the other.
 ///
 /// Beside them stand their tags, the bytes with which they are spelled. These lie close together, so a
 /// walk over long chains reads them and no token. Contracts see the list of tokens.
@@ -137,10 +130,10 @@ fn tag_of(token: &Token) -> u8
         Token::Op(Op::Sha1) => HashOp::Sha1.tag(),
         Token::Op(Op::Ripemd160) => HashOp::Ripemd160.tag(),
         Token::Op(Op::Sha256) => HashOp::Sha256.tag(),
-        Token::Op(Op::Append(_)) => APPEND,
-        Token::Op(Op::Prepend(_)) => PREPEND,
-        Token::Op(Op::Reverse) => REVERSE,
-        Token::Op(Op::Hexlify) => HEXLIFY,
+        Token::Op(Op::Append(_)) => APPEND_TAG,
+        Token::Op(Op::Prepend(_)) => PREPEND_TAG,
+        Token::Op(Op::Reverse) => REVERSE_TAG,
+        Token::Op(Op::Hexlify) => HEXLIFY_TAG,
         Token::Fork => FORK,
     }
 }
@@ -149,7 +142,7 @@ fn tag_of(token: &Token) -> u8
 fn is_bare(tag: u8) -> bool
     ensures { result ≡ is_bare tag }
 {
-    tag != ATTESTATION && tag != APPEND && tag != PREPEND
+    tag != ATTESTATION && tag != APPEND_TAG && tag != PREPEND_TAG
 }
 
 /// How two steps compare.
@@ -174,7 +167,7 @@ fn rank(token: &Token) -> u8
     }
 }
 
-/// For each token the place behind the node that begins there, which is an item alone where the token
+/// For each token the place after the node that begins there, which is an item alone where the token
 /// is no fork.
 pub(crate) fn ends_of(alloc: Global, tokens: &Tokens<'_>) -> Result<Vec<usize>, OutOfMemory>
     requires { AreNodes tokens.now }
@@ -190,7 +183,7 @@ pub(crate) fn ends_of(alloc: Global, tokens: &Tokens<'_>) -> Result<Vec<usize>, 
     Ok(ends)
 }
 
-/// The place behind the node that begins here, where those behind it are known.
+/// The place after the node that begins here, where those after it are known.
 fn end_at(tokens: &Tokens<'_>, at: usize, ends: &[usize]) -> usize
     requires nodes { AreNodes tokens.now }
     requires in_range { at < length tokens.now }

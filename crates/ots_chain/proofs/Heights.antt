@@ -4,9 +4,9 @@ use Rattle.std.proofs.Common.{List, true, rules}
 use Rattle.std.specs.Cmp.Lexicographic.{pointwise}
 use Rattle.std.specs.Prelude.{nat_eq}
 use Rattle.ots_chain.specs.Chain.{AreGood, HasFaultAt}
-use Rattle.ots_bitcoin.specs.declared.header.Header.{Header}
-use Rattle.ots_bitcoin.specs.HeaderTable.{Table, header_at}
-use Rattle.ots_bitcoin.proofs.TableBytes.{heights_lem}
+use Rattle.ots_headers.specs.declared.header.Header.{Header}
+use Rattle.ots_headers.specs.HeaderTable.{Table, header_at}
+use Rattle.ots_headers.proofs.TableBytes.{heights_lem}
 
 pub end_of_table : (t : Table) (height : ℕ) → t.first ≤ height → header_at t height ≡ None → t.first + length t.headers ≤ height
 end_of_table t height from e =

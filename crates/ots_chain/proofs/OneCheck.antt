@@ -1,8 +1,8 @@
 -- A table has one check's answer.
 use Rattle.std.proofs.Common.{◌≡◌, ℕ, ◌+◌, ◌-◌, ◌<◌, ◌≤◌, List, Option, Some, None, inl, inr, refl, sym, subst, ap, ◌∙◌, arith, lt_of_not-le}
 use Rattle.std.proofs.lemmas.Option.{same_Some}
-use Rattle.ots_bitcoin.specs.declared.header.Header.{Header}
-use Rattle.ots_bitcoin.specs.HeaderTable.{Table, header_at}
+use Rattle.ots_headers.specs.declared.header.Header.{Header}
+use Rattle.ots_headers.specs.HeaderTable.{Table, header_at}
 use Rattle.ots_chain.specs.declared.checking.ChainFault.{ChainFault}
 use Rattle.ots_chain.specs.declared.checking.ChainFault.TheVariants.{BadLink, BadBits, AboveTarget}
 use Rattle.ots_chain.specs.declared.checking.ChainCheck.{ChainCheck}

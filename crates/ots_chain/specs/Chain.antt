@@ -1,9 +1,9 @@
 -- A chain of headers. Source: Bitcoin Core, src/primitives/block.h, hashPrevBlock, and src/pow.cpp, CheckProofOfWork.
 use Rattle.std.specs.Prelude.{◌≡◌, ◌+◌, ◌-◌, ◌<◌, ◌≤◌, ◌⊎◌, ℕ, List, length, Option, Some, None}
-use Rattle.ots_bitcoin.specs.DoubleSha256.{double_sha256}
-use Rattle.ots_bitcoin.specs.declared.header.Header.{Header}
-use Rattle.ots_bitcoin.specs.Header.{serialized}
-use Rattle.ots_bitcoin.specs.HeaderTable.{Table, header_at}
+use Rattle.ots_headers.specs.DoubleSha256.{double_sha256}
+use Rattle.ots_headers.specs.declared.header.Header.{Header}
+use Rattle.ots_headers.specs.Header.{serialized}
+use Rattle.ots_headers.specs.HeaderTable.{Table, header_at}
 use Rattle.ots_chain.specs.declared.checking.ChainFault.{ChainFault}
 use Rattle.ots_chain.specs.declared.checking.ChainFault.TheVariants.{BadLink, BadBits, AboveTarget}
 use Rattle.ots_chain.specs.declared.checking.ChainCheck.{ChainCheck}
@@ -15,7 +15,8 @@ hash_of h = double_sha256 (serialized h)
 
 -- the table's first header names no header of the table, and each other the one before it
 abbrev pub IsLinked : Table → ℕ → Header → Type 0
-IsLinked t height h = (height ≡ t.first) ⊎ ((before : Header) × (header_at t (height - 1) ≡ Some before) × (h.previous ≡ hash_of before))
+IsLinked t height h = (height ≡ t.first) ⊎ ((before : Header) × (header_at t (height - 1) ≡ Some before)
+    × (h.previous ≡ hash_of before))
 
 abbrev pub MeetsTarget : ℕ → List ℕ → Type 0
 MeetsTarget bits hash = le_number hash ≤ compact bits

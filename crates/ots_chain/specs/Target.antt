@@ -1,6 +1,7 @@
 -- The target of a header: its compact form is a number of 23 bits and a power of 256. Source: Bitcoin Core,
 -- src/arith_uint256.cpp, SetCompact, and src/pow.cpp, CheckProofOfWork.
-use Rattle.std.specs.Prelude.{◌≡◌, ◌≢◌, ◌+◌, ◌-◌, ◌*◌, ◌/◌, ◌%◌, ◌^◌, ◌<◌, ℕ, List, [], ◌∷◌, length, nat_lt, Option, Some, None, if◌then◌else◌}
+use Rattle.std.specs.Prelude.{◌≡◌, ◌≢◌, ◌+◌, ◌-◌, ◌*◌, ◌/◌, ◌%◌, ◌^◌, ◌<◌, ℕ, List, [], ◌∷◌, length, nat_lt, Option}
+use Rattle.std.specs.Prelude.{Some, None, if◌then◌else◌}
 
 -- the number that these bytes are, the high byte first
 unfoldable pub be_number : List ℕ → ℕ

@@ -4,7 +4,7 @@ ghost use Rattle.ots_chain.specs.Target.{be_number, le_number};
 ghost use Rattle.ots_chain.specs.Chain.{FaultOf, IsCheckOf};
 
 use crate::targets::target;
-use ots_bitcoin::{Headers, block_hash};
+use ots_headers::{Headers, block_hash};
 
 /// Why a header is not good: the first of these that holds.
 #[derive(Clone, Copy, Debug, PartialEq, Eq)]

@@ -1,7 +1,7 @@
 //! Laws of chains of headers.
 ghost use Rattle.std.specs.Prelude.{◌≡◌, ◌+◌, ◌≤◌, ℕ, Some};
-ghost use Rattle.ots_bitcoin.specs.declared.header.Header.{Header};
-ghost use Rattle.ots_bitcoin.specs.HeaderTable.{Table, header_at};
+ghost use Rattle.ots_headers.specs.declared.header.Header.{Header};
+ghost use Rattle.ots_headers.specs.HeaderTable.{Table, header_at};
 ghost use Rattle.ots_chain.specs.declared.checking.ChainCheck.{ChainCheck};
 ghost use Rattle.ots_chain.specs.Chain.{IsCheckOf, IsWhole, hash_of};
 

@@ -1,6 +1,6 @@
 // What the lines speak of.
-use ots_bitcoin::Headers;
 use ots_chain::{ChainCheck, ChainFault, check, target};
+use ots_headers::Headers;
 use ots_io::BytesSource;
 use std::alloc::{AllocError, Global};
 
@@ -58,18 +58,18 @@ impl Table {
     }
 }
 
-// The number of a word; 0 where there is none.
+/// The number of a word; 0 where there is none.
 fn next_number(word: Option<&str>) -> usize {
     word.and_then(|word| word.parse::<usize>().ok())
         .unwrap_or(0)
 }
 
-// The byte in which this bit alone is set, of 0 to 7.
+/// The byte in which this bit alone is set, of 0 to 7.
 fn bit_of(bit: usize) -> u8 {
     if bit < 8 { 1 << bit } else { 0 }
 }
 
-// The check of the table that these bytes are, if they are one.
+/// The check of the table that these bytes are, if they are one.
 fn answer_of(alloc: Global, first: u64, bytes: &[u8]) -> Result<Option<ChainCheck>, AllocError> {
     let Ok(mut source) = BytesSource::new(alloc, bytes, &[], &[]) else {
         return Err(AllocError);
@@ -83,7 +83,7 @@ fn answer_of(alloc: Global, first: u64, bytes: &[u8]) -> Result<Option<ChainChec
     }
 }
 
-// The line of an answer; the tip as a block hash is usually shown, its last byte first.
+/// The line of an answer; the tip as a block hash is usually shown, its last byte first.
 fn line_of(alloc: Global, answer: ChainCheck) -> Result<String, AllocError> {
     match answer {
         ChainCheck::Whole { first, last, tip } => {

@@ -24,10 +24,10 @@ module _ (targets : List Target) (trees : List (List Token)) where
       ap (λ (z : List Act). makes_stamp targets trees k (proof_name x) ∷ prints (wrote_text x) ∷ z)
       (joined (suc k) xs ys ∙ ap (λ (z : ℕ). stamp_acts targets trees (suc k) xs ++ stamp_acts targets trees z ys) next)
 
-  -- the acts of the files behind the first ones
-  behind : (files more : List (List ℕ)) (i : ℕ) → i < length files
+  -- the acts of the files after the first ones
+  after : (files more : List (List ℕ)) (i : ℕ) → i < length files
       → stamp_acts targets trees 0 (take i files ++ more) ≡ stamp_acts targets trees 0 (take i files) ++ stamp_acts targets trees i more
-  behind files more i less =
+  after files more i less =
       let count : 0 + length (take i files) ≡ i = let is = length-take-le i files (omega arith) in omega (arith, is) in
       joined 0 (take i files) more ∙ ap (λ (z : ℕ). stamp_acts targets trees 0 (take i files) ++ stamp_acts targets trees z more) count
 
@@ -35,7 +35,7 @@ module _ (targets : List Target) (trees : List (List Token)) where
       → stamp_acts targets trees 0 (take (i + 1) files) ≡ stamp_acts targets trees 0 (take i files) ++ stamp_acts targets trees i (slice_index_or files i [] ∷ [])
   first_acts files i less =
       let first : take (i + 1) files ≡ take i files ++ slice_index_or files i [] ∷ [] = ap (λ (z : ℕ). take z files) (add-one i) ∙ take-suc files i [] less in
-      ap (stamp_acts targets trees 0) first ∙ behind files (slice_index_or files i [] ∷ []) i less
+      ap (stamp_acts targets trees 0) first ∙ after files (slice_index_or files i [] ∷ []) i less
 
   pub all_acts : (files : List (List ℕ)) (i : ℕ) → i < length files
       → stamp_acts targets trees 0 files
@@ -43,7 +43,7 @@ module _ (targets : List Target) (trees : List (List Token)) where
   all_acts files i less =
       let whole : files ≡ take i files ++ slice_index_or files i [] ∷ drop (i + 1) files =
       sym (take-append-drop i files) ∙ ap (λ (z : List (List ℕ)). take i files ++ z) (drop_more files i [] less) in
-      ap (stamp_acts targets trees 0) whole ∙ behind files (slice_index_or files i [] ∷ drop (i + 1) files) i less
+      ap (stamp_acts targets trees 0) whole ∙ after files (slice_index_or files i [] ∷ drop (i + 1) files) i less
 
 -- ---- the loop that makes them
 

@@ -7,22 +7,22 @@ use Rattle.ots_cli.specs.Answer.{CompletesAs, Decides, DecidesAs, PrintsInfo, Te
 use Rattle.ots_cli.specs.Decided.{EndsAs, IsEndingOf}
 use Rattle.ots_cli.specs.Ending.{Act, Ending, makes, prints}
 use Rattle.ots_cli.specs.Text.{asked_text, complete_status, complete_text, verdict_status, verdict_text}
-use Rattle.ots_cli.specs.declared.ending.Acts.TheVariants.{MakeBehind, Print}
+use Rattle.ots_cli.specs.declared.ending.Acts.TheVariants.{MakeAfter, Print}
 use Rattle.ots_cli.specs.declared.ending.Ending.{Ending as Decided}
 use Rattle.ots_cli.specs.declared.ending.Text.TheVariants.{Asked, Proof}
 use Rattle.ots_cli.specs.declared.ending.Text.TheVariants as text
-use Rattle.ots_eval.specs.declared.verdicts.Verdict.{Verdict}
+use Rattle.ots_verdicts.specs.declared.verdicts.Verdict.{Verdict}
 use Rattle.ots_cli.specs.declared.status.Status.{Status}
 use Rattle.ots_cli.specs.declared.status.Status.TheVariants.{Done}
 use Rattle.ots_detached.specs.File.{IsFileOf, file_of}
 use Rattle.ots_pending.specs.Bitcoin.{HasBitcoin}
-use Rattle.ots_upgrade.specs.Asked.{AskedAt}
+use Rattle.ots_upgrade.specs.declared.asking.AskedAt.{AskedAt}
 use Rattle.ots_outside.specs.Dialer.{DialerTold}
 use Rattle.ots_outside.specs.Shelf.{Names}
 use Rattle.ots_tree.specs.declared.detached.Detached.{Detached}
 use Rattle.ots_address.specs.Address.{AddressParts}
 use Rattle.ots_upgrade.specs.Conversation.{Converse, ConverseUpTo, KeepsTold, Question}
-use Rattle.ots_upgrade.specs.Upgrading.{Upgrades, UpgradesUpTo, outcomes, questions}
+use Rattle.ots_upgrade.specs.Upgrading.{UpgradesProof, UpgradesUpTo, outcomes, questions}
 use Rattle.ots_upgrade.specs.declared.outcome.Outcome.{Outcome}
 use Rattle.ots_upgrade.specs.declared.upgrading.Upgraded.{Upgraded}
 use Rattle.ots_cli.specs.Asking.{Asks, AsksUpTo, DrawsFor, Happens, Hears, Outside, StampsUpTo, alone}
@@ -31,7 +31,7 @@ use Rattle.ots_cli.specs.Gathered as gathered
 use Rattle.ots_cli.specs.Gathered.{AreOffline, Suits, SuitsStamp, SuitsUpgrade}
 use Rattle.ots_cli.specs.declared.inputs.Inputs.{Inputs}
 use Rattle.ots_cli.specs.declared.inputs.Inputs.TheVariants as inputs
-use Rattle.ots_words.specs.Words.{Command, Stamping, Upgrading, info, canon, merge, prune, verify, stamp, upgrade, sample}
+use Rattle.ots_client_words.specs.Words.{ClientCommand, Stamping, Upgrading, info, canon, merge, prune, verify, stamp, upgrade, sample}
 
 module _ {D : Type 0} (told : D → DialerTold) (faults : D → ℕ) where
   same_told : (old new : D) → new ≡ old → KeepsTold told faults old new
@@ -49,7 +49,7 @@ module _ {D : Type 0} (told : D → DialerTold) (faults : D → ℕ) where
   all_asked (q ∷ qs) old new [] h = absurd h
   all_asked (q ∷ qs) old new (x ∷ os) h = inr (inr (h.0, x, h.1, all_asked qs h.0 new os h.2))
 
-  pub whole_upgrade : (calendars : List AddressParts) (proof : Detached) (old new : D) (upgraded : Upgraded) → Upgrades told faults calendars proof old new upgraded
+  pub whole_upgrade : (calendars : List AddressParts) (proof : Detached) (old new : D) (upgraded : Upgraded) → UpgradesProof told faults calendars proof old new upgraded
       → UpgradesUpTo told faults calendars proof old new
   whole_upgrade calendars proof old new upgraded h = record {
     pairs = h.pairs;
@@ -57,7 +57,7 @@ module _ {D : Type 0} (told : D → DialerTold) (faults : D → ℕ) where
     conversed = all_asked (questions calendars h.pairs) old new (outcomes upgraded.asked) h.asks.conversed;
   }
 
-  pub completes : (calendars : List AddressParts) (p : Detached) (to : List ℕ) (old new : D) (u : Upgraded) (e : Ending) → Upgrades told faults calendars p old new u
+  pub completes : (calendars : List AddressParts) (p : Detached) (to : List ℕ) (old new : D) (u : Upgraded) (e : Ending) → UpgradesProof told faults calendars p old new u
       → WritesAsked u.asked to u.proof e → CompletesAs (Hears told faults old new) calendars p to e
   completes calendars p to old new u e h writes = (
     record { nonces = Some []; questions = questions calendars h.pairs; outcomes = outcomes u.asked },
@@ -128,7 +128,7 @@ module _ {D : Type 0} (told : D → DialerTold) (faults : D → ℕ) where
       asks = h.asks;
     })
 
-    pub asks_of : (names : Option Names) (c : Command) (i : Inputs) (old new : D) (m n : N) → Suits names c i → gathered.AsksFor told faults left i old new m n
+    pub asks_of : (names : Option Names) (c : ClientCommand) (i : Inputs) (old new : D) (m n : N) → Suits names c i → gathered.AsksFor told faults left i old new m n
         → Asks told faults left names (Some c) old new m n
     asks_of names (info proof) i old new m n suits h = asks_nobody i old new m n suits h
     asks_of names (canon from to) i old new m n suits h = asks_nobody i old new m n suits h
@@ -140,7 +140,7 @@ module _ {D : Type 0} (told : D → DialerTold) (faults : D → ℕ) where
     asks_of names (sample k) i old new m n suits h = asks_nobody i old new m n suits h
 
     -- nothing was asked
-    pub asks_none : (names : Option Names) (c : Option Command) (d : D) (m : N) → Asks told faults left names c d d m m
+    pub asks_none : (names : Option Names) (c : Option ClientCommand) (d : D) (m : N) → Asks told faults left names c d d m m
     asks_none names None d m = refl
     asks_none names (Some (info proof)) d m = refl
     asks_none names (Some (canon from to)) d m = refl
@@ -166,7 +166,7 @@ module _ {D : Type 0} (told : D → DialerTold) (faults : D → ℕ) where
 -- ---- what is drawn
 
 module _ {N : Type 0} (left : N → Option (List ℕ)) where
-  pub draws_none : (c : Option Command) (m : N) → DrawsFor left c m m
+  pub draws_none : (c : Option ClientCommand) (m : N) → DrawsFor left c m m
   draws_none None m = refl
   draws_none (Some (info proof)) m = refl
   draws_none (Some (canon from to)) m = refl
@@ -205,7 +205,7 @@ module _ {N : Type 0} (left : N → Option (List ℕ)) where
   of_stamp names s (inputs.Stamp i) m n suits h =
       subst (λ (z : ℕ). DrawsSome left z m n) (sym (length-map i.files.items _) ∙ ap length suits.files) h
 
-  pub draws_of : (names : Option Names) (c : Command) (i : Inputs) (m n : N) → Suits names c i → gathered.DrawsOf left i m n → DrawsFor left (Some c) m n
+  pub draws_of : (names : Option Names) (c : ClientCommand) (i : Inputs) (m n : N) → Suits names c i → gathered.DrawsOf left i m n → DrawsFor left (Some c) m n
   draws_of names (info proof) i m n suits h = draws_nothing i m n suits h
   draws_of names (canon from to) i m n suits h = draws_nothing i m n suits h
   draws_of names (merge first second to) i m n suits h = draws_nothing i m n suits h
@@ -237,7 +237,7 @@ ending_is : (e : Ending) (s : Status) (done : List Act) → e.status ≡ s → e
 ending_is e s done same are = λ i. record { status = same i; acts = are i }
 
 pub asked_ends : (asked : List AskedAt) (to : Bor (List ℕ)) (p : Detached) (complete : Bool) (s : Status) (e : Ending) → s ≡ complete_status complete
-    → IsTrue complete ↔ HasBitcoin p.tree → IsFileOf (file_of p) p → IsEndingOf (record { status = s; acts = MakeBehind (Asked asked) to p complete }) e
+    → IsTrue complete ↔ HasBitcoin p.tree → IsFileOf (file_of p) p → IsEndingOf (record { status = s; acts = MakeAfter (Asked asked) to p complete }) e
     → WritesAsked asked to.now p e
 asked_ends asked to p complete s e is bitcoin file h =
     asked_made complete bitcoin file

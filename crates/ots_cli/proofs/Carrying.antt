@@ -11,24 +11,25 @@ use Rattle.ots_cli.specs.declared.ending.Ending.{Ending as Decided}
 use Rattle.ots_cli.specs.declared.ending.Text.{Text}
 use Rattle.ots_cli.specs.declared.status.Status.{Status}
 use Rattle.ots_cli.specs.Answer.{Comes, as_defined, not_read}
-use Rattle.ots_cli.specs.CarriedOut.{Carries, CarriesOut, CarriesOutEnding, Ends, carried_out, Does, Makes, MakesThen, Outputs, PrintsBoth, PrintsLast}
-use Rattle.ots_cli.specs.declared.output.OutputError.{OutputError}
+use Rattle.ots_cli.specs.CarriedOut.{Carries, CarriesOut, CarriesOutEnding, Ends, carried_out, Does, Makes, MakesThen, PrintsBoth, PrintsLast}
+use Rattle.ots_outputs.specs.declared.output.OutputError.{OutputError}
 use Rattle.ots_cli.specs.Decided.{AreActsOf, IsTextOf}
 use Rattle.ots_cli.specs.Ending.{Act, Ending, makes, makes_stamp, prints}
 use Rattle.ots_cli.specs.Gathered.{ComesToEnd}
-use Rattle.ots_cli.specs.Found.{IsUnder}
 use Rattle.ots_cli.specs.Refusal.{refusal_text}
 use Rattle.ots_cli.specs.Text.{complete_text}
 use Rattle.ots_outside.specs.Written.{with_name}
 use Rattle.ots_cli.specs.declared.status.Status.TheVariants.{WriteFault}
-use Rattle.ots_outside.specs.Streams.{Takes, TakesFront}
-use Rattle.ots_cli.specs.Opened.{StopsAt, not_opened, opened_last}
+use Rattle.ots_outside.specs.Streams.{Takes, TakesPrefix}
+use Rattle.ots_outputs.specs.Made.{Outputs}
+use Rattle.ots_inputs.specs.Under.{IsUnder}
+use Rattle.ots_inputs.specs.Opened.{StopsAt, not_opened, opened_last}
 
 -- the last text
 last_text : (writing printing : Type 0) (status : Status) (text : List ℕ) (names : Option Names) (taken now : Option (List ℕ)) (r : Status)
     → PrintsLast printing status text taken now r → CarriesOut writing printing status (prints text ∷ []) names names taken now r
 last_text writing printing status text names taken now r (inl whole) = inl (now, whole.0, (refl, refl, whole.1))
-last_text writing printing status text names taken now r (inr front) = inr (refl, front.0, front.1, front.2)
+last_text writing printing status text names taken now r (inr prefix) = inr (refl, prefix.0, prefix.1, prefix.2)
 
 acts_are : (status : Status) (a b : Acts) (done : List Act) → a ≡ b → AreActsOf status b done → AreActsOf status a done
 acts_are status a b done is h = subst (λ (z : Acts). AreActsOf status z done) (sym is) h
@@ -68,11 +69,11 @@ pub file_made : (d : Decided) (a : Acts) (name : List ℕ) (p : Detached) (old n
 file_made d a name p old new before now printing taken taken_now r is made h =
     ending_carried d d.status (makes name (file_of p) ∷ []) a old new before now printing taken taken_now r refl is made h
 
-pub refused_behind : (d : Decided) (a : Acts) (IsFirst : List ℕ → Type 0) (name : List ℕ) (told : ShelfTold) (faults : ShelfFaults) (printing : Type 0) (taken now : Option (List ℕ)) (r : Status)
+pub refused_after : (d : Decided) (a : Acts) (IsFirst : List ℕ → Type 0) (name : List ℕ) (told : ShelfTold) (faults : ShelfFaults) (printing : Type 0) (taken now : Option (List ℕ)) (r : Status)
     → d.acts ≡ a → ((bytes : List ℕ) → IsFirst bytes → AreActsOf d.status a (prints bytes ∷ prints (refusal_text name d.status) ∷ []))
     → (bytes : List ℕ) × IsFirst bytes × PrintsBoth printing d.status bytes (refusal_text name d.status) taken now r
     → CarriesOutEnding d told told faults faults printing taken now r
-refused_behind d a IsFirst name told faults printing taken now r is acts_of h =
+refused_after d a IsFirst name told faults printing taken now r is acts_of h =
     ending_carried d d.status (prints h.0 ∷ prints (refusal_text name d.status) ∷ []) a told told faults faults printing taken now r
     refl is (acts_of h.0 h.1) (record {
       out = both h.2;
@@ -85,15 +86,15 @@ refused_behind d a IsFirst name told faults printing taken now r is acts_of h =
       both : PrintsBoth printing d.status h.0 (refusal_text name d.status) taken now r
           → CarriesOut (Rose faults.writing faults.writing) printing d.status (prints h.0 ∷ prints (refusal_text name d.status) ∷ []) told.names told.names taken now r
       both (inl (mid, whole, last)) = inl (mid, whole, last_text (Rose faults.writing faults.writing) printing d.status (refusal_text name d.status) told.names mid now r last)
-      both (inr front) = inr (refl, front.0, front.1, front.2)
+      both (inr prefix) = inr (refl, prefix.0, prefix.1, prefix.2)
 
-pub made_behind : (d : Decided) (t : Text) (name : Bor (List ℕ)) (p : Detached) (complete : Bool) (old new : ShelfTold) (before now : ShelfFaults) (printing : Type 0)
-    (taken taken_now : Option (List ℕ)) (r : Status) → d.acts ≡ acts.MakeBehind t name p complete
+pub made_after : (d : Decided) (t : Text) (name : Bor (List ℕ)) (p : Detached) (complete : Bool) (old new : ShelfTold) (before now : ShelfFaults) (printing : Type 0)
+    (taken taken_now : Option (List ℕ)) (r : Status) → d.acts ≡ acts.MakeAfter t name p complete
     → (bytes : List ℕ) × IsTextOf d.status t bytes
     × Carries d.status (prints bytes ∷ makes name.now (file_of p) ∷ prints (complete_text complete) ∷ []) old new before now printing taken taken_now r
     → CarriesOutEnding d old new before now printing taken taken_now r
-made_behind d t name p complete old new before now printing taken taken_now r is h =
-    ending_carried d d.status _ (acts.MakeBehind t name p complete) old new before now printing taken taken_now r refl is (h.0, h.1, refl) h.2
+made_after d t name p complete old new before now printing taken taken_now r is h =
+    ending_carried d d.status _ (acts.MakeAfter t name p complete) old new before now printing taken taken_now r refl is (h.0, h.1, refl) h.2
 
 -- A file was made, and then a text was the last.
 pub made_then : (writing printing : Type 0) (status : Status) (name bytes text : List ℕ) (old new : Option Names) (taken now : Option (List ℕ)) (r : Status) → IsUnder old name None
@@ -116,7 +117,7 @@ as_said name file old new e f is h = subst (λ (z : OutputError). Outputs name f
 last_later : (P Q : Type 0) → (P → Q) → (status : Status) (text : List ℕ) (taken now : Option (List ℕ)) (r : Status)
     → PrintsLast P status text taken now r → PrintsLast Q status text taken now r
 last_later P Q f status text taken now r (inl whole) = inl whole
-last_later P Q f status text taken now r (inr front) = inr (f front.0, front.1, front.2)
+last_later P Q f status text taken now r (inr prefix) = inr (f prefix.0, prefix.1, prefix.2)
 
 making_later : (W V P Q : Type 0) → (W → V) → (P → Q) → (name bytes : List ℕ) (goes_on goes_later : Option Names → Type 0) (old new : Option Names)
     (taken now : Option (List ℕ)) (r : Status) → ((mid : Option Names) → goes_on mid → goes_later mid) → MakesThen W P name bytes goes_on old new taken now r
@@ -154,9 +155,9 @@ text_then P Q f status text acts old new before now taken mid taken_now r whole 
 
 -- A text was not printed whole.
 pub text_lost : (printing : Type 0) (status : Status) (text : List ℕ) (acts : List Act) (told : ShelfTold) (faults : ShelfFaults) (taken now : Option (List ℕ))
-    → printing → TakesFront taken now text → Carries status (prints text ∷ acts) told told faults faults printing taken now WriteFault
-text_lost printing status text acts told faults taken now failed front = record {
-  out = inr (refl, failed, front, refl);
+    → printing → TakesPrefix taken now text → Carries status (prints text ∷ acts) told told faults faults printing taken now WriteFault
+text_lost printing status text acts told faults taken now failed prefix = record {
+  out = inr (refl, failed, prefix, refl);
   opened = refl;
   slots = λ k. refl;
   short = λ enough. refl;
@@ -164,7 +165,7 @@ text_lost printing status text acts told faults taken now failed front = record 
   later = omega arith;
 }
 
--- ---- acts that are carried out, and more behind them
+-- ---- acts that are carried out, and more after them
 
 pub does_then : (writing printing : Type 0) (status : Status) (acts more : List Act) (old mid new : Option Names) (taken between now : Option (List ℕ)) (r : Status)
     → Does acts old mid taken between → CarriesOut writing printing status more mid new between now r → CarriesOut writing printing status (acts ++ more) old new taken now r

@@ -18,14 +18,15 @@ use Rattle.ots_cli.specs.Asking.{Outside}
 use Rattle.ots_cli.specs.CarriedOut.{CarriesOut, Ends, MakesThen, PrintsLast, carried_out, no_memory}
 use Rattle.ots_cli.specs.Complete.{CanStamp, CanUpgrade, IsDoneUnlessFailed}
 use Rattle.ots_cli.specs.Ending.{Ending, makes, printing, prints}
-use Rattle.ots_cli.specs.Found.{AreHashed, HasUnder, IsHashOf}
+use Rattle.ots_cli.specs.Found.{AreHashed, IsHashOf}
 use Rattle.ots_cli.specs.Stamping.{IsStampAt, calendars_text, no_nonce, proof_name, stamp_acts, stamped, too_few, wrote_text}
 use Rattle.ots_cli.specs.Text.{asked_text, complete_status, complete_text}
 use Rattle.ots_cli.specs.declared.status.Status.{Status}
 use Rattle.ots_cli.specs.declared.status.Status.TheVariants.{Done, ReadFault, WriteFault, NonceFault, OutOfMemory}
 use Rattle.ots_cli.proofs.OneAnswer.{not_a_proof, not_hashed}
 use Rattle.ots_cli.proofs.Outcome.{carried_status, only_prints}
-use Rattle.ots_words.specs.Words.{Command, Stamping, Upgrading, stamp, upgrade}
+use Rattle.ots_client_words.specs.Words.{ClientCommand, Stamping, Upgrading, stamp, upgrade}
+use Rattle.ots_inputs.specs.Under.{HasUnder}
 
 -- a status of this kind
 as_good : (s r : Status) → r ≡ s → IsDoneUnlessFailed s → IsDoneUnlessFailed r
@@ -33,7 +34,7 @@ as_good s r is h = subst IsDoneUnlessFailed (sym is) h
 
 last_good : (lost : Type 0) (s r : Status) (text : List ℕ) (taken now : Option (List ℕ)) → PrintsLast lost s text taken now r → IsDoneUnlessFailed s → IsDoneUnlessFailed r
 last_good lost s r text taken now (inl whole) h = as_good s r whole.1 h
-last_good lost s r text taken now (inr front) h = as_good WriteFault r front.2 tt
+last_good lost s r text taken now (inr prefix) h = as_good WriteFault r prefix.2 tt
 
 is_there : (o : Option (List ℕ)) → IsSome o → o ≡ None → ⊥
 is_there None some none = absurd (false≢true some)
@@ -79,16 +80,16 @@ module _ (writing lost : Type 0) (targets : List Target) (trees : List (List Tok
   stamps_good (f ∷ files) i names taken absent distinct (inl (p, at, file, h)) =
       made_good writing lost (proof_name f) (file_of p)
       (λ mid. CarriesOut writing lost Done (prints (wrote_text f) ∷ stamp_acts targets trees (suc i) files) mid new taken now r) names new taken now r (absent 0 f refl)
-      (λ k. behind (λ mid. stamps_good files (suc i) (map.insert names (proof_name f) (file_of p)) mid
+      (λ k. after (λ mid. stamps_good files (suc i) (map.insert names (proof_name f) (file_of p)) mid
       (λ j g is. get-insert_other names (proof_name f) (file_of p) (proof_name g)
       (λ same. let clash : suc j ≡ 0 = distinct (suc j) 0 g f is refl same in cc) ∙ absent (suc j) g is)
       (λ j k a b here there same. let next : suc j ≡ suc k = distinct (suc j) (suc k) a b here there same in omega (arith, next))) k) h where
-        behind : ((mid : Option (List ℕ)) → CarriesOut writing lost Done (stamp_acts targets trees (suc i) files) (Some (map.insert names (proof_name f) (file_of p))) new mid now r
+        after : ((mid : Option (List ℕ)) → CarriesOut writing lost Done (stamp_acts targets trees (suc i) files) (Some (map.insert names (proof_name f) (file_of p))) new mid now r
             → IsDoneUnlessFailed r)
             → CarriesOut writing lost Done (prints (wrote_text f) ∷ stamp_acts targets trees (suc i) files) (Some (map.insert names (proof_name f) (file_of p))) new taken now r
             → IsDoneUnlessFailed r
-        behind rest (inl (mid, told, k)) = rest mid k
-        behind rest (inr front) = as_good WriteFault r front.3 tt
+        after rest (inl (mid, told, k)) = rest mid k
+        after rest (inr prefix) = as_good WriteFault r prefix.3 tt
 
 -- ---- a run
 
@@ -103,11 +104,11 @@ module _ (happens : Outside → Type 0) (names : Names) (new : Option Names) (st
   of_stamp s can o happened e (is_list calendars is (are_hashed digests hashed (too_few targets asked few f))) h =
       absurd (let enough = can.enough o happened in omega (arith, enough, few))
   of_stamp s can o happened e (is_list calendars is (are_hashed digests hashed (stamped targets asked enough f))) h =
-      behind (calendars_text calendars o.outcomes) (subst (λ (z : Ending). CarriesOut writing lost z.status z.acts (Some names) new taken now r) f h) where
-        behind : (text : List ℕ) → CarriesOut writing lost Done (prints text ∷ stamp_acts targets (good_trees o.outcomes) 0 s.files) (Some names) new taken now r → IsDoneUnlessFailed r
-        behind text (inl (mid, told, k)) =
+      after (calendars_text calendars o.outcomes) (subst (λ (z : Ending). CarriesOut writing lost z.status z.acts (Some names) new taken now r) f h) where
+        after : (text : List ℕ) → CarriesOut writing lost Done (prints text ∷ stamp_acts targets (good_trees o.outcomes) 0 s.files) (Some names) new taken now r → IsDoneUnlessFailed r
+        after text (inl (mid, told, k)) =
             stamps_good writing lost targets (good_trees o.outcomes) new now r (can.fits o happened calendars digests targets asked) s.files 0 names mid can.absent can.distinct k
-        behind text (inr front) = as_good WriteFault r front.3 tt
+        after text (inr prefix) = as_good WriteFault r prefix.3 tt
 
   of_asked : (u : Upgrading) → CanUpgrade happens names u → (o : Outside) → happens o → (e : Ending) → Answers o (Some names) (Some (upgrade u)) e
       → CarriesOut writing lost e.status e.acts (Some names) new taken now r → IsDoneUnlessFailed r
@@ -116,39 +117,39 @@ module _ (happens : Outside → Type 0) (names : Names) (new : Option Names) (st
   of_asked u can o happened e (is_list calendars is (is_given p has (asked, m, made, asked_too_long long f))) h =
       absurd (let most = can.fits o happened calendars p m asked made in omega (arith, most, long))
   of_asked u can o happened e (is_list calendars is (is_given p has (asked, m, made, asked_made complete bitcoin file f))) h =
-      behind (asked_text asked) (complete_text complete) (subst (λ (z : Ending). CarriesOut writing lost z.status z.acts (Some names) new taken now r) f h) where
+      after (asked_text asked) (complete_text complete) (subst (λ (z : Ending). CarriesOut writing lost z.status z.acts (Some names) new taken now r) f h) where
         status : (b : Bool) → IsDoneUnlessFailed (complete_status b)
         status true = tt
         status false = tt
 
         told_last : (text : List ℕ) (old : Option Names) (mid : Option (List ℕ)) → CarriesOut writing lost (complete_status complete) (prints text ∷ []) old new mid now r → IsDoneUnlessFailed r
         told_last text old before (inl (mid, told, (same, kept, is))) = as_good (complete_status complete) r is (status complete)
-        told_last text old before (inr front) = as_good WriteFault r front.3 tt
+        told_last text old before (inr prefix) = as_good WriteFault r prefix.3 tt
 
-        behind : (first last : List ℕ) → CarriesOut writing lost (complete_status complete) (prints first ∷ makes u.to (file_of m) ∷ prints last ∷ []) (Some names) new taken now r
+        after : (first last : List ℕ) → CarriesOut writing lost (complete_status complete) (prints first ∷ makes u.to (file_of m) ∷ prints last ∷ []) (Some names) new taken now r
             → IsDoneUnlessFailed r
-        behind first last (inl (mid, told, k)) =
+        after first last (inl (mid, told, k)) =
             made_good writing lost u.to (file_of m) (λ z. CarriesOut writing lost (complete_status complete) (prints last ∷ []) z new mid now r) names new mid now r can.absent
             (λ k. told_last last (Some (map.insert names u.to (file_of m))) mid k) k
-        behind first last (inr front) = as_good WriteFault r front.3 tt
+        after first last (inr prefix) = as_good WriteFault r prefix.3 tt
 
   -- it ends as one of the answers to a command, each of which is good
-  ends_good : (c : Command) → ((o : Outside) → happens o → (e : Ending) → Answers o (Some names) (Some c) e
+  ends_good : (c : ClientCommand) → ((o : Outside) → happens o → (e : Ending) → Answers o (Some names) (Some c) e
       → CarriesOut writing lost e.status e.acts (Some names) new taken now r → IsDoneUnlessFailed r)
-      → (old : Option Names) (command : Option Command) → old ≡ Some names → command ≡ Some c
+      → (old : Option Names) (command : Option ClientCommand) → old ≡ Some names → command ≡ Some c
       → Ends (Comes (AnswersAs happens old command) stops_at) writing lost old new taken now r → IsDoneUnlessFailed r
   ends_good c good old command told asks h =
-      here (subst (λ (z : Option Command). Ends (Comes (AnswersAs happens (Some names) z) stops_at) writing lost (Some names) new taken now r) asks
+      here (subst (λ (z : Option ClientCommand). Ends (Comes (AnswersAs happens (Some names) z) stops_at) writing lost (Some names) new taken now r) asks
       (subst (λ (z : Option Names). Ends (Comes (AnswersAs happens z command) stops_at) writing lost z new taken now r) told h)) where
         here : Ends (Comes (AnswersAs happens (Some names) (Some c)) stops_at) writing lost (Some names) new taken now r → IsDoneUnlessFailed r
         here (no_memory ran same kept) = as_good OutOfMemory r ran tt
         here (carried_out e (as_defined (o, happened, a)) k) = good o happened e a k
         here (carried_out e (not_read name stops is) k) = printed_good writing lost e ReadFault _ (Some names) new taken now r is tt k
 
-  pub stamp_completes : (s : Stamping) → CanStamp happens names s → (old : Option Names) (command : Option Command) → old ≡ Some names → command ≡ Some (stamp s)
+  pub stamp_completes : (s : Stamping) → CanStamp happens names s → (old : Option Names) (command : Option ClientCommand) → old ≡ Some names → command ≡ Some (stamp s)
       → Ends (Comes (AnswersAs happens old command) stops_at) writing lost old new taken now r → IsDoneUnlessFailed r
   stamp_completes s can = ends_good (stamp s) (of_stamp s can)
 
-  pub upgrade_completes : (u : Upgrading) → CanUpgrade happens names u → (old : Option Names) (command : Option Command) → old ≡ Some names → command ≡ Some (upgrade u)
+  pub upgrade_completes : (u : Upgrading) → CanUpgrade happens names u → (old : Option Names) (command : Option ClientCommand) → old ≡ Some names → command ≡ Some (upgrade u)
       → Ends (Comes (AnswersAs happens old command) stops_at) writing lost old new taken now r → IsDoneUnlessFailed r
   upgrade_completes u can = ends_good (upgrade u) (of_asked u can)

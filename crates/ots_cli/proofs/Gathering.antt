@@ -1,16 +1,16 @@
 -- One read after another.
 use Rattle.std.proofs.Common.{◌≡◌, ℕ, List, [], ◌∷◌, ◌++◌, Option, Some, None, refl, sym, ap, subst, ◌∙◌, arith}
 use Rattle.std.specs.Prelude.{Result, Ok, Err, IfOk, IfErr, IsErrAnd}
-use Rattle.ots_outside.specs.Shelf.{Names, NeverFalls, ShelfFaults, ShelfTold}
+use Rattle.ots_outside.specs.Shelf.{Names, ShelfFaults, ShelfTold}
 use Rattle.ots_cli.specs.declared.input.InputError.{InputError}
 use Rattle.ots_cli.specs.declared.input.InputError.TheVariants.{NoFile, ReadFault, TooBig, BadProof, BadHeaders, FileTooLong, BadAddress, OutOfMemory}
 use Rattle.ots_cli.specs.declared.input.Stop.{Stop}
 use Rattle.ots_cli.specs.declared.status.Status.{Status}
 use Rattle.ots_cli.specs.declared.status.Status.TheVariants as status
 use Rattle.ots_address.specs.Address.{AddressParts}
-use Rattle.ots_bitcoin.specs.HeaderTable.{Table}
+use Rattle.ots_headers.specs.HeaderTable.{Table}
 use Rattle.ots_cli.specs.declared.inputs.Inputs.{Inputs}
-use Rattle.ots_words.specs.Words.{Command, HeaderFile}
+use Rattle.ots_client_words.specs.Words.{ClientCommand, HeaderFile}
 use Rattle.ots_cli.specs.Asking.{Outside, alone}
 use Rattle.ots_cli.specs.Answer.{Answers, AnswersAs, Comes, as_defined, not_read, Decides, DecidesAs, is_bad, HasPerhapsTable, RefusesInput, no_file, refuses, RefusesPerhapsTable, WithList, WithPerhapsTable, is_given, is_refused}
 use Rattle.ots_base.specs.declared.out_of_memory.OutOfMemory.{OutOfMemory as NoMemory}
@@ -19,21 +19,17 @@ use Rattle.ots_cli.specs.Decided.{EndsAs, IsEnding}
 use Rattle.ots_cli.specs.Ending.{Ending, refused}
 use Rattle.ots_cli.specs.Found.{IsRefusal, status_of}
 use Rattle.ots_cli.specs.Gathered.{ComesToEnd, IfBadList, Reads, ReadsName, ReadsUnder, StopsFor}
-use Rattle.ots_cli.specs.Opened.{IsOpenedOrNot, Opens, StopsAt, names_read}
-use Rattle.ots_cli.proofs.Opened.{both, front_of_more, none_opened, one_refused, stops_at_one, stops_before, stops_later, then_opened}
-
-pub never_falls : (a b c : ShelfFaults) → NeverFalls a b → NeverFalls b c → NeverFalls a c
-never_falls a b c p q =
-    let first = p.opening in let second = q.opening in let third = p.reading in let fourth = q.reading in let fifth = p.writing in let sixth = q.writing in
-    record { opening = omega arith; reading = omega arith; writing = omega arith }
+use Rattle.ots_cli.specs.Opened.{names_read}
+use Rattle.ots_inputs.proofs.Opened.{both, never_falls, none_opened, one_refused, prefix_of_more, stops_at_one, stops_before, stops_later, then_opened}
+use Rattle.ots_inputs.specs.Opened.{IsOpenedOrNot, Opens, StopsAt}
 
 -- ---- one name
 
 stops_for : (told : Option Names) (name : List ℕ) (Refuses : List ℕ → Status → Type 0) (old new : Option (List (List ℕ))) (before now : ShelfFaults)
-    (e : InputError) → IsRefusal told name Refuses e → IsOpenedOrNot name old new before now e
+    (e : InputError) → IsRefusal told name Refuses e → IsOpenedOrNot name old new before now (e ≡ ReadFault)
     → StopsFor (RefusesInput told name Refuses) (StopsAt (name ∷ []) old new before now) name e
 stops_for told name Refuses old new before now NoFile under opened = no_file under refl
-stops_for told name Refuses old new before now ReadFault under opened = stops_at_one name old new before now ReadFault opened refl
+stops_for told name Refuses old new before now ReadFault under opened = stops_at_one name old new before now _ opened refl
 stops_for told name Refuses old new before now TooBig under opened = refuses status.TooBig under refl
 stops_for told name Refuses old new before now (BadProof f) under opened = refuses (status.BadProof f) under refl
 stops_for told name Refuses old new before now (BadHeaders n) under opened = refuses (status.BadHeaders n) under refl
@@ -47,7 +43,7 @@ module _ {A : Type 0} {Gives : List ℕ → A → Type 0} {Refuses : List ℕ �
     given = h.answer;
     stopped = tt;
     opened = h.opened;
-    front = (1, h.opened);
+    prefix = (1, h.opened);
     names = h.names;
     slots = h.slots;
     short = λ enough. h.short (λ ran. cc);
@@ -61,7 +57,7 @@ module _ {A : Type 0} {Gives : List ℕ → A → Type 0} {Refuses : List ℕ �
     given = tt;
     stopped = stops_for old.names stop.name.now Refuses old.opened new.opened before now stop.cause h.answer h.opened;
     opened = tt;
-    front = one_refused stop.name.now old.opened new.opened before now stop.cause h.opened;
+    prefix = one_refused stop.name.now old.opened new.opened before now _ h.opened;
     names = h.names;
     slots = h.slots;
     short = λ enough. h.short (λ ran. enough cc);
@@ -97,7 +93,7 @@ module _ {A B : Type 0} {names : List (List ℕ)} {gives : Option Names → A �
     given = given r (subst (λ (z : Option Names). IfOk r (Goes D part z)) first.names then.given);
     stopped = stopped r (subst (λ (z : Option Names). IfErr r (λ stop. StopsFor (part z) (StopsAt rest mid.opened new.opened between now) stop.name.now stop.cause)) first.names then.stopped);
     opened = opened r then.opened;
-    front = then_opened names rest old.opened mid.opened new.opened first.opened then.front;
+    prefix = then_opened names rest old.opened mid.opened new.opened first.opened then.prefix;
     names = then.names ∙ first.names;
     slots = λ k. then.slots k ∙ first.slots k;
     short = λ enough. then.short enough ∙ first.short (λ ran. ran);
@@ -125,7 +121,7 @@ module _ {A B : Type 0} {names : List (List ℕ)} {gives : Option Names → A �
     given = tt;
     stopped = stops_as _ _ _ _ stop.name.now stop.cause f (λ name at. stops_before names rest old.opened new.opened before now name at) h.stopped;
     opened = tt;
-    front = front_of_more names rest old.opened new.opened h.front;
+    prefix = prefix_of_more names rest old.opened new.opened h.prefix;
     names = h.names;
     slots = h.slots;
     short = h.short;
@@ -140,7 +136,7 @@ reads_none {told = told} h = record {
   given = h;
   stopped = tt;
   opened = none_opened told.opened;
-  front = (0, none_opened told.opened);
+  prefix = (0, none_opened told.opened);
   names = refl;
   slots = λ k. refl;
   short = λ enough. refl;
@@ -156,7 +152,7 @@ runs_short {B} {names} {gives} {refuses} {told} {faults} (Err stop) short = reco
   given = tt;
   stopped = subst (λ (z : InputError). StopsFor (refuses told.names) (StopsAt names told.opened told.opened faults faults) stop.name.now z) (sym short) tt;
   opened = tt;
-  front = (0, none_opened told.opened);
+  prefix = (0, none_opened told.opened);
   names = refl;
   slots = λ k. refl;
   short = λ enough. absurd (enough short);
@@ -172,7 +168,7 @@ reads_as f h = record {
   given = f h.given;
   stopped = tt;
   opened = h.opened;
-  front = h.front;
+  prefix = h.prefix;
   names = h.names;
   slots = h.slots;
   short = λ enough. h.short (λ ran. ran);
@@ -204,11 +200,11 @@ perhaps_refused told (Some file) P e h = is_refused h
 
 -- ---- the command that was read
 
-pub of_command : (o : Outside) {c d : Command} {old new : ShelfTold} {before now : ShelfFaults} {r : Result Inputs Stop} → c ≡ d
+pub of_command : (o : Outside) {c d : ClientCommand} {old new : ShelfTold} {before now : ShelfFaults} {r : Result Inputs Stop} → c ≡ d
     → Reads (names_read (Some d)) (Goes (Decides o) (λ told. Answers o told (Some d))) (λ told. Answers o told (Some d)) old new before now r
     → Reads (names_read (Some c)) (Goes (Decides o) (λ told. Answers o told (Some c))) (λ told. Answers o told (Some c)) old new before now r
 of_command o {c} {d} {old} {new} {before} {now} {r} is h =
-    subst (λ (z : Command). Reads (names_read (Some z)) (Goes (Decides o) (λ told. Answers o told (Some z))) (λ told. Answers o told (Some z)) old new before now r) (sym is) h
+    subst (λ (z : ClientCommand). Reads (names_read (Some z)) (Goes (Decides o) (λ told. Answers o told (Some z))) (λ told. Answers o told (Some z)) old new before now r) (sym is) h
 
 -- ---- how a run ends
 
@@ -236,7 +232,7 @@ pub refusal_ends : {B : Type 0} {answers : Option Names → Ending → Type 0} {
     → EndsAs (IsEnding (refused stop.name.now s)) d → ComesToEnd answers reads old new before now (Ok d)
 refusal_ends {answers = answers} {reads = reads} {old = old} {new = new} {before = before} {now = now} {stop = stop} {s = s} h is ends = record {
   ending = λ e seen. stop_comes (answers old.names) (StopsAt reads old.opened new.opened before now) stop.name.now stop.cause s e is h.stopped (ends e seen);
-  opened = h.front;
+  opened = h.prefix;
   names = h.names;
   slots = h.slots;
   short = h.short (not_short stop.cause s is);
@@ -245,13 +241,13 @@ refusal_ends {answers = answers} {reads = reads} {old = old} {new = new} {before
 }
 
 -- An ending that was decided of what was read.
-pub decided_ends : (happens : Outside → Type 0) (c : Command) {inputs : Inputs} {old new : ShelfTold} {before now : ShelfFaults} (r : Result Decided NoMemory)
+pub decided_ends : (happens : Outside → Type 0) (c : ClientCommand) {inputs : Inputs} {old new : ShelfTold} {before now : ShelfFaults} (r : Result Decided NoMemory)
     → ((o : Outside) → Reads (names_read (Some c)) (Goes (Decides o) (λ told. Answers o told (Some c))) (λ told. Answers o told (Some c)) old new before now (Ok inputs))
     → IfOk r (EndsAs (DecidesAs happens inputs))
     → ComesToEnd (λ told. AnswersAs happens told (Some c)) (names_read (Some c)) old new before now r
 decided_ends happens c (Ok d) reads h = let k = reads alone in record {
   ending = λ e seen. let x = h e seen in as_defined (x.0, x.1, (reads x.0).given e x.2);
-  opened = k.front;
+  opened = k.prefix;
   names = k.names;
   slots = k.slots;
   short = k.short (λ ran. ran);
@@ -260,7 +256,7 @@ decided_ends happens c (Ok d) reads h = let k = reads alone in record {
 }
 decided_ends happens c (Err x) reads h = let k = reads alone in record {
   ending = tt;
-  opened = k.front;
+  opened = k.prefix;
   names = k.names;
   slots = k.slots;
   short = tt;
@@ -269,7 +265,7 @@ decided_ends happens c (Err x) reads h = let k = reads alone in record {
 }
 
 -- An ending at a refusal, where nobody was asked.
-pub refused_alone : (happens : Outside → Type 0) (c : Option Command) {reads : List (List ℕ)} {old new : ShelfTold} {before now : ShelfFaults} {d : Decided} → happens alone
+pub refused_alone : (happens : Outside → Type 0) (c : Option ClientCommand) {reads : List (List ℕ)} {old new : ShelfTold} {before now : ShelfFaults} {d : Decided} → happens alone
     → ComesToEnd (λ told. Answers alone told c) reads old new before now (Ok d) → ComesToEnd (λ told. AnswersAs happens told c) reads old new before now (Ok d)
 refused_alone happens c {reads} {old} {new} {before} {now} {d} heard h = record {
   ending = λ e seen. lift e (h.ending e seen);
@@ -290,7 +286,7 @@ pub ran_out : {B : Type 0} {gives : Option Names → B → Type 0} {refuses answ
     {before now : ShelfFaults} {stop : Stop} {x : NoMemory} → Reads {A = B} reads gives refuses old new before now (Err stop) → ComesToEnd answers reads old new before now (Err x)
 ran_out h = record {
   ending = tt;
-  opened = h.front;
+  opened = h.prefix;
   names = h.names;
   slots = h.slots;
   short = tt;
@@ -299,10 +295,10 @@ ran_out h = record {
 }
 
 -- Words of no command's form.
-pub usage_ends : (happens : Outside → Type 0) → happens alone → (c : Option Command) → c ≡ None → {told : ShelfTold} {faults : ShelfFaults} {d : Decided}
+pub usage_ends : (happens : Outside → Type 0) → happens alone → (c : Option ClientCommand) → c ≡ None → {told : ShelfTold} {faults : ShelfFaults} {d : Decided}
     → EndsAs (IsEnding (refused [] status.Usage)) d → ComesToEnd (λ t. AnswersAs happens t c) (names_read c) told told faults faults (Ok d)
 usage_ends happens heard c is {told} {faults} {d} ends = record {
-  ending = λ e seen. as_defined (alone, heard, subst (λ (z : Option Command). Answers alone told.names z e) (sym is) (ends e seen));
+  ending = λ e seen. as_defined (alone, heard, subst (λ (z : Option ClientCommand). Answers alone told.names z e) (sym is) (ends e seen));
   opened = (0, none_opened told.opened);
   names = refl;
   slots = λ k. refl;
@@ -319,7 +315,7 @@ stop_as h = record {
   given = tt;
   stopped = h.stopped;
   opened = tt;
-  front = h.front;
+  prefix = h.prefix;
   names = h.names;
   slots = h.slots;
   short = h.short;
@@ -335,7 +331,7 @@ list_refused {list = list} {goes_on = goes_on} {told = told} {faults = faults} n
   given = tt;
   stopped = why stop.name.now stop.cause h;
   opened = tt;
-  front = (0, none_opened told.opened);
+  prefix = (0, none_opened told.opened);
   names = refl;
   slots = λ k. refl;
   short = λ enough. refl;
@@ -353,10 +349,10 @@ list_refused {list = list} {goes_on = goes_on} {told = told} {faults = faults} n
   why name (BadHeaders n) bad = absurd bad
   why name FileTooLong bad = absurd bad
 
-pub end_of_command : (happens : Outside → Type 0) {c d : Option Command} {old new : ShelfTold} {before now : ShelfFaults} {r : Result Decided NoMemory} → c ≡ d
+pub end_of_command : (happens : Outside → Type 0) {c d : Option ClientCommand} {old new : ShelfTold} {before now : ShelfFaults} {r : Result Decided NoMemory} → c ≡ d
     → ComesToEnd (λ told. AnswersAs happens told d) (names_read d) old new before now r → ComesToEnd (λ told. AnswersAs happens told c) (names_read c) old new before now r
 end_of_command happens {c} {d} {old} {new} {before} {now} {r} is h =
-    subst (λ (z : Option Command). ComesToEnd (λ told. AnswersAs happens told z) (names_read z) old new before now r) (sym is) h
+    subst (λ (z : Option ClientCommand). ComesToEnd (λ told. AnswersAs happens told z) (names_read z) old new before now r) (sym is) h
 
 -- What was read is seen as something else, and so are refusals.
 pub reads_into : {A B : Type 0} {names : List (List ℕ)} {gives : Option Names → A → Type 0} {takes : Option Names → B → Type 0} {refuses declines : Option Names → Ending → Type 0}
@@ -366,7 +362,7 @@ reads_into f h = record {
   given = f h.given;
   stopped = tt;
   opened = h.opened;
-  front = h.front;
+  prefix = h.prefix;
   names = h.names;
   slots = h.slots;
   short = λ enough. h.short (λ ran. ran);
@@ -381,7 +377,7 @@ stop_into {names = names} {refuses = first} {declines = second} {old = old} {new
   given = tt;
   stopped = stops_as (first old.names) (second old.names) (StopsAt names old.opened new.opened before now) (StopsAt names old.opened new.opened before now) stop.name.now stop.cause f (λ name at. at) h.stopped;
   opened = tt;
-  front = h.front;
+  prefix = h.prefix;
   names = h.names;
   slots = h.slots;
   short = h.short;

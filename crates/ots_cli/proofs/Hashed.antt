@@ -10,12 +10,13 @@ use Rattle.ots_cli.specs.declared.input.InputError.{InputError}
 use Rattle.ots_cli.specs.declared.input.InputError.TheVariants.{OutOfMemory}
 use Rattle.ots_cli.specs.declared.input.Stop.{Stop}
 use Rattle.ots_cli.specs.Answer.{RefusesInput, RefusesOne}
-use Rattle.ots_cli.specs.Found.{AreHashed, HasUnder, IsHashOf, RefusesTarget}
+use Rattle.ots_cli.specs.Found.{AreHashed, IsHashOf, RefusesTarget}
 use Rattle.ots_cli.specs.Gathered.{Reads, ReadsName, StopsFor}
-use Rattle.ots_cli.specs.Opened.{StopsAt}
-use Rattle.ots_cli.proofs.Gathering.{never_falls, stops_as}
-use Rattle.ots_cli.proofs.Opened.{both, front_of_more, stops_before, stops_later, then_opened}
-use Rattle.ots_words.specs.Words.{texts}
+use Rattle.ots_cli.proofs.Gathering.{stops_as}
+use Rattle.ots_inputs.proofs.Opened.{both, never_falls, prefix_of_more, stops_before, stops_later, then_opened}
+use Rattle.ots_arguments.specs.Values.{texts}
+use Rattle.ots_inputs.specs.Under.{HasUnder}
+use Rattle.ots_inputs.specs.Opened.{StopsAt}
 
 hashed_more : (told : Option Names) (names digests : List (List ℕ)) (name digest : List ℕ) → AreHashed told names digests
     → HasUnder told name (λ b. IsHashOf Sha256 b digest) → AreHashed told (names ++ name ∷ []) (digests ++ digest ∷ [])
@@ -35,7 +36,7 @@ module _ {old mid new : ShelfTold} {before between now : ShelfFaults} where
     given = hashed_more old.names names digests name digest first.given (subst (λ (z : Option Names). HasUnder z name (λ b. IsHashOf Sha256 b digest)) first.names next.given);
     stopped = tt;
     opened = both names (name ∷ []) old.opened mid.opened new.opened first.opened next.opened;
-    front = then_opened names (name ∷ []) old.opened mid.opened new.opened first.opened next.front;
+    prefix = then_opened names (name ∷ []) old.opened mid.opened new.opened first.opened next.prefix;
     names = next.names ∙ first.names;
     slots = λ k. next.slots k ∙ first.slots k;
     short = λ enough. next.short (λ ran. ran) ∙ first.short (λ ran. ran);
@@ -61,7 +62,7 @@ module _ {old mid new : ShelfTold} {before between now : ShelfFaults} where
         (λ n at. stops_later names (name ∷ later) old.opened mid.opened new.opened before between now n first.opened first.later
         (stops_before (name ∷ []) later mid.opened new.opened between now n at)) next.stopped;
     opened = tt;
-    front = then_opened names (name ∷ later) old.opened mid.opened new.opened first.opened (front_of_more (name ∷ []) later mid.opened new.opened next.front);
+    prefix = then_opened names (name ∷ later) old.opened mid.opened new.opened first.opened (prefix_of_more (name ∷ []) later mid.opened new.opened next.prefix);
     names = next.names ∙ first.names;
     slots = λ k. next.slots k ∙ first.slots k;
     short = λ enough. next.short enough ∙ first.short (λ ran. ran);
@@ -69,7 +70,7 @@ module _ {old mid new : ShelfTold} {before between now : ShelfFaults} where
     writing = next.writing ∙ first.writing;
   }
 
-  -- Memory ran out behind them.
+  -- Memory ran out after them.
   pub hashes_short : {B : Type 0} {gives : Option Names → B → Type 0} {names digests : List (List ℕ)} {name digest : List ℕ} (later : List (List ℕ)) (r : Result B Stop)
       → IsErrAnd r (λ stop. stop.cause ≡ OutOfMemory) → Hashes names old mid before between digests
       → ReadsName (IsHashOf Sha256) RefusesTarget name mid new between now (Ok digest)
@@ -79,7 +80,7 @@ module _ {old mid new : ShelfTold} {before between now : ShelfFaults} where
     given = tt;
     stopped = subst (λ (z : InputError). StopsFor (RefusesOne old.names (names ++ name ∷ later)) (StopsAt (names ++ name ∷ later) old.opened new.opened before now) stop.name.now z) (sym short) tt;
     opened = tt;
-    front = then_opened names (name ∷ later) old.opened mid.opened new.opened first.opened (front_of_more (name ∷ []) later mid.opened new.opened next.front);
+    prefix = then_opened names (name ∷ later) old.opened mid.opened new.opened first.opened (prefix_of_more (name ∷ []) later mid.opened new.opened next.prefix);
     names = next.names ∙ first.names;
     slots = λ k. next.slots k ∙ first.slots k;
     short = λ enough. absurd (enough short);

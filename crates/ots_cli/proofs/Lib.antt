@@ -1,6 +1,4 @@
 mod Reading
-mod Outputs
-mod Opened
 mod Gathering
 mod Rewritten
 mod Carrying

@@ -7,10 +7,10 @@ use Rattle.ots_reader.specs.declared.fault.Fault.{Fault}
 use Rattle.ots_detached.specs.File.{IsFileOf}
 use Rattle.ots_ops.specs.declared.hash_op.HashOp.{HashOp}
 use Rattle.ots_ops.specs.declared.hash_op.HashOp.TheVariants as hash
-use Rattle.ots_bitcoin.specs.HeaderTable.{Table}
-use Rattle.ots_bitcoin.specs.TableRead.{IsTableOf}
-use Rattle.ots_bitcoin.proofs.TableBytes.{length_of_table, one_table_lem}
-use Rattle.ots_eval.proofs.OneVerdict.{one}
+use Rattle.ots_headers.specs.HeaderTable.{Table}
+use Rattle.ots_headers.specs.TableRead.{IsTableOf}
+use Rattle.ots_headers.proofs.TableBytes.{length_of_table, one_table_lem}
+use Rattle.ots_verdicts.proofs.OneVerdict.{one}
 use Rattle.ots_detached.proofs.Files.{one_fault}
 use Rattle.ots_detached.proofs.BothWays.{no_fault, file_size, one_file, same_detached}
 use Rattle.ots_cli.specs.declared.status.Status.{Status}
@@ -21,11 +21,11 @@ use Rattle.ots_cli.specs.declared.rewriting.Rewriting.{Rewriting}
 use Rattle.ots_cli.specs.declared.rewriting.Rewriting.TheVariants.{Canon, Prune}
 use Rattle.ots_canon.specs.Join.{IsMergeOf}
 use Rattle.ots_canon.proofs.Lawful.{one_form, one_join, one_prune}
-use Rattle.ots_cli.specs.Found.{HasUnder, IsHashOf, RefusesProof, too_big, bad_proof, RefusesTable, cut, too_many, RefusesTarget}
+use Rattle.ots_cli.specs.Found.{IsHashOf, RefusesProof, too_big, bad_proof, RefusesTable, cut, too_many, RefusesTarget}
 use Rattle.ots_cli.specs.Text.{sample_text, verdict_status, verdict_text}
 use Rattle.ots_sample.specs.declared.outcome.Sample.{Sample}
 use Rattle.ots_sample.proofs.OneSample.{one_sample}
-use Rattle.ots_words.specs.Words.{Command, HeaderFile, Verification, info, canon, merge, prune, verify, stamp, upgrade, sample}
+use Rattle.ots_client_words.specs.Words.{ClientCommand, HeaderFile, Verification, info, canon, merge, prune, verify, stamp, upgrade, sample}
 use Rattle.ots_cli.specs.Asking.{IsOffline, Outside, alone}
 use Rattle.ots_cli.specs.Answer.{Answers, AnswersAs, Comes, as_defined, not_read, PrintsInfo, UnlessFailed, PrintsVerdict, RefusesInput, no_file, refuses, WithInput, is_given, is_refused, WithProof, WithTable, WithPerhapsTable, WithTarget, VerifiesTarget, VerifiesProof, VerifiesBy, Verifies, Writes, too_long, is_made, WritesOf, Merges, differ, joined}
 use Rattle.ots_cli.specs.CarriedOut.{Ends, carried_out, no_memory, status_over}
@@ -35,8 +35,9 @@ use Rattle.ots_info.specs.Listing.{file_line, item_line}
 use Rattle.ots_tree.proofs.Determined.{same_pre}
 use Rattle.ots_tree.specs.Listed.{listed}
 use Rattle.ots_tree.specs.declared.token.TokenAt.{TokenAt}
-use Rattle.ots_eval.specs.declared.verdicts.Verdict.{Verdict}
+use Rattle.ots_verdicts.specs.declared.verdicts.Verdict.{Verdict}
 use Rattle.std.specs.List.{flat_map}
+use Rattle.ots_inputs.specs.Under.{HasUnder}
 
 -- the bytes under a name are the only ones
 one_under : (names : Names) (name b c : List ℕ) → map.get names name ≡ Some b → map.get names name ≡ Some c → b ≡ c
@@ -198,7 +199,7 @@ verifies names v d e =
     (λ x f g. f.2 ∙ ap (λ (z : Verdict). printing (verdict_status z) (verdict_text z)) (one p x b l f.0 g.0 f.1 g.1) ∙ sym g.2))))
 
 -- A command that asks nobody has one answer.
-pub one_answer : (o q : Outside) (names : Names) (command : Option Command) (d e : Ending) → IsOffline command
+pub one_answer : (o q : Outside) (names : Names) (command : Option ClientCommand) (d e : Ending) → IsOffline command
     → Answers o (Some names) command d → Answers q (Some names) command e → d ≡ e
 one_answer o q names None d e alone f g = f ∙ sym g
 one_answer o q names (Some (info name)) d e alone f g = with_proof names name PrintsInfo d e (λ p. one_text p d e) f g
@@ -215,7 +216,7 @@ one_answer o q names (Some (sample n)) d e alone f g =
 
 -- ---- the status that is answered
 
-pub exact : (happens : Outside → Type 0) (names : Names) (old new : Option Names) (command : Option Command) (stops_at : List ℕ → Type 0) (writing lost : Type 0)
+pub exact : (happens : Outside → Type 0) (names : Names) (old new : Option Names) (command : Option ClientCommand) (stops_at : List ℕ → Type 0) (writing lost : Type 0)
     (taken now : Option (List ℕ)) (r : Status) (e : Ending) → Ends (Comes (AnswersAs happens old command) stops_at) writing lost old new taken now r → old ≡ Some names
     → IsOffline command → Answers alone (Some names) command e → UnlessFailed (status_over names e.status e.acts) r
 exact happens names old new command stops_at writing lost taken now r e h told offline is =

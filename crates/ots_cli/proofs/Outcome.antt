@@ -115,7 +115,7 @@ write_fault s r is = subst (UnlessFailed s) (sym is) tt
 
 last_status : (lost : Type 0) (s t r : Status) (text : List ℕ) (taken now : Option (List ℕ)) → PrintsLast lost t text taken now r → (r ≡ t → UnlessFailed s r) → UnlessFailed s r
 last_status lost s t r text taken now (inl whole) f = f whole.1
-last_status lost s t r text taken now (inr front) f = write_fault s r front.2
+last_status lost s t r text taken now (inr prefix) f = write_fault s r prefix.2
 
 -- no proof of a stamped file is made
 abbrev pub IsPlain : List Act → Type 0
@@ -292,17 +292,17 @@ keeps writing lost s (makes_stamp targets trees i name ∷ acts) names kept b ne
 abbrev pub HasStamp : List Target → List (List Token) → ℕ → List ℕ → Option Names → Type 0
 HasStamp targets trees i file new = (p : Detached) × IsStampAt targets trees i p × IsFileOf (file_of p) p × EndsWith new (proof_name file) (file_of p)
 
--- the proof of the first file, or that of one behind it
-behind_stamp : (writing lost : Type 0) (s : Status) (targets : List Target) (trees : List (List Token)) (f : List ℕ) (files : List (List ℕ)) (i j : ℕ) (file : List ℕ) (names : Names)
+-- the proof of the first file, or that of one after it
+after_stamp : (writing lost : Type 0) (s : Status) (targets : List Target) (trees : List (List Token)) (f : List ℕ) (files : List (List ℕ)) (i j : ℕ) (file : List ℕ) (names : Names)
     (new : Option Names) (taken now : Option (List ℕ)) (r : Status) (p : Detached) → IsDoneOrNo r → slice_get (f ∷ files) j ≡ Some file → IsStampAt targets trees i p
     → IsFileOf (file_of p) p
     → ((k : ℕ) (mid : Option (List ℕ)) → slice_get files k ≡ Some file
     → CarriesOut writing lost s (stamp_acts targets trees (suc i) files) (Some (map.insert names (proof_name f) (file_of p))) new mid now r → HasStamp targets trees (suc i + k) file new)
     → CarriesOut writing lost s (prints (wrote_text f) ∷ stamp_acts targets trees (suc i) files) (Some (map.insert names (proof_name f) (file_of p))) new taken now r
     → HasStamp targets trees (i + j) file new
-behind_stamp writing lost s targets trees f files i j file names new taken now r p done at stamp is rest (inr front) =
-    absurd (never r WriteFault front.3 (λ clash. cc) (λ clash. cc) done)
-behind_stamp writing lost s targets trees f files i zero file names new taken now r p done at stamp is rest (inl (mid, told, k)) =
+after_stamp writing lost s targets trees f files i j file names new taken now r p done at stamp is rest (inr prefix) =
+    absurd (never r WriteFault prefix.3 (λ clash. cc) (λ clash. cc) done)
+after_stamp writing lost s targets trees f files i zero file names new taken now r p done at stamp is rest (inl (mid, told, k)) =
     let this : f ≡ file = cc in
     let here : i ≡ i + 0 = omega arith in (
       p,
@@ -311,7 +311,7 @@ behind_stamp writing lost s targets trees f files i zero file names new taken no
       subst (λ (z : List ℕ). EndsWith new (proof_name z) (file_of p)) this
           (keeps writing lost s (stamp_acts targets trees (suc i) files) (map.insert names (proof_name f) (file_of p)) (proof_name f) (file_of p) new mid now r done (get_inserted names (proof_name f) (file_of p)) k),
     )
-behind_stamp writing lost s targets trees f files i (suc j) file names new taken now r p done at stamp is rest (inl (mid, told, k)) =
+after_stamp writing lost s targets trees f files i (suc j) file names new taken now r p done at stamp is rest (inl (mid, told, k)) =
     let next : suc i + j ≡ i + suc j = omega arith in
     subst (λ (z : ℕ). HasStamp targets trees z file new) next (rest j mid at k)
 
@@ -328,5 +328,5 @@ stamps_done writing lost s targets trees (f ∷ files) i j file names new taken 
 stamps_done writing lost s targets trees (f ∷ files) i j file names new taken now r done at (inl (p, stamp, is, h)) =
     made_done writing lost names (proof_name f) (file_of p)
     (λ mid. CarriesOut writing lost s (prints (wrote_text f) ∷ stamp_acts targets trees (suc i) files) mid new taken now r) (HasStamp targets trees (i + j) file new) new taken now r done
-    (λ absent. behind_stamp writing lost s targets trees f files i j file names new taken now r p done at stamp is
+    (λ absent. after_stamp writing lost s targets trees f files i j file names new taken now r p done at stamp is
     (λ k mid. stamps_done writing lost s targets trees files (suc i) k file (map.insert names (proof_name f) (file_of p)) new mid now r done)) h

@@ -5,14 +5,14 @@ use Rattle.std.specs.FinMap as map
 use Rattle.ots_outside.specs.Shelf.{Names}
 use Rattle.ots_ops.specs.declared.hash_op.HashOp.{HashOp}
 use Rattle.ots_tree.specs.declared.detached.Detached.{Detached}
-use Rattle.ots_bitcoin.specs.HeaderTable.{Table}
+use Rattle.ots_headers.specs.HeaderTable.{Table}
 use Rattle.ots_detached.specs.File.{IsFileOf, file_of}
 use Rattle.ots_cli.specs.declared.status.Status.{Status}
 use Rattle.ots_cli.specs.declared.status.Status.TheVariants.{Done, No, Usage, BadProof, NoFile, Exists, ReadFault, WriteFault, TooBig, TooFew, NonceFault, FileTooLong, BadAddress, Differs, OutOfMemory}
 use Rattle.ots_cli.specs.Ending.{Ending, makes, printing, prints}
 use Rattle.ots_cli.specs.Asking.{IsOffline, Outside}
 use Rattle.ots_cli.specs.Text.{asked_text, complete_status, complete_text, verdict_status}
-use Rattle.ots_upgrade.specs.Asked.{AskedAt}
+use Rattle.ots_upgrade.specs.declared.asking.AskedAt.{AskedAt}
 use Rattle.ots_cli.specs.Answer.{Answers, AnswersAs, Comes, are_hashed, one_refused, is_list, is_bad, WritesAsked, asked_too_long, asked_made, as_defined, not_read, PrintsVerdict, RefusesInput, no_file, refuses, is_given, is_refused, WithPerhapsTable, WithProof, WithTable, WithTarget, Writes, too_long, is_made, Merges, differ, joined, VerifiesBy, VerifiesProof, VerifiesTarget}
 use Rattle.ots_cli.specs.CarriedOut.{CarriesOut, Ends, carried_out, no_memory}
 use Rattle.ots_cli.specs.Found.{RefusesProof, RefusesTarget, too_big, bad_proof}
@@ -21,7 +21,7 @@ use Rattle.ots_tree.specs.declared.token.Token.{Token}
 use Rattle.ots_upgrade.specs.Stamped.{good_trees}
 use Rattle.ots_upgrade.specs.declared.target.Target.{Target}
 use Rattle.ots_cli.specs.ReadsBack.{IsDoneOrNo, IsOutput, IsOutputAsked, IsResultOf, Leaves, ReadsBack}
-use Rattle.ots_words.specs.Words.{Command, HeaderFile, info, canon, merge, prune, verify, stamp, upgrade, sample}
+use Rattle.ots_client_words.specs.Words.{ClientCommand, HeaderFile, info, canon, merge, prune, verify, stamp, upgrade, sample}
 use Rattle.ots_cli.proofs.Outcome.{EndsWith, HasStamp, IsPlain, MakesOnly, carried_leaves, carried_status, done_making, get_inserted, is_plain, never, stamps_done}
 
 -- ---- an ending that was carried out with Done
@@ -60,7 +60,7 @@ module _ (writing lost : Type 0) (names : Names) (new : Option Names) (taken now
   stamps_written targets trees files i file text at (inl (mid, whole, h)) =
       let this : 0 + i ≡ i = omega arith in
       subst (λ (z : ℕ). HasStamp targets trees z file new) this (stamps_done writing lost Done targets trees files 0 i file names new mid now r done at h)
-  stamps_written targets trees files i file text at (inr front) = absurd (never r WriteFault front.3 (λ clash. cc) (λ clash. cc) done)
+  stamps_written targets trees files i file text at (inr prefix) = absurd (never r WriteFault prefix.3 (λ clash. cc) (λ clash. cc) done)
 
   written : (to : List ℕ) (p : Detached) (e : Ending) → Writes to p e → CarriesOut writing lost e.status e.acts (Some names) new taken now r
       → (bytes : List ℕ) × (new ≡ Some (map.insert names to bytes)) × IsFileOf bytes p
@@ -77,24 +77,24 @@ module _ (writing lost : Type 0) (names : Names) (new : Option Names) (taken now
   written_asked asked to p e (asked_too_long long f) h = absurd (not_done e TooBig (ap (λ (z : Ending). z.status) f) (λ clash. cc) (λ clash. cc) h)
   written_asked asked to p e (asked_made complete is file f) h = (
     file_of p,
-    behind_text (asked_text asked) to (file_of p) (complete_text complete) (complete_status complete)
+    after_text (asked_text asked) to (file_of p) (complete_text complete) (complete_status complete)
         (subst (λ (z : Ending). CarriesOut writing lost z.status z.acts (Some names) new taken now r) f h),
     file,
   ) where
-    behind_text : (first to bytes last : List ℕ) (s : Status) → CarriesOut writing lost s (prints first ∷ makes to bytes ∷ prints last ∷ []) (Some names) new taken now r
+    after_text : (first to bytes last : List ℕ) (s : Status) → CarriesOut writing lost s (prints first ∷ makes to bytes ∷ prints last ∷ []) (Some names) new taken now r
         → new ≡ Some (map.insert names to bytes)
-    behind_text first to bytes last s (inl (mid, whole, then)) = done_making writing lost s to bytes (prints last ∷ []) names new mid now r tt done then
-    behind_text first to bytes last s (inr front) = absurd (never r WriteFault front.3 (λ clash. cc) (λ clash. cc) done)
+    after_text first to bytes last s (inl (mid, whole, then)) = done_making writing lost s to bytes (prints last ∷ []) names new mid now r tt done then
+    after_text first to bytes last s (inr prefix) = absurd (never r WriteFault prefix.3 (λ clash. cc) (λ clash. cc) done)
 
   under_output : (a b bytes : List ℕ) → a ≡ b → new ≡ Some (map.insert names a bytes) → EndsWith new b bytes
   under_output a b bytes same h = subst (λ (z : List ℕ). EndsWith new z bytes) same (map.insert names a bytes, h, get_inserted names a bytes)
 
   -- under an output is the file of the result
-  back : (happens : Outside → Type 0) (o : Outside) → happens o → (c : Command) (to bytes : List ℕ) (r : Detached) → EndsWith new to bytes → IsFileOf bytes r
+  back : (happens : Outside → Type 0) (o : Outside) → happens o → (c : ClientCommand) (to bytes : List ℕ) (r : Detached) → EndsWith new to bytes → IsFileOf bytes r
       → IsResultOf o names c to r → ReadsBack happens names c to new
   back happens o heard c to bytes r ends file is = (o, heard, ends.0, ends.1, bytes, ends.2, r, file, is)
 
-  result : (happens : Outside → Type 0) (o : Outside) → happens o → (c : Command) (to : List ℕ) (e : Ending) → IsOutput c to → Answers o (Some names) (Some c) e
+  result : (happens : Outside → Type 0) (o : Outside) → happens o → (c : ClientCommand) (to : List ℕ) (e : Ending) → IsOutput c to → Answers o (Some names) (Some c) e
       → CarriesOut writing lost e.status e.acts (Some names) new taken now r → ReadsBack happens names c to new
   result happens o heard (info name) to e out a h = absurd out
   result happens o heard (verify v) to e out a h = absurd out
@@ -141,7 +141,7 @@ module _ (writing lost : Type 0) (names : Names) (new : Option Names) (taken now
         is_stamp = x.1;
       })
 
-pub reads_back : (happens : Outside → Type 0) (names : Names) (c : Command) (to : List ℕ) → IsOutput c to → (old new : Option Names) (command : Option Command)
+pub reads_back : (happens : Outside → Type 0) (names : Names) (c : ClientCommand) (to : List ℕ) → IsOutput c to → (old new : Option Names) (command : Option ClientCommand)
     (stops_at : List ℕ → Type 0) (writing lost : Type 0) (taken now : Option (List ℕ)) (r : Status) → old ≡ Some names → command ≡ Some c → IsDoneOrNo r
     → Ends (Comes (AnswersAs happens old command) stops_at) writing lost old new taken now r → ReadsBack happens names c to new
 reads_back happens names c to out old new command stops_at writing lost taken now r told asks done h =
@@ -149,7 +149,7 @@ reads_back happens names c to out old new command stops_at writing lost taken no
       here : Ends (Comes (AnswersAs happens (Some names) command) stops_at) writing lost (Some names) new taken now r → ReadsBack happens names c to new
       here (no_memory ran same kept) = absurd (never r OutOfMemory ran (λ clash. cc) (λ clash. cc) done)
       here (carried_out e (as_defined (o, heard, a)) k) =
-          result writing lost names new taken now r done happens o heard c to e out (subst (λ (z : Option Command). Answers o (Some names) z e) asks a) k
+          result writing lost names new taken now r done happens o heard c to e out (subst (λ (z : Option ClientCommand). Answers o (Some names) z e) asks a) k
       here (carried_out e (not_read name stops is) k) = absurd (not_text writing lost names new taken now r done e ReadFault _ is (λ clash. cc) (λ clash. cc) k)
 
 -- ---- which names are made
@@ -195,7 +195,7 @@ module _ (out stamps : List ℕ → Type 0) where
   only_target told name hash p b l e (is_refused a) = only_refused e a
 
 -- the names under which proofs of stamped files are made
-abbrev IsStampAsked : Option Command → List ℕ → Type 0
+abbrev IsStampAsked : Option ClientCommand → List ℕ → Type 0
 IsStampAsked None name = ⊥
 IsStampAsked (Some (info proof)) name = ⊥
 IsStampAsked (Some (canon from to)) name = ⊥
@@ -206,7 +206,7 @@ IsStampAsked (Some (stamp s)) name = IsOutput (stamp s) name
 IsStampAsked (Some (upgrade u)) name = ⊥
 IsStampAsked (Some (sample n)) name = ⊥
 
-none_stamped : (c : Option Command) → IsOffline c → (name : List ℕ) → IsStampAsked c name → ⊥
+none_stamped : (c : Option ClientCommand) → IsOffline c → (name : List ℕ) → IsStampAsked c name → ⊥
 none_stamped None offline name h = h
 none_stamped (Some (info proof)) offline name h = h
 none_stamped (Some (canon from to)) offline name h = h
@@ -227,7 +227,7 @@ only_stamps P targets trees i (file ∷ files) each =
 abbrev none : List ℕ → Type 0
 none name = ⊥
 
-makes_only : (o : Outside) (told : Option Names) (c : Option Command) (e : Ending) → Answers o told c e → MakesOnly (IsOutputAsked c) (IsStampAsked c) e.acts
+makes_only : (o : Outside) (told : Option Names) (c : Option ClientCommand) (e : Ending) → Answers o told c e → MakesOnly (IsOutputAsked c) (IsStampAsked c) e.acts
 makes_only o told None e a = only_text none none e Usage _ a
 makes_only o told (Some (info name)) e a = only_proof none none told name _ e (λ p printed. only_text none none e Done _ printed.2) a
 makes_only o told (Some (canon from to)) e a = only_proof (λ name. to ≡ name) none told from _ e (λ p made. only_written (λ name. to ≡ name) none to made.0 e refl made.2) a
@@ -252,10 +252,10 @@ makes_only o told (Some (stamp s)) e (is_list calendars is (are_hashed digests h
     of_stamps (stamped targets asked enough f) = subst (λ (z : Ending). MakesOnly (IsOutput (stamp s)) (IsOutput (stamp s)) z.acts) (sym f)
         (only_stamps (IsOutput (stamp s)) targets (good_trees o.outcomes) 0 s.files (λ j file at. (j, file, at, refl)))
 
-pub offline_plain : (o : Outside) (told : Option Names) (c : Option Command) (e : Ending) → IsOffline c → Answers o told c e → IsPlain e.acts
+pub offline_plain : (o : Outside) (told : Option Names) (c : Option ClientCommand) (e : Ending) → IsOffline c → Answers o told c e → IsPlain e.acts
 offline_plain o told c e offline a = is_plain (IsOutputAsked c) (IsStampAsked c) (none_stamped c offline) e.acts (makes_only o told c e a)
 
-pub leaves_others : (happens : Outside → Type 0) (names : Names) (old new : Option Names) (command : Option Command) (stops_at : List ℕ → Type 0) (writing lost : Type 0)
+pub leaves_others : (happens : Outside → Type 0) (names : Names) (old new : Option Names) (command : Option ClientCommand) (stops_at : List ℕ → Type 0) (writing lost : Type 0)
     (taken now : Option (List ℕ)) (r : Status) → old ≡ Some names → Ends (Comes (AnswersAs happens old command) stops_at) writing lost old new taken now r
     → Leaves names (IsOutputAsked command) new
 leaves_others happens names old new command stops_at writing lost taken now r told h =

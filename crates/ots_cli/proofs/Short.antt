@@ -4,15 +4,15 @@ use Rattle.std.specs.Prelude.{◌≢◌, Result, Ok, Err, IsErrAnd, IsOk}
 use Rattle.std.proofs.lemmas.List.{take_all}
 use Rattle.ots_base.specs.Cause.{Rose}
 use Rattle.ots_base.specs.declared.out_of_memory.OutOfMemory.{OutOfMemory as NoMemory}
-use Rattle.ots_bitcoin.specs.HeaderTable.{Table}
-use Rattle.ots_eval.specs.declared.verdicts.Verdict.{Verdict}
-use Rattle.ots_eval.specs.declared.verdicts.Verdict.TheVariants.{Yes, NoDigest, NoPath}
+use Rattle.ots_headers.specs.HeaderTable.{Table}
+use Rattle.ots_verdicts.specs.declared.verdicts.Verdict.{Verdict}
+use Rattle.ots_verdicts.specs.declared.verdicts.Verdict.TheVariants.{Yes, NoDigest, NoPath}
 use Rattle.ots_tree.specs.declared.detached.Detached.{Detached}
 use Rattle.ots_ops.specs.declared.hash_op.HashOp.{HashOp}
 use Rattle.ots_outside.specs.Shelf.{Names, ShelfTold}
 use Rattle.ots_verifier.specs.Checked.{IsCheckOf, Pieces}
 use Rattle.ots_verifier.specs.declared.checked.Checked.{Checked}
-use Rattle.ots_words.specs.Words.{Command, HeaderFile, Verification, info, canon, merge, prune, verify, stamp, upgrade, sample}
+use Rattle.ots_client_words.specs.Words.{ClientCommand, HeaderFile, Verification, info, canon, merge, prune, verify, stamp, upgrade, sample}
 use Rattle.ots_cli.specs.declared.input.InputError.{InputError}
 use Rattle.ots_cli.specs.declared.input.InputError.TheVariants.{NoFile, ReadFault, TooBig, BadProof, BadHeaders, FileTooLong, BadAddress, OutOfMemory}
 use Rattle.ots_cli.specs.declared.input.Stop.{Stop}
@@ -26,11 +26,12 @@ use Rattle.ots_cli.specs.Asking.{Outside}
 use Rattle.ots_cli.specs.Bounded.{RunsShort, GathersBounded, Bounds, EndsBounded, BoundsEnd}
 use Rattle.ots_cli.specs.CarriedOut.{CarriesOut}
 use Rattle.ots_cli.specs.Ending.{Ending, printing, prints, refused}
-use Rattle.ots_cli.specs.Found.{HasUnder, IsHashOf, RefusesProof, too_big, bad_proof, RefusesTable, cut, too_many, RefusesTarget, status_of}
+use Rattle.ots_cli.specs.Found.{IsHashOf, RefusesProof, too_big, bad_proof, RefusesTable, cut, too_many, RefusesTarget, status_of}
 use Rattle.ots_cli.specs.Gathered.{RanOut}
-use Rattle.ots_cli.specs.Opened.{Opens, OpensFront}
 use Rattle.ots_cli.specs.Text.{verdict_status, verdict_text}
-use Rattle.ots_cli.proofs.Opened.{none_opened}
+use Rattle.ots_inputs.proofs.Opened.{none_opened}
+use Rattle.ots_inputs.specs.Under.{HasUnder}
+use Rattle.ots_inputs.specs.Opened.{Opens, OpensPrefix}
 
 -- ---- while inputs are gathered
 
@@ -40,8 +41,8 @@ ran_same (Ok y) stop is ran = absurd ran
 ran_same (Err x) stop is ran = sym (ap (λ (z : Stop). z.cause) is) ∙ ran
 
 -- all of these names were opened
-pub whole_front : (names : List (List ℕ)) (old new : Option (List (List ℕ))) → Opens names old new → OpensFront names old new
-whole_front names old new h = (length names, subst (λ (z : List (List ℕ)). Opens z old new) (sym (take_all (length names) names (omega arith))) h)
+pub whole_prefix : (names : List (List ℕ)) (old new : Option (List (List ℕ))) → Opens names old new → OpensPrefix names old new
+whole_prefix names old new h = (length names, subst (λ (z : List (List ℕ)). Opens z old new) (sym (take_all (length names) names (omega arith))) h)
 
 pub rose_from : (a b c : ℕ) → b ≡ a → Rose b c → Rose a c
 rose_from a b c is h = subst (λ (z : ℕ). Rose z c) is h
@@ -78,7 +79,7 @@ ends_decided : (v : Verification) (old new : ShelfTold) (i : Inputs) (r : Result
 ends_decided v old new i (Ok d) h prompt = tt
 ends_decided v old new i (Err x) (w, is) prompt = let ok = prompt w is in absurd cc
 
-pub bounds_decided : (c : Command) (old new : ShelfTold) (i : Inputs) (r : Result Decided NoMemory) → Bounds c old new (Ok i) → ((w : Verdict) → i ≡ inputs.Verify w → IsOk r)
+pub bounds_decided : (c : ClientCommand) (old new : ShelfTold) (i : Inputs) (r : Result Decided NoMemory) → Bounds c old new (Ok i) → ((w : Verdict) → i ≡ inputs.Verify w → IsOk r)
     → BoundsEnd (Some c) old new r
 bounds_decided (info proof) old new i r h prompt = tt
 bounds_decided (canon from to) old new i r h prompt = tt
@@ -89,7 +90,7 @@ bounds_decided (stamp s) old new i r h prompt = tt
 bounds_decided (upgrade u) old new i r h prompt = tt
 bounds_decided (sample n) old new i r h prompt = tt
 
-pub bounds_stopped : (c : Command) (old new : ShelfTold) (stop : Stop) (x : NoMemory) → Bounds c old new (Err stop) → stop.cause ≡ OutOfMemory → BoundsEnd (Some c) old new (Err x)
+pub bounds_stopped : (c : ClientCommand) (old new : ShelfTold) (stop : Stop) (x : NoMemory) → Bounds c old new (Err stop) → stop.cause ≡ OutOfMemory → BoundsEnd (Some c) old new (Err x)
 bounds_stopped (info proof) old new stop x h ran = tt
 bounds_stopped (canon from to) old new stop x h ran = tt
 bounds_stopped (merge first second to) old new stop x h ran = tt
@@ -99,7 +100,7 @@ bounds_stopped (stamp s) old new stop x h ran = tt
 bounds_stopped (upgrade u) old new stop x h ran = tt
 bounds_stopped (sample n) old new stop x h ran = tt
 
-pub bounds_refused : (c : Option Command) (old new : ShelfTold) (d : Decided) → BoundsEnd c old new (Ok d)
+pub bounds_refused : (c : Option ClientCommand) (old new : ShelfTold) (d : Decided) → BoundsEnd c old new (Ok d)
 bounds_refused None old new d = tt
 bounds_refused (Some (info proof)) old new d = tt
 bounds_refused (Some (canon from to)) old new d = tt
@@ -111,7 +112,7 @@ bounds_refused (Some (upgrade u)) old new d = tt
 bounds_refused (Some (sample n)) old new d = tt
 
 -- nothing was opened yet
-pub bounds_none : (c : Option Command) (told : ShelfTold) (x : NoMemory) → BoundsEnd c told told (Err x)
+pub bounds_none : (c : Option ClientCommand) (told : ShelfTold) (x : NoMemory) → BoundsEnd c told told (Err x)
 bounds_none None told x = tt
 bounds_none (Some (info proof)) told x = tt
 bounds_none (Some (canon from to)) told x = tt
@@ -122,7 +123,7 @@ bounds_none (Some (stamp s)) told x = tt
 bounds_none (Some (upgrade u)) told x = tt
 bounds_none (Some (sample n)) told x = tt
 
-pub bounded_end : (c : Option Command) (v : Verification) (old new : ShelfTold) (x : NoMemory) → c ≡ Some (verify v) → BoundsEnd c old new (Err x) → RunsShort v old new
+pub bounded_end : (c : Option ClientCommand) (v : Verification) (old new : ShelfTold) (x : NoMemory) → c ≡ Some (verify v) → BoundsEnd c old new (Err x) → RunsShort v old new
 bounded_end c v old new x is h = rw is at h
 
 -- ---- what `verify` ends with is printed, which takes no memory
@@ -192,7 +193,7 @@ told_status writing lost e old new taken now r t h =
     printed_status writing lost s text old new taken now r enough (inl (mid, takes, (same, kept, is))) = status_differs r s enough is
     printed_status writing lost s text old new taken now r enough (inr (same, failed, takes, is)) = status_differs r status.WriteFault (λ z. cc) is
 
-pub verdict_told : (happens : Outside → Type 0) (told : Option Names) (stops_at : List ℕ → Type 0) (c : Option Command) (v : Verification) (e : Ending) (writing lost : Type 0)
+pub verdict_told : (happens : Outside → Type 0) (told : Option Names) (stops_at : List ℕ → Type 0) (c : Option ClientCommand) (v : Verification) (e : Ending) (writing lost : Type 0)
     (old new : Option Names) (taken now : Option (List ℕ)) (r : Status) → c ≡ Some (verify v) → Comes (AnswersAs happens told c) stops_at e
     → CarriesOut writing lost e.status e.acts old new taken now r → r ≢ status.OutOfMemory
 verdict_told happens told stops_at c v e writing lost old new taken now r is (as_defined (o, happened, answers)) h =

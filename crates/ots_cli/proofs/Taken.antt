@@ -3,9 +3,9 @@ use Rattle.std.proofs.Common.{◌≡◌, ◌⊎◌, ℕ, true, false, List, [], 
 use Rattle.ots_outside.specs.Shelf.{Names}
 use Rattle.ots_ops.specs.declared.hash_op.HashOp.{HashOp}
 use Rattle.ots_tree.specs.declared.detached.Detached.{Detached}
-use Rattle.ots_bitcoin.specs.HeaderTable.{Table}
-use Rattle.ots_eval.specs.declared.verdicts.Verdict.{Verdict}
-use Rattle.ots_eval.specs.declared.verdicts.Verdict.TheVariants.{Yes, NoDigest, NoPath}
+use Rattle.ots_headers.specs.HeaderTable.{Table}
+use Rattle.ots_verdicts.specs.declared.verdicts.Verdict.{Verdict}
+use Rattle.ots_verdicts.specs.declared.verdicts.Verdict.TheVariants.{Yes, NoDigest, NoPath}
 use Rattle.ots_cli.specs.declared.status.Status.{Status}
 use Rattle.ots_cli.specs.declared.status.Status.TheVariants.{Done, No, Usage, BadProof, NoFile, Exists, ReadFault, WriteFault, TooBig, BadHeaders, TooFew, NonceFault, FileTooLong, BadAddress, Differs, OutOfMemory}
 use Rattle.ots_cli.specs.Ending.{Ending, makes, printing}
@@ -13,13 +13,13 @@ use Rattle.ots_cli.specs.Answer.{Answers, AnswersAs, Comes, RefusesInput, WithHa
 use Rattle.ots_cli.specs.Asking.{Outside}
 use Rattle.ots_address.specs.Address.{AddressParts}
 use Rattle.ots_cli.specs.Stamping.{Stamps, no_nonce, stamped, too_few}
-use Rattle.ots_upgrade.specs.Asked.{AskedAt}
+use Rattle.ots_upgrade.specs.declared.asking.AskedAt.{AskedAt}
 use Rattle.ots_cli.specs.CarriedOut.{Ends}
 use Rattle.ots_cli.proofs.Outcome.{Failed, MayEnd, only_prints, outcome}
 use Rattle.ots_cli.specs.Found.{RefusesTarget, too_big, bad_proof, cut, too_many}
 use Rattle.ots_cli.specs.Taken.{IsProof, TakesProofs, proofs_read}
 use Rattle.ots_cli.specs.Text.{verdict_status}
-use Rattle.ots_words.specs.Words.{Command, HeaderFile, info, canon, merge, prune, verify, stamp, upgrade, sample, Stamping}
+use Rattle.ots_client_words.specs.Words.{ClientCommand, HeaderFile, info, canon, merge, prune, verify, stamp, upgrade, sample, Stamping}
 
 -- the status of an ending is this one, of which it is said
 of_status : (names : Names) (proofs : List (List ℕ)) (s t : Status) → s ≡ t → TakesProofs names proofs t → TakesProofs names proofs s
@@ -60,7 +60,7 @@ module _ (names : Names) (e : Ending) (s : Status) (may : MayEnd e s) where
   of_proof name rest P then (is_refused (refuses t (b, at, bad_proof k fits has is) f)) =
       of_text (name ∷ rest) t _ f (of_status names (name ∷ rest) t (BadProof k) is (inl (b, at, (fits, has))))
 
-  -- what comes behind the proofs
+  -- what comes after the proofs
   of_not_made : (s ≡ Exists) ⊎ (s ≡ TooBig) → TakesProofs names [] s
   of_not_made (inl exists) = of_status names [] s Exists exists tt
   of_not_made (inr long) = of_status names [] s TooBig long tt
@@ -127,7 +127,7 @@ module _ (names : Names) (e : Ending) (s : Status) (may : MayEnd e s) where
       of_one (no_file none f) = of_text [] NoFile _ f tt
       of_one (refuses t has f) = of_text [] t _ f (of_status names [] t FileTooLong has.2.1 tt)
 
-  takes : (o : Outside) (c : Command) → Answers o (Some names) (Some c) e → TakesProofs names (proofs_read c) s
+  takes : (o : Outside) (c : ClientCommand) → Answers o (Some names) (Some c) e → TakesProofs names (proofs_read c) s
   takes o (info name) h = of_proof name [] PrintsInfo (λ p printed. of_text [] Done _ printed.2 tt) h
   takes o (canon from to) h = of_proof from [] _ (λ p result. of_writing to result.0 result.2) h
   takes o (merge first second to) h = of_proof first (second ∷ []) _ (λ p. of_proof second [] _ (λ q. of_merging to p q)) h
@@ -147,11 +147,11 @@ of_fault names proofs s (inl is) = of_status names proofs s ReadFault is tt
 of_fault names proofs s (inr (inl is)) = of_status names proofs s WriteFault is tt
 of_fault names proofs s (inr (inr is)) = of_status names proofs s OutOfMemory is tt
 
-pub are_taken : (happens : Outside → Type 0) (names : Names) (c : Command) (old new : Option Names) (command : Option Command) (stops_at : List ℕ → Type 0) (writing lost : Type 0)
+pub are_taken : (happens : Outside → Type 0) (names : Names) (c : ClientCommand) (old new : Option Names) (command : Option ClientCommand) (stops_at : List ℕ → Type 0) (writing lost : Type 0)
     (taken now : Option (List ℕ)) (s : Status) → old ≡ Some names → command ≡ Some c → Ends (Comes (AnswersAs happens old command) stops_at) writing lost old new taken now s
     → TakesProofs names (proofs_read c) s
 are_taken happens names c old new command stops_at writing lost taken now s told asks h = elim (outcome _ _ _ _ _ _ _ _ s h) [
   | inr failed ↦ of_fault names (proofs_read c) s failed
   | inl (e, (o, heard, a), may) ↦
-      takes names e s may o c (subst (λ (z : Option Command). Answers o (Some names) z e) asks (subst (λ (z : Option Names). Answers o z command e) told a))
+      takes names e s may o c (subst (λ (z : Option ClientCommand). Answers o (Some names) z e) asks (subst (λ (z : Option Names). Answers o z command e) told a))
 ]

@@ -3,11 +3,11 @@ use Rattle.std.proofs.Common.{◌≡◌, ℕ, List, Option, Some, None, inl, inr
 use Rattle.ots_outside.specs.Shelf.{Names}
 use Rattle.ots_ops.specs.Hashed.{hashed}
 use Rattle.ots_tree.specs.declared.detached.Detached.{Detached}
-use Rattle.ots_bitcoin.specs.HeaderTable.{Table}
-use Rattle.ots_eval.specs.Confirmed.{IsVerdict}
-use Rattle.ots_eval.specs.declared.verdicts.Chain.TheVariants as chain
-use Rattle.ots_eval.specs.declared.verdicts.Verdict.{Verdict}
-use Rattle.ots_eval.specs.declared.verdicts.Verdict.TheVariants.{Yes, NoDigest, NoPath}
+use Rattle.ots_headers.specs.HeaderTable.{Table}
+use Rattle.ots_verdicts.specs.Confirmed.{IsVerdict}
+use Rattle.ots_verdicts.specs.declared.verdicts.Chain.TheVariants as chain
+use Rattle.ots_verdicts.specs.declared.verdicts.Verdict.{Verdict}
+use Rattle.ots_verdicts.specs.declared.verdicts.Verdict.TheVariants.{Yes, NoDigest, NoPath}
 use Rattle.ots_cli.specs.declared.status.Status.{Status}
 use Rattle.ots_cli.specs.declared.status.Status.TheVariants.{Done, No, Usage, BadProof, NoFile, Exists, ReadFault, WriteFault, TooBig, BadHeaders, TooFew, NonceFault, FileTooLong, BadAddress, Differs, OutOfMemory}
 use Rattle.ots_cli.specs.Ending.{Ending}
@@ -16,7 +16,7 @@ use Rattle.ots_cli.specs.Answer.{Answers, AnswersAs, Comes, HasPerhapsTable, Pri
 use Rattle.ots_cli.specs.CarriedOut.{Ends}
 use Rattle.ots_cli.proofs.Outcome.{only_prints, outcome}
 use Rattle.ots_cli.specs.Text.{verdict_status}
-use Rattle.ots_words.specs.Words.{Command, HeaderFile, Verification, verify}
+use Rattle.ots_client_words.specs.Words.{ClientCommand, HeaderFile, Verification, verify}
 use Rattle.ots_cli.specs.Yes.{HasFiles, IsDoneExactlyWhere, SaysYes}
 use Rattle.ots_cli.proofs.OneAnswer.{given_proof, given_table, given_target}
 
@@ -72,7 +72,7 @@ exactly says FileTooLong to from = λ h. absurd (let clash = from h in cc)
 exactly says (Differs h d k e) to from = λ g. absurd (let clash = from g in cc)
 
 pub done_exactly : (happens : Outside → Type 0) (names : Names) (v : Verification) (b : Table) (l : Option Table) (p : Detached) (target : List ℕ) → HasFiles names v b l p target
-    → (old new : Option Names) (command : Option Command) (stops_at : List ℕ → Type 0) (writing lost : Type 0) (taken now : Option (List ℕ)) (s : Status)
+    → (old new : Option Names) (command : Option ClientCommand) (stops_at : List ℕ → Type 0) (writing lost : Type 0) (taken now : Option (List ℕ)) (s : Status)
     → old ≡ Some names → command ≡ Some (verify v) → Ends (Comes (AnswersAs happens old command) stops_at) writing lost old new taken now s
     → IsDoneExactlyWhere (SaysYes p target b l) s
 done_exactly happens names v b l p target has old new command stops_at writing lost taken now s told asks h = elim (outcome _ _ _ _ _ _ _ _ s h) [
@@ -81,7 +81,7 @@ done_exactly happens names v b l p target has old new command stops_at writing l
   | inr (inr (inr is)) ↦ subst (IsDoneExactlyWhere (SaysYes p target b l)) (sym is) tt
   | inl (e, (o, heard, a), may) ↦
       let verdict = prints_verdict names v b l p target e has
-      (subst (λ (z : Option Command). Answers o (Some names) z e) asks (subst (λ (z : Option Names). Answers o z command e) told a)) in
+      (subst (λ (z : Option ClientCommand). Answers o (Some names) z e) asks (subst (λ (z : Option Names). Answers o z command e) told a)) in
       let is = only_prints e s (verdict_status verdict.0) _ verdict.2 may in
       exactly (SaysYes p target b l) s (λ done. yes_says p target b l verdict.0 verdict.1 (sym is ∙ done)) (λ says. is ∙ says_yes p target b l verdict.0 verdict.1 says)
 ]

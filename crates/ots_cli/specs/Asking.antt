@@ -14,8 +14,10 @@ use Rattle.ots_upgrade.specs.declared.target.Target.{Target}
 use Rattle.ots_upgrade.specs.Stamped.{IsDepth, leaves}
 use Rattle.ots_upgrade.specs.Stamping.{to_stamp}
 use Rattle.ots_cli.specs.Drawing.{Draws, DrawsOrFails, DrawsSome}
-use Rattle.ots_cli.specs.Found.{AreHashed, HasUnder}
-use Rattle.ots_words.specs.Words.{Command, Stamping, Upgrading, info, canon, merge, prune, verify, stamp, upgrade, sample}
+use Rattle.ots_cli.specs.Found.{AreHashed}
+use Rattle.ots_client_words.specs.Words.{ClientCommand, Stamping, Upgrading, info, canon, merge, prune, verify, stamp}
+use Rattle.ots_client_words.specs.Words.{upgrade, sample}
+use Rattle.ots_inputs.specs.Under.{HasUnder}
 
 pub record Outside : Type 0 where
   -- the nonces that were drawn, in order, where drawing did not fail
@@ -30,7 +32,8 @@ abbrev pub alone : Outside
 alone = record { nonces = Some []; questions = []; outcomes = [] }
 
 -- These conversations were had between two states of a dialer, and these nonces drawn between two of their source.
-pub record Happens {D N : Type 0} (told : D → DialerTold) (faults : D → ℕ) (left : N → Option (List ℕ)) (draw_faults : N → ℕ) (old new : D) (before now : N)
+pub record Happens {D N : Type 0} (told : D → DialerTold) (faults : D → ℕ) (left : N → Option (List ℕ))
+    (draw_faults : N → ℕ) (old new : D) (before now : N)
     (o : Outside) : Type 0 where
   pub heard : Converse told faults o.questions old new o.outcomes
   pub drawn : DrawsOrFails left draw_faults o.nonces before now
@@ -41,7 +44,7 @@ pub record Hears {D : Type 0} (told : D → DialerTold) (faults : D → ℕ) (ol
   pub none : o.nonces ≡ Some []
 
 -- No calendar is asked.
-abbrev pub IsOffline : Option Command → Type 0
+abbrev pub IsOffline : Option ClientCommand → Type 0
 IsOffline None = Unit {0}
 IsOffline (Some (info proof)) = Unit {0}
 IsOffline (Some (canon from to)) = Unit {0}
@@ -53,16 +56,18 @@ IsOffline (Some (upgrade u)) = ⊥
 IsOffline (Some (sample n)) = Unit {0}
 
 -- Of what the proof under a name asks these calendars, some was asked in order, the last of it perhaps in part.
-pub record AsksUpTo {D : Type 0} (told : D → DialerTold) (faults : D → ℕ) (names : Option Names) (u : Upgrading) (old new : D) : Type 0 where
+pub record AsksUpTo {D : Type 0} (told : D → DialerTold) (faults : D → ℕ) (names : Option Names) (u : Upgrading)
+    (old new : D) : Type 0 where
   pub calendars : List AddressParts
   pub is_list : IsListOf u.calendars calendars
   pub proof : Detached
   pub is_proof : HasUnder names u.proof (λ bytes. IsFileOf bytes proof)
   pub asks : UpgradesUpTo told faults calendars proof old new
 
--- Nonces were drawn, one for each of these files, and of what calendars are then asked some was asked in order, the last of
--- it perhaps in part.
-pub record StampsUpTo {D N : Type 0} (told : D → DialerTold) (faults : D → ℕ) (left : N → Option (List ℕ)) (names : Option Names) (s : Stamping) (old new : D)
+-- Nonces were drawn, one for each of these files, and of what calendars are then asked some was asked in order, the
+-- last of it perhaps in part.
+pub record StampsUpTo {D N : Type 0} (told : D → DialerTold) (faults : D → ℕ) (left : N → Option (List ℕ))
+    (names : Option Names) (s : Stamping) (old new : D)
     (before now : N) : Type 0 where
   pub calendars : List AddressParts
   pub is_list : IsListOf s.calendars calendars
@@ -76,7 +81,7 @@ pub record StampsUpTo {D N : Type 0} (told : D → DialerTold) (faults : D → �
   pub asks : ConverseUpTo told faults (map (to_stamp (root (leaves targets)) depth) calendars) old new
 
 -- What a command draws, whatever its status is: a nonce for each file that is stamped, as far as it came.
-abbrev pub DrawsFor : {N : Type 0} → (N → Option (List ℕ)) → Option Command → N → N → Type 0
+abbrev pub DrawsFor : {N : Type 0} → (N → Option (List ℕ)) → Option ClientCommand → N → N → Type 0
 DrawsFor left None old new = new ≡ old
 DrawsFor left (Some (info proof)) old new = new ≡ old
 DrawsFor left (Some (canon from to)) old new = new ≡ old
@@ -88,13 +93,15 @@ DrawsFor left (Some (upgrade u)) old new = new ≡ old
 DrawsFor left (Some (sample n)) old new = new ≡ old
 
 -- What a command asks, whatever its status is: nothing, or some of what it is to ask.
-abbrev pub Asks : {D N : Type 0} → (D → DialerTold) → (D → ℕ) → (N → Option (List ℕ)) → Option Names → Option Command → D → D → N → N → Type 0
+abbrev pub Asks : {D N : Type 0} → (D → DialerTold) → (D → ℕ) → (N → Option (List ℕ)) → Option Names
+    → Option ClientCommand → D → D → N → N → Type 0
 Asks told faults left names None old new before now = new ≡ old
 Asks told faults left names (Some (info proof)) old new before now = new ≡ old
 Asks told faults left names (Some (canon from to)) old new before now = new ≡ old
 Asks told faults left names (Some (merge first second to)) old new before now = new ≡ old
 Asks told faults left names (Some (prune from to)) old new before now = new ≡ old
 Asks told faults left names (Some (verify v)) old new before now = new ≡ old
-Asks told faults left names (Some (stamp s)) old new before now = (new ≡ old) ⊎ StampsUpTo told faults left names s old new before now
+Asks told faults left names (Some (stamp s)) old new before now = (new ≡ old)
+    ⊎ StampsUpTo told faults left names s old new before now
 Asks told faults left names (Some (upgrade u)) old new before now = (new ≡ old) ⊎ AsksUpTo told faults names u old new
 Asks told faults left names (Some (sample n)) old new before now = new ≡ old

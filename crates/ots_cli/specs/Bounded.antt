@@ -2,15 +2,17 @@
 use Rattle.std.specs.Prelude.{◌≡◌, ◌⊎◌, ℕ, List, ◌∷◌, Option, Some, None, Result, Ok, Err}
 use Rattle.ots_base.specs.Cause.{Rose}
 use Rattle.ots_outside.specs.Shelf.{ShelfTold}
-use Rattle.ots_eval.specs.declared.verdicts.Verdict.{Verdict}
+use Rattle.ots_verdicts.specs.declared.verdicts.Verdict.{Verdict}
 use Rattle.ots_base.specs.declared.out_of_memory.OutOfMemory.{OutOfMemory as NoMemory}
-use Rattle.ots_words.specs.Words.{Command, Verification, info, canon, merge, prune, verify, stamp, upgrade, sample}
+use Rattle.ots_client_words.specs.Words.{ClientCommand, Verification, info, canon, merge, prune, verify, stamp, upgrade}
+use Rattle.ots_client_words.specs.Words.{sample}
 use Rattle.ots_cli.specs.declared.ending.Ending.{Ending as Decided}
 use Rattle.ots_cli.specs.declared.input.InputError.TheVariants.{OutOfMemory}
 use Rattle.ots_cli.specs.declared.input.Stop.{Stop}
 use Rattle.ots_cli.specs.declared.inputs.Inputs.{Inputs}
 use Rattle.ots_cli.specs.declared.inputs.Inputs.TheVariants as inputs
-use Rattle.ots_cli.specs.Opened.{OpensFront, names_of}
+use Rattle.ots_cli.specs.Opened.{names_of}
+use Rattle.ots_inputs.specs.Opened.{OpensPrefix}
 
 -- the names of the files of headers, in the order in which they are read
 abbrev pub header_names : Verification → List (List ℕ)
@@ -18,7 +20,7 @@ header_names v = v.bitcoin.name ∷ names_of v.litecoin
 
 -- Nothing was opened but files of headers; or the shelf ran out of memory.
 abbrev pub RunsShort : Verification → ShelfTold → ShelfTold → Type 0
-RunsShort v old new = OpensFront (header_names v) old.opened new.opened ⊎ Rose old.short new.short
+RunsShort v old new = OpensPrefix (header_names v) old.opened new.opened ⊎ Rose old.short new.short
 
 -- Everything was read, and there is a verdict; or memory ran out so.
 abbrev pub GathersBounded : Verification → ShelfTold → ShelfTold → Result Inputs Stop → Type 0
@@ -26,7 +28,7 @@ GathersBounded v old new (Ok i) = (verdict : Verdict) × (i ≡ inputs.Verify ve
 GathersBounded v old new (Err stop) = stop.cause ≡ OutOfMemory → RunsShort v old new
 
 -- The same of the inputs of any command, of which only `verify` is bounded.
-abbrev pub Bounds : Command → ShelfTold → ShelfTold → Result Inputs Stop → Type 0
+abbrev pub Bounds : ClientCommand → ShelfTold → ShelfTold → Result Inputs Stop → Type 0
 Bounds (info proof) old new r = Unit {0}
 Bounds (canon from to) old new r = Unit {0}
 Bounds (merge first second to) old new r = Unit {0}
@@ -41,7 +43,7 @@ abbrev pub EndsBounded : Verification → ShelfTold → ShelfTold → Result Dec
 EndsBounded v old new (Ok d) = Unit {0}
 EndsBounded v old new (Err ran) = RunsShort v old new
 
-abbrev pub BoundsEnd : Option Command → ShelfTold → ShelfTold → Result Decided NoMemory → Type 0
+abbrev pub BoundsEnd : Option ClientCommand → ShelfTold → ShelfTold → Result Decided NoMemory → Type 0
 BoundsEnd None old new r = Unit {0}
 BoundsEnd (Some (info proof)) old new r = Unit {0}
 BoundsEnd (Some (canon from to)) old new r = Unit {0}

@@ -20,7 +20,7 @@ use Rattle.ots_upgrade.specs.declared.target.Target.{Target}
 use Rattle.ots_cli.specs.declared.inputs.Submission.{Submission}
 use Rattle.ots_cli.specs.declared.status.Status.TheVariants.{Done, TooFew}
 use Rattle.ots_cli.specs.Stamping.{StampedFiles, calendars_text, proof_name, stamp_acts, wrote_text}
-use Rattle.ots_words.specs.Words.{texts}
+use Rattle.ots_arguments.specs.Values.{texts}
 use Rattle.ots_cli.specs.Text.{asked_text, complete_text, sample_text, verdict_text}
 
 -- a text, where a run ends with this status
@@ -30,7 +30,8 @@ IsTextOf status (text.Verdict v) bytes = bytes ≡ verdict_text v
 IsTextOf status (text.Refusal name) bytes = bytes ≡ refusal_text name.now status
 IsTextOf status (text.Asked asked) bytes = bytes ≡ asked_text asked
 IsTextOf status (text.Complete complete) bytes = bytes ≡ complete_text complete
-IsTextOf status (text.Calendars replies) bytes = bytes ≡ calendars_text replies.now.calendars.items replies.now.outcomes.items
+IsTextOf status (text.Calendars replies) bytes = bytes ≡ calendars_text replies.now.calendars.items
+    replies.now.outcomes.items
 IsTextOf status (text.Wrote name) bytes = bytes ≡ wrote_text name.now
 IsTextOf status (text.Sample s) bytes = bytes ≡ sample_text s
 
@@ -43,15 +44,17 @@ abbrev pub name_at : StampedFiles → ℕ → List ℕ
 name_at s i = slice_index_or s.files i []
 
 abbrev pub acts_at : StampedFiles → ℕ → List Act
-acts_at s i = makes_stamp s.targets (good_trees s.outcomes) i (proof_name (name_at s i)) ∷ prints (wrote_text (name_at s i)) ∷ []
+acts_at s i = makes_stamp s.targets (good_trees s.outcomes) i (proof_name (name_at s i))
+    ∷ prints (wrote_text (name_at s i)) ∷ []
 
 abbrev pub AreActsOf : Status → Acts → List Act → Type 0
 AreActsOf status (acts.Print t) done = (bytes : List ℕ) × IsTextOf status t bytes × (done ≡ prints bytes ∷ [])
 AreActsOf status (acts.Make name p) done = done ≡ makes name.now (file_of p) ∷ []
-AreActsOf status (acts.RefuseBehind t name) done =
+AreActsOf status (acts.RefuseAfter t name) done =
     (bytes : List ℕ) × IsTextOf status t bytes × (done ≡ prints bytes ∷ prints (refusal_text name.now status) ∷ [])
-AreActsOf status (acts.MakeBehind t name p complete) done =
-    (bytes : List ℕ) × IsTextOf status t bytes × (done ≡ prints bytes ∷ makes name.now (file_of p) ∷ prints (complete_text complete) ∷ [])
+AreActsOf status (acts.MakeAfter t name p complete) done =
+    (bytes : List ℕ) × IsTextOf status t bytes
+    × (done ≡ prints bytes ∷ makes name.now (file_of p) ∷ prints (complete_text complete) ∷ [])
 AreActsOf status (acts.RefuseStamps r) done =
     done ≡ prints (calendars_text r.calendars.items r.outcomes.items) ∷ prints (refusal_text [] status) ∷ []
 AreActsOf status (acts.MakeStamps s) done =
@@ -66,16 +69,19 @@ pub data EndsStamping (s : Submission) (targets : List Target) (outcomes : List 
   too_few : length (good_trees outcomes) < s.least
       → e ≡ record {
         status = TooFew (length (good_trees outcomes)) s.least;
-        acts = prints (calendars_text s.calendars.items outcomes) ∷ prints (refusal_text [] (TooFew (length (good_trees outcomes)) s.least)) ∷ [];
+        acts = prints (calendars_text s.calendars.items outcomes)
+            ∷ prints (refusal_text [] (TooFew (length (good_trees outcomes)) s.least)) ∷ [];
       } → EndsStamping s targets outcomes e
   enough : s.least ≤ length (good_trees outcomes)
       → e ≡ record {
         status = Done;
-        acts = prints (calendars_text s.calendars.items outcomes) ∷ stamp_acts targets (good_trees outcomes) 0 (texts s.files.items);
+        acts = prints (calendars_text s.calendars.items outcomes)
+            ∷ stamp_acts targets (good_trees outcomes) 0 (texts s.files.items);
       } → EndsStamping s targets outcomes e
 
 -- The same, where this came of asking the calendars.
-pub record AnswersTo {D : Type 0} (told : D → DialerTold) (faults : D → ℕ) (s : Submission) (targets : List Target) (old new : D) (e : Ending) : Type 0 where
+pub record AnswersTo {D : Type 0} (told : D → DialerTold) (faults : D → ℕ) (s : Submission) (targets : List Target)
+    (old new : D) (e : Ending) : Type 0 where
   pub depth : ℕ
   pub depth_is : IsDepth (leaves targets) depth
   pub outcomes : List Outcome

@@ -6,7 +6,8 @@ use Rattle.ots_outside.specs.Streams.{Gives}
 -- These were drawn one after the other between two states of a source of nonces, each of 16 bytes.
 abbrev pub Draws : {N : Type 0} → (N → Option (List ℕ)) → List (List ℕ) → N → N → Type 0
 Draws left [] old new = new ≡ old
-Draws {N} left (nonce ∷ nonces) old new = (mid : N) × Gives (left old) (left mid) nonce × (length nonce ≡ 16) × Draws left nonces mid new
+Draws {N} left (nonce ∷ nonces) old new = (mid : N) × Gives (left old) (left mid) nonce × (length nonce ≡ 16)
+    × Draws left nonces mid new
 
 -- Some were drawn, at most so many, and nothing is taken from the bytes to come but these.
 pub record DrawsSome {N : Type 0} (left : N → Option (List ℕ)) (most : ℕ) (old new : N) : Type 0 where

@@ -1,11 +1,10 @@
 -- What is found under a name, and what reading it answers.
-use Rattle.std.specs.Prelude.{◌≡◌, ◌+◌, ◌<◌, ◌≤◌, ℕ, List, [], ◌∷◌, length, Option, Some, None, Result, Ok, Err, IsSome}
-use Rattle.std.specs.FinMap as map
+use Rattle.std.specs.Prelude.{◌≡◌, ◌+◌, ◌<◌, ◌≤◌, ℕ, List, [], ◌∷◌, length, Option, Some, None, Result, Ok, Err}
 use Rattle.ots_base.specs.declared.limits.TheConstants.{MAX_HEADER_FILE, MAX_PROOF_FILE, MAX_TARGET_FILE}
-use Rattle.ots_base.specs.Told.{IfTold}
 use Rattle.ots_outside.specs.Shelf.{Names}
 use Rattle.ots_outside.specs.declared.shelf.OpenError.{OpenError}
 use Rattle.ots_outside.specs.declared.shelf.OpenError.TheVariants as opening
+use Rattle.ots_inputs.specs.Under.{HasUnder, IsUnder}
 use Rattle.ots_ops.specs.Hashed.{hashed}
 use Rattle.ots_ops.specs.declared.hash_op.HashOp.{HashOp}
 use Rattle.ots_ops.specs.declared.hash_op.HashOp.TheVariants.{Sha256}
@@ -15,36 +14,27 @@ use Rattle.ots_detached.specs.declared.hashing.HashError.{HashError}
 use Rattle.ots_detached.specs.declared.hashing.HashError.TheVariants as hashing
 use Rattle.ots_detached.specs.declared.reading.FileError.{FileError}
 use Rattle.ots_detached.specs.declared.reading.FileError.TheVariants as reading
-use Rattle.ots_bitcoin.specs.TableRead.{IsCut}
-use Rattle.ots_bitcoin.specs.declared.headers.HeadersError.{HeadersError}
-use Rattle.ots_bitcoin.specs.declared.headers.HeadersError.TheVariants as headers
+use Rattle.ots_headers.specs.TableRead.{IsCut}
+use Rattle.ots_headers.specs.declared.headers.HeadersError.{HeadersError}
+use Rattle.ots_headers.specs.declared.headers.HeadersError.TheVariants as headers
 use Rattle.ots_verifier.specs.declared.source.SourceError.{SourceError}
 use Rattle.ots_verifier.specs.declared.source.SourceError.TheVariants as source
 use Rattle.ots_cli.specs.declared.status.Status.{Status}
 use Rattle.ots_cli.specs.declared.status.Status.TheVariants as status
 use Rattle.ots_cli.specs.declared.input.InputError.{InputError}
-use Rattle.ots_cli.specs.declared.input.InputError.TheVariants.{NoFile, ReadFault, TooBig, BadProof, BadHeaders, FileTooLong, BadAddress, OutOfMemory}
-
--- What is under the name: nothing, or these bytes, as the names say that the shelf tells. Of a shelf
--- that tells none, as of real files, nothing is said.
-abbrev pub IsUnder : Option Names → List ℕ → Option (List ℕ) → Type 0
-IsUnder told name found = IfTold told (λ names. map.get names name ≡ found)
-
--- the name is there
-abbrev pub IsThere : Option Names → List ℕ → Type 0
-IsThere told name = IfTold told (λ names. IsSome (map.get names name))
-
-abbrev pub HasUnder : Option Names → List ℕ → (List ℕ → Type 0) → Type 0
-HasUnder told name P = (bytes : List ℕ) × IsUnder told name (Some bytes) × P bytes
+use Rattle.ots_cli.specs.declared.input.InputError.TheVariants.{NoFile, ReadFault, TooBig, BadProof, BadHeaders}
+use Rattle.ots_cli.specs.declared.input.InputError.TheVariants.{FileTooLong, BadAddress, OutOfMemory}
 
 -- ---- what bytes give, and with which status they are refused
 
 -- no proof file
 pub data RefusesProof (bytes : List ℕ) (s : Status) : Type 0 where
   too_big : MAX_PROOF_FILE < length bytes → s ≡ status.TooBig → RefusesProof bytes s
-  bad_proof : (f : Fault) → length bytes ≤ MAX_PROOF_FILE → HasFault bytes f → s ≡ status.BadProof f → RefusesProof bytes s
+  bad_proof : (f : Fault) → length bytes ≤ MAX_PROOF_FILE → HasFault bytes f → s ≡ status.BadProof f
+      → RefusesProof bytes s
 
--- No headers, by the number of bytes: none, or no multiple of 80, or more than 83,886,080, of which one past that is told.
+-- No headers, by the number of bytes: none, or no multiple of 80, or more than 83,886,080, of which one past that is
+-- told.
 pub data RefusesTable (bytes : List ℕ) (s : Status) : Type 0 where
   cut : IsCut (length bytes) → s ≡ status.BadHeaders (length bytes) → RefusesTable bytes s
   too_many : MAX_HEADER_FILE < length bytes → s ≡ status.BadHeaders (MAX_HEADER_FILE + 1) → RefusesTable bytes s
@@ -61,7 +51,8 @@ abbrev pub AreHashed : Option Names → List (List ℕ) → List (List ℕ) → 
 AreHashed told [] [] = Unit {0}
 AreHashed told [] (digest ∷ digests) = ⊥
 AreHashed told (name ∷ names) [] = ⊥
-AreHashed told (name ∷ names) (digest ∷ digests) = HasUnder told name (λ bytes. IsHashOf Sha256 bytes digest) × AreHashed told names digests
+AreHashed told (name ∷ names) (digest ∷ digests) = HasUnder told name (λ bytes. IsHashOf Sha256 bytes digest)
+    × AreHashed told names digests
 
 -- ---- what reading answers
 
@@ -77,7 +68,8 @@ IsRefusal told name Refuses (BadAddress place https) = ⊥
 IsRefusal told name Refuses FileTooLong = HasUnder told name (λ bytes. Refuses bytes status.FileTooLong)
 
 -- What was read is what the name's input gives; each refusal is that of its input.
-abbrev pub ReadsInput : {A : Type 0} → Option Names → List ℕ → (List ℕ → A → Type 0) → (List ℕ → Status → Type 0) → Result A InputError → Type 0
+abbrev pub ReadsInput : {A : Type 0} → Option Names → List ℕ → (List ℕ → A → Type 0) → (List ℕ → Status → Type 0)
+    → Result A InputError → Type 0
 ReadsInput told name Gives Refuses (Ok x) = HasUnder told name (λ bytes. Gives bytes x)
 ReadsInput told name Gives Refuses (Err e) = IsRefusal told name Refuses e
 

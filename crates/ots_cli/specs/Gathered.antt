@@ -11,14 +11,17 @@ use Rattle.ots_upgrade.specs.Conversation.{ConverseUpTo}
 use Rattle.ots_upgrade.specs.declared.target.Target.{Target}
 use Rattle.ots_upgrade.specs.Stamped.{IsDepth, leaves}
 use Rattle.ots_upgrade.specs.Stamping.{to_stamp}
-use Rattle.ots_words.specs.Words.{Command, Stamping, Upgrading, info, canon, merge, prune, verify, stamp, upgrade, sample, texts}
+use Rattle.ots_arguments.specs.Values.{texts}
+use Rattle.ots_client_words.specs.Words.{ClientCommand, Stamping, Upgrading, info, canon, merge, prune, verify, stamp}
+use Rattle.ots_client_words.specs.Words.{upgrade, sample}
 use Rattle.ots_cli.specs.Drawing.{Draws, DrawsSome}
 use Rattle.ots_cli.specs.declared.inputs.Submission.{Submission}
 use Rattle.ots_cli.specs.declared.inputs.Inputs.{Inputs}
 use Rattle.ots_cli.specs.declared.inputs.Inputs.TheVariants as inputs
 use Rattle.ots_cli.specs.declared.ending.Ending.{Ending as Decided}
 use Rattle.ots_cli.specs.declared.input.InputError.{InputError}
-use Rattle.ots_cli.specs.declared.input.InputError.TheVariants.{NoFile, ReadFault, TooBig, BadProof, BadHeaders, FileTooLong, BadAddress, OutOfMemory}
+use Rattle.ots_cli.specs.declared.input.InputError.TheVariants.{NoFile, ReadFault, TooBig, BadProof, BadHeaders}
+use Rattle.ots_cli.specs.declared.input.InputError.TheVariants.{FileTooLong, BadAddress, OutOfMemory}
 use Rattle.ots_cli.specs.declared.input.Stop.{Stop}
 use Rattle.ots_cli.specs.declared.status.Status.{Status}
 use Rattle.ots_cli.specs.declared.status.Status.TheVariants as status
@@ -26,11 +29,13 @@ use Rattle.ots_cli.specs.Decided.{EndsAs}
 use Rattle.ots_cli.specs.Ending.{Ending, refused}
 use Rattle.ots_base.specs.declared.out_of_memory.OutOfMemory.{OutOfMemory as NoMemory}
 use Rattle.ots_cli.specs.Answer.{Comes, RefusesInput}
-use Rattle.ots_cli.specs.Found.{AreHashed, HasUnder, ReadsInput}
-use Rattle.ots_cli.specs.Opened.{Opens, OpensFront, OpensName, StopsAt}
+use Rattle.ots_cli.specs.Found.{AreHashed, ReadsInput}
+use Rattle.ots_cli.specs.Opened.{OpensName}
+use Rattle.ots_inputs.specs.Under.{HasUnder}
+use Rattle.ots_inputs.specs.Opened.{Opens, OpensPrefix, StopsAt}
 
--- Why reading stopped at a name: it is refused with the status of the cause; or the shelf counted a fault there; or memory
--- ran out.
+-- Why reading stopped at a name: it is refused with the status of the cause; or the shelf counted a fault there; or
+-- memory ran out.
 abbrev pub StopsFor : (Ending → Type 0) → (List ℕ → Type 0) → List ℕ → InputError → Type 0
 StopsFor refuses stops_at name ReadFault = stops_at name
 StopsFor refuses stops_at name OutOfMemory = Unit {0}
@@ -46,14 +51,16 @@ abbrev pub RanOut : {A : Type 0} → Result A Stop → Type 0
 RanOut (Ok x) = ⊥
 RanOut (Err stop) = stop.cause ≡ OutOfMemory
 
--- Names were read in order. All of them, which gives this; or reading stopped at one, and `refuses` says of which refusals
--- that may be. All else that is told stays, and nothing was written.
-pub record Reads {A : Type 0} (reads : List (List ℕ)) (gives : Option Names → A → Type 0) (refuses : Option Names → Ending → Type 0)
+-- Names were read in order. All of them, which gives this; or reading stopped at one, and `refuses` says of which
+-- refusals that may be. All else that is told stays, and nothing was written.
+pub record Reads {A : Type 0} (reads : List (List ℕ)) (gives : Option Names → A → Type 0)
+    (refuses : Option Names → Ending → Type 0)
     (old new : ShelfTold) (before now : ShelfFaults) (r : Result A Stop) : Type 0 where
   pub given : IfOk r (gives old.names)
-  pub stopped : IfErr r (λ stop. StopsFor (refuses old.names) (StopsAt reads old.opened new.opened before now) stop.name.now stop.cause)
+  pub stopped : IfErr r (λ stop. StopsFor (refuses old.names) (StopsAt reads old.opened new.opened before now)
+      stop.name.now stop.cause)
   pub opened : IfOk r (λ x. Opens reads old.opened new.opened)
-  pub front : OpensFront reads old.opened new.opened
+  pub prefix : OpensPrefix reads old.opened new.opened
   pub names : new.names ≡ old.names
   pub slots : (k : ℕ) → new.slots k ≡ old.slots k
   pub short : ¬ RanOut r → new.short ≡ old.short
@@ -72,13 +79,15 @@ ReadsList list (Ok calendars) = IsListOf list calendars
 ReadsList list (Err stop) = IfBadList list stop.name.now stop.cause
 
 -- One name was read: what its bytes give, or why they are refused.
-abbrev pub ReadsName : {A : Type 0} → (List ℕ → A → Type 0) → (List ℕ → Status → Type 0) → List ℕ → ShelfTold → ShelfTold → ShelfFaults → ShelfFaults
+abbrev pub ReadsName : {A : Type 0} → (List ℕ → A → Type 0) → (List ℕ → Status → Type 0) → List ℕ → ShelfTold
+    → ShelfTold → ShelfFaults → ShelfFaults
     → Result A Stop → Type 0
 ReadsName Gives Refuses name =
     Reads (name ∷ []) (λ told x. HasUnder told name (λ bytes. Gives bytes x)) (λ told. RefusesInput told name Refuses)
 
 -- The same, where the name is not told with the cause.
-pub record ReadsUnder {A : Type 0} (Gives : List ℕ → A → Type 0) (Refuses : List ℕ → Status → Type 0) (name : List ℕ) (old new : ShelfTold)
+pub record ReadsUnder {A : Type 0} (Gives : List ℕ → A → Type 0) (Refuses : List ℕ → Status → Type 0) (name : List ℕ)
+    (old new : ShelfTold)
     (before now : ShelfFaults) (r : Result A InputError) : Type 0 where
   pub answer : ReadsInput old.names name Gives Refuses r
   pub opened : OpensName name old.opened new.opened before now r
@@ -90,10 +99,11 @@ pub record ReadsUnder {A : Type 0} (Gives : List ℕ → A → Type 0) (Refuses 
 
 -- A run came to how it ends: `answers` says of the names at entry how that may be, and `reads` are the names that are
 -- read, in order. Nothing was made yet.
-pub record ComesToEnd (answers : Option Names → Ending → Type 0) (reads : List (List ℕ)) (old new : ShelfTold) (before now : ShelfFaults)
+pub record ComesToEnd (answers : Option Names → Ending → Type 0) (reads : List (List ℕ)) (old new : ShelfTold)
+    (before now : ShelfFaults)
     (r : Result Decided NoMemory) : Type 0 where
   pub ending : IfOk r (EndsAs (Comes (answers old.names) (StopsAt reads old.opened new.opened before now)))
-  pub opened : OpensFront reads old.opened new.opened
+  pub opened : OpensPrefix reads old.opened new.opened
   pub names : new.names ≡ old.names
   pub slots : (k : ℕ) → new.slots k ≡ old.slots k
   pub short : IfOk r (λ d. new.short ≡ old.short)
@@ -102,9 +112,10 @@ pub record ComesToEnd (answers : Option Names → Ending → Type 0) (reads : Li
 
 -- ---- asking
 
--- Nonces were drawn, one for each of these files, and of what calendars are then asked some was asked in order, the last of
--- it perhaps in part.
-pub record SubmitsUpTo {D N : Type 0} (told : D → DialerTold) (faults : D → ℕ) (left : N → Option (List ℕ)) (s : Submission) (old new : D) (before now : N) : Type 0 where
+-- Nonces were drawn, one for each of these files, and of what calendars are then asked some was asked in order, the
+-- last of it perhaps in part.
+pub record SubmitsUpTo {D N : Type 0} (told : D → DialerTold) (faults : D → ℕ) (left : N → Option (List ℕ))
+    (s : Submission) (old new : D) (before now : N) : Type 0 where
   pub targets : List Target
   pub digests_are : map (λ t. t.digest) targets ≡ s.digests.items
   pub drawn : Draws left (map (λ t. t.nonce) targets) before now
@@ -113,19 +124,23 @@ pub record SubmitsUpTo {D N : Type 0} (told : D → DialerTold) (faults : D → 
   pub asks : ConverseUpTo told faults (map (to_stamp (root (leaves targets)) depth) s.calendars.items) old new
 
 -- Of what calendars are asked for files with their nonces, some was asked in order, the last of it perhaps in part.
-pub record Submits {D : Type 0} (told : D → DialerTold) (faults : D → ℕ) (s : Submission) (targets : List Target) (old new : D) : Type 0 where
+pub record Submits {D : Type 0} (told : D → DialerTold) (faults : D → ℕ) (s : Submission) (targets : List Target)
+    (old new : D) : Type 0 where
   pub depth : ℕ
   pub depth_is : IsDepth (leaves targets) depth
   pub asks : ConverseUpTo told faults (map (to_stamp (root (leaves targets)) depth) s.calendars.items) old new
 
 -- What is asked of inputs: nothing, or some of what a proof asks for.
-abbrev pub AsksFor : {D N : Type 0} → (D → DialerTold) → (D → ℕ) → (N → Option (List ℕ)) → Inputs → D → D → N → N → Type 0
+abbrev pub AsksFor : {D N : Type 0} → (D → DialerTold) → (D → ℕ) → (N → Option (List ℕ)) → Inputs → D → D → N → N
+    → Type 0
 AsksFor told faults left (inputs.Info proof) old new before now = new ≡ old
 AsksFor told faults left (inputs.Rewrite way proof to) old new before now = new ≡ old
 AsksFor told faults left (inputs.Merge first second to) old new before now = new ≡ old
 AsksFor told faults left (inputs.Verify v) old new before now = new ≡ old
-AsksFor told faults left (inputs.Stamp s) old new before now = (new ≡ old) ⊎ SubmitsUpTo told faults left s old new before now
-AsksFor told faults left (inputs.Upgrade calendars proof to) old new before now = UpgradesUpTo told faults calendars.items proof old new
+AsksFor told faults left (inputs.Stamp s) old new before now = (new ≡ old)
+    ⊎ SubmitsUpTo told faults left s old new before now
+AsksFor told faults left (inputs.Upgrade calendars proof to) old new before now = UpgradesUpTo told faults
+    calendars.items proof old new
 AsksFor told faults left (inputs.Sample s) old new before now = new ≡ old
 
 -- What is drawn for inputs: nothing, or a nonce for each file that is stamped, as far as it came.
@@ -156,7 +171,8 @@ SuitsUpgrade told u (inputs.Merge first second to) = ⊥
 SuitsUpgrade told u (inputs.Verify v) = ⊥
 SuitsUpgrade told u (inputs.Stamp s) = ⊥
 SuitsUpgrade told u (inputs.Sample s) = ⊥
-SuitsUpgrade told u (inputs.Upgrade calendars proof to) = IsListOf u.calendars calendars.items × HasUnder told u.proof (λ bytes. IsFileOf bytes proof)
+SuitsUpgrade told u (inputs.Upgrade calendars proof to) = IsListOf u.calendars calendars.items
+    × HasUnder told u.proof (λ bytes. IsFileOf bytes proof)
 
 -- The calendars of the list are to be asked for the files under these names.
 pub record IsSubmissionOf (told : Option Names) (s : Stamping) (i : Submission) : Type 0 where
@@ -174,7 +190,7 @@ SuitsStamp told s (inputs.Upgrade calendars proof to) = ⊥
 SuitsStamp told s (inputs.Sample i) = ⊥
 
 -- whom these inputs of a command are for
-abbrev pub Suits : Option Names → Command → Inputs → Type 0
+abbrev pub Suits : Option Names → ClientCommand → Inputs → Type 0
 Suits told (info proof) i = AreOffline i
 Suits told (canon from to) i = AreOffline i
 Suits told (merge first second to) i = AreOffline i

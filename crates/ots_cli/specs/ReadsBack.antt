@@ -1,8 +1,9 @@
--- What is written reads back: under the output of a command that did its work stands a proof file, that of the command's result.
+-- What is written reads back: under the output of a command that did its work stands a proof file, that of the
+-- command's result.
 use Rattle.std.specs.Prelude.{◌≡◌, ◌≤◌, ◌⊎◌, ℕ, List, length, slice_get, Option, Some, None, IsSome}
 use Rattle.ots_address.specs.Address.{AddressParts}
 use Rattle.ots_address.specs.AddressList.{IsListOf}
-use Rattle.ots_upgrade.specs.Asked.{AskedAt}
+use Rattle.ots_upgrade.specs.declared.asking.AskedAt.{AskedAt}
 use Rattle.ots_cli.specs.Answer.{IsUpgradeOf}
 use Rattle.ots_cli.specs.Asking.{Outside}
 use Rattle.ots_cli.specs.declared.status.Status.{Status}
@@ -14,14 +15,16 @@ use Rattle.ots_detached.specs.File.{IsFileOf}
 use Rattle.ots_canon.specs.Join.{IsMergeOf}
 use Rattle.ots_upgrade.specs.declared.target.Target.{Target}
 use Rattle.ots_upgrade.specs.Stamped.{good_trees}
-use Rattle.ots_cli.specs.Found.{AreHashed, HasUnder}
-use Rattle.ots_cli.specs.Stamping.{AreAsked, IsStampAt, proof_name}
+use Rattle.ots_cli.specs.Found.{AreHashed}
+use Rattle.ots_cli.specs.Stamping.{AreStampTargets, IsStampAt, proof_name}
 use Rattle.ots_cli.specs.Rewritten.{IsRewritten}
 use Rattle.ots_cli.specs.declared.rewriting.Rewriting.TheVariants.{Canon, Prune}
-use Rattle.ots_words.specs.Words.{Command, Stamping, info, canon, merge, prune, verify, stamp, upgrade, sample}
+use Rattle.ots_client_words.specs.Words.{ClientCommand, Stamping, info, canon, merge, prune, verify, stamp, upgrade}
+use Rattle.ots_client_words.specs.Words.{sample}
+use Rattle.ots_inputs.specs.Under.{HasUnder}
 
 -- the names that a command writes
-abbrev pub IsOutput : Command → List ℕ → Type 0
+abbrev pub IsOutput : ClientCommand → List ℕ → Type 0
 IsOutput (info proof) name = ⊥
 IsOutput (canon from to) name = to ≡ name
 IsOutput (merge first second to) name = to ≡ name
@@ -31,14 +34,15 @@ IsOutput (stamp s) name = (i : ℕ) × (file : List ℕ) × (slice_get s.files i
 IsOutput (upgrade u) name = u.to ≡ name
 IsOutput (sample n) name = ⊥
 
-abbrev pub IsOutputAsked : Option Command → List ℕ → Type 0
+abbrev pub IsOutputAsked : Option ClientCommand → List ℕ → Type 0
 IsOutputAsked None name = ⊥
 IsOutputAsked (Some c) name = IsOutput c name
 
 -- Each name holds what it held, but for the outputs that were not there.
 abbrev pub Leaves : Names → (List ℕ → Type 0) → Option Names → Type 0
 Leaves names is_output new =
-    (after : Names) × (new ≡ Some after) × ((name : List ℕ) → (is_output name → IsSome (map.get names name)) → map.get after name ≡ map.get names name)
+    (after : Names) × (new ≡ Some after) × ((name : List ℕ) → (is_output name → IsSome (map.get names name))
+    → map.get after name ≡ map.get names name)
 
 -- Under a name the proof of a stamped file is made, where calendars answered so.
 pub record IsStampedFile (o : Outside) (names : Names) (s : Stamping) (name : List ℕ) (r : Detached) : Type 0 where
@@ -47,7 +51,7 @@ pub record IsStampedFile (o : Outside) (names : Names) (s : Stamping) (name : Li
   pub digests : List (List ℕ)
   pub hashed : AreHashed (Some names) s.files digests
   pub targets : List Target
-  pub asked : AreAsked o calendars digests targets
+  pub asked : AreStampTargets o calendars digests targets
   pub enough : s.least ≤ length (good_trees o.outcomes)
   pub i : ℕ
   pub file : List ℕ
@@ -56,23 +60,26 @@ pub record IsStampedFile (o : Outside) (names : Names) (s : Stamping) (name : Li
   pub is_stamp : IsStampAt targets (good_trees o.outcomes) i r
 
 -- what a command makes of the files under the names that it reads, under this name
-abbrev pub IsResultOf : Outside → Names → Command → List ℕ → Detached → Type 0
+abbrev pub IsResultOf : Outside → Names → ClientCommand → List ℕ → Detached → Type 0
 IsResultOf o names (info proof) name r = ⊥
-IsResultOf o names (canon from to) name r = HasUnder (Some names) from (λ bytes. (p : Detached) × IsFileOf bytes p × IsRewritten Canon p r)
+IsResultOf o names (canon from to) name r = HasUnder (Some names) from (λ bytes. (p : Detached) × IsFileOf bytes p
+    × IsRewritten Canon p r)
 IsResultOf o names (merge first second to) name r = HasUnder (Some names) first (λ b. (p : Detached) × IsFileOf b p
     × HasUnder (Some names) second (λ c. (q : Detached) × IsFileOf c q × IsMergeOf p q r))
-IsResultOf o names (prune from to) name r = HasUnder (Some names) from (λ bytes. (p : Detached) × IsFileOf bytes p × IsRewritten Prune p r)
+IsResultOf o names (prune from to) name r = HasUnder (Some names) from (λ bytes. (p : Detached) × IsFileOf bytes p
+    × IsRewritten Prune p r)
 IsResultOf o names (verify v) name r = ⊥
 IsResultOf o names (sample n) name r = ⊥
 IsResultOf o names (stamp s) name r = IsStampedFile o names s name r
 IsResultOf o names (upgrade u) name r = HasUnder (Some names) u.proof (λ bytes. (p : Detached) × IsFileOf bytes p
-    × (calendars : List AddressParts) × IsListOf u.calendars calendars × (asked : List AskedAt) × IsUpgradeOf o calendars p asked r)
+    × (calendars : List AddressParts) × IsListOf u.calendars calendars × (asked : List AskedAt)
+    × IsUpgradeOf o calendars p asked r)
 
 -- The command did its work, or has a result without a Bitcoin path.
 abbrev pub IsDoneOrNo : Status → Type 0
 IsDoneOrNo s = (s ≡ Done) ⊎ (s ≡ No)
 
 -- Under the name of an output is a proof file, that of the result.
-abbrev pub ReadsBack : (Outside → Type 0) → Names → Command → List ℕ → Option Names → Type 0
+abbrev pub ReadsBack : (Outside → Type 0) → Names → ClientCommand → List ℕ → Option Names → Type 0
 ReadsBack happens names c to new = (o : Outside) × happens o × (after : Names) × (new ≡ Some after)
     × (bytes : List ℕ) × (map.get after to ≡ Some bytes) × (r : Detached) × IsFileOf bytes r × IsResultOf o names c to r

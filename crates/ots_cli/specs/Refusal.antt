@@ -1,22 +1,21 @@
 -- The line of a refusal.
-use Rattle.std.specs.Prelude.{ℕ, Bool, true, false, List, [], ◌++◌, codes, decimal}
+use Rattle.std.specs.Prelude.{ℕ, List, [], ◌++◌, codes, decimal}
 use Rattle.ots_reader.specs.Printed.{printed}
 use Rattle.ots_cli.specs.declared.status.Status.{Status}
-use Rattle.ots_cli.specs.declared.status.Status.TheVariants.{Done, No, Usage, BadProof, NoFile, Exists, ReadFault, WriteFault, TooBig, BadHeaders, TooFew, NonceFault, FileTooLong, Differs, BadAddress, OutOfMemory}
-use Rattle.ots_info.specs.Listing.{line, pair_words}
+use Rattle.ots_cli.specs.declared.status.Status.TheVariants.{Done, No, Usage, BadProof, NoFile, Exists, ReadFault}
+use Rattle.ots_cli.specs.declared.status.Status.TheVariants.{WriteFault, TooBig, BadHeaders, TooFew, NonceFault}
+use Rattle.ots_cli.specs.declared.status.Status.TheVariants.{FileTooLong, Differs, BadAddress, OutOfMemory}
+use Rattle.ots_info.specs.Listing.{pair_words}
+use Rattle.ots_outputs.specs.Lines.{address_words, line}
 
 abbrev pub usage_words : List ℕ
 usage_words = codes "usage: ots info, canon, merge, prune, verify, stamp, upgrade, sample"
 
--- before the place of a piece that is no calendar address
-abbrev pub bad_words : Bool → List ℕ
-bad_words true = codes "https is not supported at "
-bad_words false = codes "bad address at "
-
 -- over a name; a status that has no line prints nothing
 abbrev pub refusal_text : List ℕ → Status → List ℕ
 refusal_text name Usage = line usage_words
-refusal_text name (BadProof f) = line (codes "bad proof " ++ name ++ codes " at " ++ decimal f.place ++ codes ": " ++ printed f.reason)
+refusal_text name (BadProof f) = line (codes "bad proof " ++ name ++ codes " at " ++ decimal f.place ++ codes ": "
+    ++ printed f.reason)
 refusal_text name NoFile = line (codes "no file " ++ name)
 refusal_text name Exists = line (codes "exists " ++ name)
 refusal_text name ReadFault = line (codes "read fault " ++ name)
@@ -27,7 +26,7 @@ refusal_text name NonceFault = line (codes "nonce fault")
 refusal_text name FileTooLong = line (codes "file too long " ++ name)
 refusal_text name (Differs first_hash first_digest second_hash second_digest) =
     line (codes "differs " ++ pair_words first_hash first_digest ++ codes " " ++ pair_words second_hash second_digest)
-refusal_text name (BadAddress place https) = line (bad_words https ++ decimal place)
+refusal_text name (BadAddress place https) = line (address_words https ++ decimal place)
 refusal_text name Done = []
 refusal_text name No = []
 refusal_text name WriteFault = line (codes "write fault " ++ name)

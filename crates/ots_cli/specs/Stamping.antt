@@ -1,10 +1,10 @@
--- What `stamp` does: files are hashed, each with a nonce of its own, calendars are asked to timestamp the root over all of
--- them, and each file's proof is made. Source: the client of the reference library (opentimestamps-client,
+-- What `stamp` does: files are hashed, each with a nonce of its own, calendars are asked to timestamp the root over all
+-- of them, and each file's proof is made. Source: the client of the reference library (opentimestamps-client,
 -- otsclient/cmds.py, stamp_command and create_timestamp).
-use Rattle.std.specs.Prelude.{◌≡◌, ◌<◌, ◌≤◌, ℕ, List, [], ◌∷◌, ◌++◌, codes, length, map, slice_get, suc, zip, Some, None}
+use Rattle.std.specs.Prelude.{◌≡◌, ◌<◌, ◌≤◌, ℕ, List, [], ◌∷◌, ◌++◌, codes, length, map, slice_get, suc, zip, Some}
+use Rattle.std.specs.Prelude.{None}
 use Rattle.std.specs.List.{flat_map}
 use Rattle.ots_address.specs.Address.{AddressParts}
-use Rattle.ots_info.specs.Listing.{line}
 use Rattle.ots_lines.specs.Lines.{calendar_line}
 use Rattle.ots_merkle.specs.CalendarTree.{root}
 use Rattle.ots_tree.specs.declared.detached.Detached.{Detached}
@@ -17,6 +17,7 @@ use Rattle.ots_cli.specs.Asking.{Outside}
 use Rattle.ots_cli.specs.Ending.{Act, Ending, makes_stamp, prints, refused}
 use Rattle.ots_cli.specs.Refusal.{refusal_text}
 use Rattle.ots_cli.specs.declared.status.Status.TheVariants.{Done, NonceFault, TooFew}
+use Rattle.ots_outputs.specs.Lines.{line}
 
 -- ---- the files
 
@@ -26,8 +27,10 @@ proof_name name = name ++ codes ".ots"
 
 -- ---- what is asked
 
--- Each of these files has its digest and the nonce that was drawn for it, and each calendar was sent the root over them.
-pub record AreAsked (o : Outside) (calendars : List AddressParts) (digests : List (List ℕ)) (targets : List Target) : Type 0 where
+-- Each of these files has its digest and the nonce that was drawn for it, and each calendar was sent the root over
+-- them.
+pub record AreStampTargets (o : Outside) (calendars : List AddressParts) (digests : List (List ℕ))
+    (targets : List Target) : Type 0 where
   pub digests_are : map (λ t. t.digest) targets ≡ digests
   pub nonces_are : o.nonces ≡ Some (map (λ t. t.nonce) targets)
   pub depth : ℕ
@@ -61,16 +64,20 @@ stamp_acts targets trees i [] = []
 stamp_acts targets trees i (name ∷ names) =
     makes_stamp targets trees i (proof_name name) ∷ prints (wrote_text name) ∷ stamp_acts targets trees (suc i) names
 
--- No nonce could be drawn, and that is told before any calendar is asked. Or what came of each calendar is printed. Then it
--- is told that too few of them timestamped the files, or each file's proof is made.
-pub data Stamps (o : Outside) (least : ℕ) (files : List (List ℕ)) (calendars : List AddressParts) (digests : List (List ℕ)) (e : Ending) : Type 0 where
+-- No nonce could be drawn, and that is told before any calendar is asked. Or what came of each calendar is printed.
+-- Then it is told that too few of them timestamped the files, or each file's proof is made.
+pub data Stamps (o : Outside) (least : ℕ) (files : List (List ℕ)) (calendars : List AddressParts)
+    (digests : List (List ℕ)) (e : Ending) : Type 0 where
   no_nonce : o.nonces ≡ None → o.questions ≡ [] → e ≡ refused [] NonceFault → Stamps o least files calendars digests e
-  too_few : (targets : List Target) → AreAsked o calendars digests targets → length (good_trees o.outcomes) < least
+  too_few : (targets : List Target) → AreStampTargets o calendars digests targets
+      → length (good_trees o.outcomes) < least
       → e ≡ record {
         status = TooFew (length (good_trees o.outcomes)) least;
-        acts = prints (calendars_text calendars o.outcomes) ∷ prints (refusal_text [] (TooFew (length (good_trees o.outcomes)) least)) ∷ [];
+        acts = prints (calendars_text calendars o.outcomes) ∷ prints
+            (refusal_text [] (TooFew (length (good_trees o.outcomes)) least)) ∷ [];
       } → Stamps o least files calendars digests e
-  stamped : (targets : List Target) → AreAsked o calendars digests targets → least ≤ length (good_trees o.outcomes)
+  stamped : (targets : List Target) → AreStampTargets o calendars digests targets
+      → least ≤ length (good_trees o.outcomes)
       → e ≡ record {
         status = Done;
         acts = prints (calendars_text calendars o.outcomes) ∷ stamp_acts targets (good_trees o.outcomes) 0 files;
@@ -78,8 +85,10 @@ pub data Stamps (o : Outside) (least : ℕ) (files : List (List ℕ)) (calendars
 
 -- ---- for the code
 
--- What is kept of files that calendars timestamped: one tree has the paths of all good answers, and is sound below the root.
-pub record KeepsStamped (files : List (List ℕ)) (targets : List Target) (outcomes : List Outcome) (good : List Token) : Type 0 where
+-- What is kept of files that calendars timestamped: one tree has the paths of all good answers, and is sound below the
+-- root.
+pub record KeepsStamped (files : List (List ℕ)) (targets : List Target) (outcomes : List Outcome)
+    (good : List Token) : Type 0 where
   pub count : length files ≡ length targets
   pub sound : IsSoundBelow targets good
   pub gathers : Gathers (good_trees outcomes) good

@@ -1,7 +1,9 @@
 -- The numbers with which a program ends.
 use Rattle.std.specs.Prelude.{ℕ}
 use Rattle.ots_cli.specs.declared.status.Status.{Status}
-use Rattle.ots_cli.specs.declared.status.Status.TheVariants.{Done, No, Usage, BadProof, NoFile, Exists, ReadFault, WriteFault, TooBig, BadHeaders, TooFew, NonceFault, FileTooLong, Differs, BadAddress, OutOfMemory}
+use Rattle.ots_cli.specs.declared.status.Status.TheVariants.{Done, No, Usage, BadProof, NoFile, Exists, ReadFault}
+use Rattle.ots_cli.specs.declared.status.Status.TheVariants.{WriteFault, TooBig, BadHeaders, TooFew, NonceFault}
+use Rattle.ots_cli.specs.declared.status.Status.TheVariants.{FileTooLong, Differs, BadAddress, OutOfMemory}
 
 abbrev pub number : Status → ℕ
 number Done = 0

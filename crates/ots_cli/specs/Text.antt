@@ -3,15 +3,15 @@ use Rattle.std.specs.Prelude.{ℕ, Bool, true, false, List, ◌++◌, codes, dec
 use Rattle.std.specs.List.{flat_map}
 use Rattle.hex.specs.Hex.{encode_lower}
 use Rattle.ots_lines.specs.Lines.{asked_line}
-use Rattle.ots_upgrade.specs.Asked.{AskedAt}
-use Rattle.ots_eval.specs.declared.verdicts.Chain.{Chain}
-use Rattle.ots_eval.specs.declared.verdicts.Chain.TheVariants as chain
-use Rattle.ots_eval.specs.declared.verdicts.Verdict.{Verdict}
-use Rattle.ots_eval.specs.declared.verdicts.Verdict.TheVariants.{Yes, NoDigest, NoPath}
-use Rattle.ots_info.specs.Listing.{line}
+use Rattle.ots_upgrade.specs.declared.asking.AskedAt.{AskedAt}
+use Rattle.ots_verdicts.specs.declared.verdicts.Chain.{Chain}
+use Rattle.ots_verdicts.specs.declared.verdicts.Chain.TheVariants as chain
+use Rattle.ots_verdicts.specs.declared.verdicts.Verdict.{Verdict}
+use Rattle.ots_verdicts.specs.declared.verdicts.Verdict.TheVariants.{Yes, NoDigest, NoPath}
 use Rattle.ots_sample.specs.declared.outcome.Sample.{Sample}
 use Rattle.ots_cli.specs.declared.status.Status.{Status}
 use Rattle.ots_cli.specs.declared.status.Status.TheVariants.{Done, No}
+use Rattle.ots_outputs.specs.Lines.{line}
 
 abbrev pub yes_words : Chain → List ℕ
 yes_words chain.Bitcoin = codes "yes block "
@@ -30,7 +30,8 @@ verdict_status NoPath = No
 -- a line for each number and for the digest of the canonical proof's file, and the line of the verdict
 abbrev pub sample_text : Sample → List ℕ
 sample_text s =
-    line (codes "paths " ++ decimal s.paths) ++ line (codes "bytes " ++ decimal s.length) ++ line (codes "digest " ++ encode_lower s.digest)
+    line (codes "paths " ++ decimal s.paths) ++ line (codes "bytes " ++ decimal s.length)
+    ++ line (codes "digest " ++ encode_lower s.digest)
     ++ verdict_text s.verdict
 
 -- a line for each pair that a proof asks for

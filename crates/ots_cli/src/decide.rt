@@ -7,7 +7,7 @@ ghost use Rattle.ots_cli.specs.Asking.{Happens, Hears};
 ghost use Rattle.ots_cli.specs.Gathered.{AsksFor, DrawsOf};
 ghost use Rattle.ots_upgrade.specs.Upgrading.{UpgradesUpTo};
 ghost use Rattle.ots_cli.specs.Decided.{EndsAs};
-ghost use Rattle.ots_eval.specs.declared.verdicts.Verdict.{Verdict};
+ghost use Rattle.ots_verdicts.specs.declared.verdicts.Verdict.{Verdict};
 ghost use Rattle.ots_cli.specs.declared.status.Status.TheVariants.{Differs};
 
 use crate::ending::{Acts, Ending, Text};
@@ -19,13 +19,13 @@ use crate::text::{complete_status, verdict_status};
 use ots_address::Address;
 use ots_base::{MAX_PROOF_FILE, OutOfMemory};
 use ots_canon::MergeError;
+use ots_client_words::Sampling;
 use ots_detached::{file_length, written_file};
 use ots_outside::{Dialer, Nonces};
 use ots_pending::has_bitcoin;
 use ots_sample::sample;
 use ots_tree::Detached;
 use ots_upgrade::{AskedList, Upgraded, upgrade_with};
-use ots_words::Sampling;
 use std::alloc::Global;
 
 /// How the command ends that has these inputs.
@@ -35,7 +35,9 @@ pub fn decide<'a, D: Dialer, N: Nonces>(
     dialer: &mut D,
     nonces: &mut N,
 ) -> Result<Ending<'a>, OutOfMemory>
-    ensures decided { IfOk result (EndsAs (DecidesAs (Happens D.told D.faults N.left N.faults dialer.old dialer.new nonces.old nonces.new) inputs.entry)) }
+    ensures decided { IfOk result
+        (EndsAs (DecidesAs (Happens D.told D.faults N.left N.faults dialer.old dialer.new nonces.old nonces.new)
+        inputs.entry)) }
     ensures asks { AsksFor D.told D.faults N.left inputs.entry dialer.old dialer.new nonces.old nonces.new }
     ensures draws { DrawsOf N.left inputs.entry nonces.old nonces.new }
     ensures verdict { (v : Verdict) → inputs.entry ≡ Inputs.Verify v → IsOk result }
@@ -120,7 +122,7 @@ fn sampled<'a>(alloc: Global, sampling: Sampling) -> Result<Ending<'a>, OutOfMem
     })
 }
 
-/// Calendars are asked to complete a proof, and that is written behind a line for each pair that it
+/// Calendars are asked to complete a proof, and that is written after a line for each pair that it
 /// asks for.
 fn upgraded<'a, D: Dialer>(
     alloc: Global,
@@ -129,7 +131,8 @@ fn upgraded<'a, D: Dialer>(
     to: &'a str,
     dialer: &mut D,
 ) -> Result<Ending<'a>, OutOfMemory>
-    ensures decided { IfOk result (EndsAs (CompletesAs (Hears D.told D.faults dialer.old dialer.new) calendars.now proof.now to.entry.now)) }
+    ensures decided { IfOk result
+        (EndsAs (CompletesAs (Hears D.told D.faults dialer.old dialer.new) calendars.now proof.now to.entry.now)) }
     ensures asks { UpgradesUpTo D.told D.faults calendars.now proof.now dialer.old dialer.new }
 {
     let upgraded = upgrade_with(alloc, dialer, calendars, proof)?;
@@ -147,12 +150,12 @@ fn completed(asked: AskedList, proof: Detached, to: &str) -> Ending<'_>
     if is_too_long(&proof) {
         return Ending {
             status: Status::TooBig,
-            acts: Acts::RefuseBehind(asked, to),
+            acts: Acts::RefuseAfter(asked, to),
         };
     }
     let complete = has_bitcoin(&proof.tree);
     Ending {
         status: complete_status(complete),
-        acts: Acts::MakeBehind(asked, to, proof, complete),
+        acts: Acts::MakeAfter(asked, to, proof, complete),
     }
 }

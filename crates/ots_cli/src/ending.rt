@@ -4,10 +4,10 @@ ghost use Rattle.ots_cli.specs.Ending.{refused};
 
 use crate::replies::{Replies, Stamped};
 use crate::status::Status;
-use ots_eval::Verdict;
 use ots_sample::Sample;
 use ots_tree::Detached;
 use ots_upgrade::AskedList;
+use ots_verdicts::Verdict;
 
 /// How a command ends, and what is done before.
 #[derive(Drop)]
@@ -24,14 +24,14 @@ pub enum Acts<'a> {
     /// The file of a proof is made under a name.
     Make(&'a str, Detached),
     /// A text is printed, and then the line of the ending's status, a refusal over this name.
-    RefuseBehind(Text<'a>, &'a str),
+    RefuseAfter(Text<'a>, &'a str),
     /// It is told what came of each calendar, and then comes the line of the ending's status.
     RefuseStamps(Replies),
     /// It is told what came of each calendar. Then the file of each proof is made, and that is told.
     MakeStamps(Stamped<'a>),
     /// A text is printed, the file of a proof is made under a name, and it is told whether some path
     /// of the proof ends in Bitcoin.
-    MakeBehind(Text<'a>, &'a str, Detached, bool),
+    MakeAfter(Text<'a>, &'a str, Detached, bool),
 }
 
 /// A text to be printed.

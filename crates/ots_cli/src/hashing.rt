@@ -4,10 +4,10 @@ ghost use Rattle.std.specs.List.{All};
 ghost use Rattle.ots_cli.specs.Answer.{RefusesOne};
 ghost use Rattle.ots_cli.specs.Found.{AreHashed};
 ghost use Rattle.ots_cli.specs.Gathered.{Reads};
-ghost use Rattle.ots_words.specs.Words.{texts};
+ghost use Rattle.ots_arguments.specs.Values.{texts};
 
 use crate::input::{Stop, hash_target};
-use ots_ops::{Digest, HashOp, lengths_of_results};
+use ots_ops::{Digest, HashOp};
 use ots_outside::Shelf;
 use std::alloc::Global;
 
@@ -17,12 +17,12 @@ pub fn hash_targets<'a, S: Shelf>(
     names: &[&'a str],
     shelf: &mut S,
 ) -> Result<Vec<Digest>, Stop<'a>>
-    ensures reads { Reads (texts names.entry.now) (λ told digests. AreHashed told (texts names.entry.now) digests.items) (λ told. RefusesOne told (texts names.entry.now))
+    ensures reads { Reads (texts names.entry.now) (λ told digests. AreHashed told (texts names.entry.now) digests.items)
+        (λ told. RefusesOne told (texts names.entry.now))
         (S.told shelf.old) (S.told shelf.new) (S.faults shelf.old) (S.faults shelf.new) result }
     ensures each { IfOk result (λ digests. length digests.items ≡ length names.entry.now) }
     ensures sha256 { IfOk result (λ digests. All (λ digest. length digest ≡ 32) digests.items) }
 {
-    lengths_of_results();
     let mut digests = Vec::with_capacity(alloc, names.len())?;
     for name in names {
         digests.push(hash_target(name, HashOp::Sha256, shelf)?)?;

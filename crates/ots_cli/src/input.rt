@@ -3,22 +3,23 @@ ghost use Rattle.std.specs.Prelude.{◌≡◌, ◌≤◌, ◌-◌, ◌^◌, [], 
 ghost use Rattle.ots_base.specs.Cause.{Rose};
 ghost use Rattle.ots_address.specs.AddressList.{IsListOf};
 ghost use Rattle.ots_detached.specs.File.{IsFileOf};
-ghost use Rattle.ots_bitcoin.specs.TableRead.{IsTableOf};
+ghost use Rattle.ots_headers.specs.TableRead.{IsTableOf};
 ghost use Rattle.ots_verifier.specs.Source.{IsChecked};
 ghost use Rattle.ots_cli.specs.Gathered.{IfBadList, RanOut, ReadsName, ReadsUnder};
-ghost use Rattle.ots_cli.specs.Found.{IsHashOf, RefusesProof, RefusesTable, RefusesTarget, refused_headers, refused_open, refused_proof, refused_source, refused_target, status_of};
+ghost use Rattle.ots_cli.specs.Found.{IsHashOf, RefusesProof, RefusesTable, RefusesTarget, refused_headers};
+ghost use Rattle.ots_cli.specs.Found.{refused_open, refused_proof, refused_source, refused_target, status_of};
 
 use crate::status::Status;
 use ots_address::{Address, AddressError, read_addresses};
 use ots_base::{MAX_TARGET_FILE, OutOfMemory};
-use ots_bitcoin::{Headers, HeadersError};
+use ots_client_words::HeaderFile;
 use ots_detached::{FileError, HashError, hash_source, read_file};
+use ots_headers::{Headers, HeadersError};
 use ots_ops::{Digest, HashOp};
 use ots_outside::{OpenError, Shelf, SlotSource};
 use ots_reader::Fault;
 use ots_tree::Detached;
 use ots_verifier::{Checked, SourceError, Verifier, check_source};
-use ots_words::HeaderFile;
 use std::alloc::{AllocError, AllocFailed, Global};
 
 /// Where reading stopped: a name that gave no input, and why.
@@ -169,7 +170,8 @@ impl From<HashError> for InputError {
 
 /// The calendars of a list, which is no file.
 pub fn read_list<'a>(alloc: Global, list: &str) -> Result<Vec<Address>, Stop<'a>>
-    ensures { MatchResult result (λ calendars. IsListOf list.now calendars.items) (λ stop. IfBadList list.now stop.name.now stop.cause) }
+    ensures { MatchResult result (λ calendars. IsListOf list.now calendars.items)
+        (λ stop. IfBadList list.now stop.name.now stop.cause) }
 {
     match read_addresses(alloc, list) {
         Ok(calendars) => Ok(calendars),
@@ -190,7 +192,8 @@ pub fn read_proof<'a, S: Shelf>(
     name: &'a str,
     shelf: &mut S,
 ) -> Result<Detached, Stop<'a>>
-    ensures { ReadsName IsFileOf RefusesProof name.entry.now (S.told shelf.old) (S.told shelf.new) (S.faults shelf.old) (S.faults shelf.new) result }
+    ensures { ReadsName IsFileOf RefusesProof name.entry.now (S.told shelf.old) (S.told shelf.new) (S.faults shelf.old)
+        (S.faults shelf.new) result }
 {
     match proof_under(alloc, name, shelf) {
         Ok(proof) => Ok(proof),
@@ -200,7 +203,8 @@ pub fn read_proof<'a, S: Shelf>(
 
 /// The same, without the name.
 fn proof_under<S: Shelf>(alloc: Global, name: &str, shelf: &mut S) -> Result<Detached, InputError>
-    ensures { ReadsUnder IsFileOf RefusesProof name.now (S.told shelf.old) (S.told shelf.new) (S.faults shelf.old) (S.faults shelf.new) result }
+    ensures { ReadsUnder IsFileOf RefusesProof name.now (S.told shelf.old) (S.told shelf.new) (S.faults shelf.old)
+        (S.faults shelf.new) result }
 {
     let slot = shelf.open(name)?;
     let read = read_file(alloc, &mut SlotSource::new(shelf, slot));
@@ -269,7 +273,8 @@ fn headers_under<S: Shelf>(
     shelf: &mut S,
 ) -> Result<Headers, InputError>
     requires { first ≤ 2 ^ 63 - 1 }
-    ensures { ReadsUnder (IsTableOf first) RefusesTable name.now (S.told shelf.old) (S.told shelf.new) (S.faults shelf.old) (S.faults shelf.new) result }
+    ensures { ReadsUnder (IsTableOf first) RefusesTable name.now (S.told shelf.old) (S.told shelf.new)
+        (S.faults shelf.old) (S.faults shelf.new) result }
 {
     let slot = shelf.open(name)?;
     let read = Headers::read(alloc, first, &mut SlotSource::new(shelf, slot));
@@ -284,7 +289,8 @@ pub fn hash_target<'a, S: Shelf>(
     hash: HashOp,
     shelf: &mut S,
 ) -> Result<Digest, Stop<'a>>
-    ensures reads { ReadsName (IsHashOf hash) RefusesTarget name.entry.now (S.told shelf.old) (S.told shelf.new) (S.faults shelf.old) (S.faults shelf.new) result }
+    ensures reads { ReadsName (IsHashOf hash) RefusesTarget name.entry.now (S.told shelf.old) (S.told shelf.new)
+        (S.faults shelf.old) (S.faults shelf.new) result }
     ensures short { RanOut result → Rose (S.told shelf.old).short (S.told shelf.new).short }
 {
     match digest_under(name, hash, shelf) {
@@ -295,7 +301,8 @@ pub fn hash_target<'a, S: Shelf>(
 
 /// The same, without the name.
 fn digest_under<S: Shelf>(name: &str, hash: HashOp, shelf: &mut S) -> Result<Digest, InputError>
-    ensures reads { ReadsUnder (IsHashOf hash) RefusesTarget name.now (S.told shelf.old) (S.told shelf.new) (S.faults shelf.old) (S.faults shelf.new) result }
+    ensures reads { ReadsUnder (IsHashOf hash) RefusesTarget name.now (S.told shelf.old) (S.told shelf.new)
+        (S.faults shelf.old) (S.faults shelf.new) result }
     ensures short { IsErrOf result InputError.OutOfMemory → Rose (S.told shelf.old).short (S.told shelf.new).short }
 {
     let slot = shelf.open(name)?;

@@ -1,14 +1,14 @@
 //! What a command works on, once all of it is read.
 ghost use Rattle.std.specs.Prelude.{◌≡◌, ◌≤◌, length};
 ghost use Rattle.std.specs.List.{All};
-ghost use Rattle.ots_words.specs.declared.limits.TheConstants.{MAX_STAMPED};
+ghost use Rattle.ots_client_words.specs.declared.limits.TheConstants.{MAX_STAMPED};
 
 use crate::rewriting::Rewriting;
 use ots_address::Address;
-use ots_eval::Verdict;
+use ots_client_words::Sampling;
 use ots_ops::Digest;
 use ots_tree::Detached;
-use ots_words::Sampling;
+use ots_verdicts::Verdict;
 
 /// The inputs of a command, and the name that its result is written under.
 #[derive(Drop)]

@@ -1,7 +1,7 @@
 //! What came of asking calendars to timestamp files.
 ghost use Rattle.std.specs.Prelude.{◌≡◌, ◌<◌, [], length, slice_index_or, IfOk};
 ghost use Rattle.ots_cli.specs.Stamping.{IsStampAt};
-ghost use Rattle.ots_words.specs.Words.{texts};
+ghost use Rattle.ots_arguments.specs.Values.{texts};
 ghost use Rattle.ots_upgrade.specs.Stamped.{Gathers, IsSoundBelow, good_trees};
 
 use ots_address::Address;
@@ -33,11 +33,16 @@ pub struct Stamped<'a> {
 
 impl<'a> Model for Stamped<'a> {
     ghost use Rattle.ots_cli.specs.Stamping.{KeepsStamped, StampedFiles};
-    ghost use Rattle.ots_words.specs.Words.{texts};
+    ghost use Rattle.ots_arguments.specs.Values.{texts};
 
     ghost Value = { StampedFiles };
 
-    ghost view = { λ s. record { calendars = s.replies.calendars.items; outcomes = s.replies.outcomes.items; files = texts s.files.items; targets = s.batch } };
+    ghost view = { λ s. record {
+      calendars = s.replies.calendars.items;
+      outcomes = s.replies.outcomes.items;
+      files = texts s.files.items;
+      targets = s.batch;
+    } };
 
     ghost invariant = { λ s. KeepsStamped (texts s.files.items) s.batch s.replies.outcomes.items s.good };
 }
@@ -49,7 +54,12 @@ impl<'a> Stamped<'a> {
         requires count { length files.items ≡ length batch }
         requires sound { IsSoundBelow batch good }
         requires gathers { Gathers (good_trees replies.outcomes.items) good }
-        ensures { result ≡ record { calendars = replies.calendars.items; outcomes = replies.outcomes.items; files = texts files.entry.items; targets = batch } }
+        ensures { result ≡ record {
+          calendars = replies.calendars.items;
+          outcomes = replies.outcomes.items;
+          files = texts files.entry.items;
+          targets = batch;
+        } }
     {
         Stamped {
             replies,

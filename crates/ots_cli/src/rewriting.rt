@@ -3,7 +3,7 @@ ghost use Rattle.std.specs.Prelude.{IfOk};
 ghost use Rattle.ots_cli.specs.Rewritten.{IsRewritten, IsTreeOf};
 
 use ots_base::OutOfMemory;
-use ots_canon::{canon, prune, sound_results};
+use ots_canon::{canon, prune};
 use ots_tree::{Detached, Tree, limits_of_detached};
 use std::alloc::Global;
 
@@ -21,7 +21,6 @@ pub fn rewritten(alloc: Global, way: Rewriting, proof: &Detached) -> Result<Deta
     ensures { IfOk result (IsRewritten way proof.now) }
 {
     limits_of_detached(proof);
-    sound_results();
     let tree = rewritten_tree(alloc, way, &proof.tree)?;
     Ok(Detached {
         hash: proof.hash,

@@ -8,14 +8,16 @@ ghost use Rattle.ots_cli.specs.Bounded.{BoundsEnd, RunsShort};
 ghost use Rattle.ots_cli.specs.CarriedOut.{Ends, EndsExactly};
 ghost use Rattle.ots_cli.specs.Complete.{CanStamp, CanUpgrade, IsDoneUnlessFailed, IsDoneUnlessLost};
 ghost use Rattle.ots_cli.specs.Gathered.{ComesToEnd};
-ghost use Rattle.ots_cli.specs.Opened.{OpensFront, StopsAt, names_read};
+ghost use Rattle.ots_cli.specs.Opened.{names_read};
 ghost use Rattle.ots_cli.specs.ReadsBack.{IsDoneOrNo, IsOutput, IsOutputAsked, Leaves, ReadsBack};
 ghost use Rattle.ots_cli.specs.Taken.{TakesProofs, proofs_read};
-ghost use Rattle.ots_words.specs.Words.{Command as Asked, Stamping, Upgrading, Verification, asked, read_as, sample, stamp, upgrade, verify};
+ghost use Rattle.ots_client_words.specs.Words.{ClientCommand as Asked, Stamping, Upgrading, Verification, asked};
+ghost use Rattle.ots_client_words.specs.Words.{read_as, sample, stamp, upgrade, verify};
 ghost use Rattle.ots_cli.specs.Yes.{HasFiles, IsDoneExactlyWhere, SaysYes};
-ghost use Rattle.ots_bitcoin.specs.HeaderTable.{Table};
+ghost use Rattle.ots_headers.specs.HeaderTable.{Table};
 ghost use Rattle.ots_tree.specs.declared.detached.Detached.{Detached};
 ghost use Rattle.ots_outside.specs.Shelf.{Names, NeverFalls};
+ghost use Rattle.ots_inputs.specs.Opened.{OpensPrefix, StopsAt};
 
 use crate::carry_out::carry_out;
 use crate::decide::decide;
@@ -23,12 +25,11 @@ use crate::ending::Ending;
 use crate::gather::gather;
 use crate::status::Status;
 use ots_base::OutOfMemory;
+use ots_client_words::{ClientCommand, WordsError, read_words};
 use ots_outside::{Dialer, Nonces, Shelf, Sink};
-use ots_sample::verdict_of_sample;
-use ots_words::{Command, WordsError, read_words};
 use std::alloc::Global;
 
-/// Does what the words behind the program's name ask for, prints on the sink, and answers how it
+/// Does what the words after the program's name ask for, prints on the sink, and answers how it
 /// ended. [`Status`] says when each status comes; where several of them could, the first in the
 /// order of reading does. Each has one line, or the command's text, but want of memory and a sink
 /// that failed.
@@ -45,35 +46,51 @@ pub fn run_client<S: Shelf, K: Sink, D: Dialer, N: Nonces>(
     dialer: &mut D,
     nonces: &mut N,
 ) -> Status
-    ensures opened { OpensFront (names_read (asked words.now)) (S.told shelf.old).opened (S.told shelf.new).opened }
+    ensures opened { OpensPrefix (names_read (asked words.now)) (S.told shelf.old).opened (S.told shelf.new).opened }
     ensures short { result ≢ Status.OutOfMemory → (S.told shelf.new).short ≡ (S.told shelf.old).short }
     ensures slots { (k : ℕ) → (S.told shelf.new).slots k ≡ (S.told shelf.old).slots k }
     ensures faults { NeverFalls (S.faults shelf.old) (S.faults shelf.new) }
     ensures out_faults { K.faults out.old ≤ K.faults out.new }
     ensures same { K.same out.old out.new }
-    ensures asks { Asks D.told D.faults N.left (S.told shelf.old).names (asked words.now) dialer.old dialer.new nonces.old nonces.new }
+    ensures asks { Asks D.told D.faults N.left (S.told shelf.old).names (asked words.now) dialer.old dialer.new
+        nonces.old nonces.new }
     ensures nonces { DrawsFor N.left (asked words.now) nonces.old nonces.new }
-    ensures ends { Ends (Comes (AnswersAs (Happens D.told D.faults N.left N.faults dialer.old dialer.new nonces.old nonces.new) (S.told shelf.old).names (asked words.now))
-        (StopsAt (names_read (asked words.now)) (S.told shelf.old).opened (S.told shelf.new).opened (S.faults shelf.old) (S.faults shelf.new)))
+    ensures ends { Ends (Comes
+        (AnswersAs (Happens D.told D.faults N.left N.faults dialer.old dialer.new nonces.old nonces.new)
+        (S.told shelf.old).names (asked words.now))
+        (StopsAt (names_read (asked words.now)) (S.told shelf.old).opened (S.told shelf.new).opened (S.faults shelf.old)
+        (S.faults shelf.new)))
         (Rose (S.faults shelf.old).writing (S.faults shelf.new).writing) (Rose (K.faults out.old) (K.faults out.new))
         (S.told shelf.old).names (S.told shelf.new).names (K.taken out.old) (K.taken out.new) result }
-    ensures bounded { (v : Verification) → asked words.now ≡ Some (verify v) → result ≡ Status.OutOfMemory → RunsShort v (S.told shelf.old) (S.told shelf.new) }
-    ensures exact { (names : Names) → (S.told shelf.old).names ≡ Some names → IsOffline (asked words.now) → EndsExactly names (asked words.now) result }
-    ensures leaves { (names : Names) → (S.told shelf.old).names ≡ Some names → Leaves names (IsOutputAsked (asked words.now)) (S.told shelf.new).names }
+    ensures bounded { (v : Verification) → asked words.now ≡ Some (verify v) → result ≡ Status.OutOfMemory
+        → RunsShort v (S.told shelf.old) (S.told shelf.new) }
+    ensures exact { (names : Names) → (S.told shelf.old).names ≡ Some names → IsOffline (asked words.now)
+        → EndsExactly names (asked words.now) result }
+    ensures leaves { (names : Names) → (S.told shelf.old).names ≡ Some names
+        → Leaves names (IsOutputAsked (asked words.now)) (S.told shelf.new).names }
     ensures takes { (names : Names) (c : Asked) → (S.told shelf.old).names ≡ Some names → asked words.now ≡ Some c
         → TakesProofs names (proofs_read c) result }
-    ensures yes { (names : Names) (v : Verification) (bitcoin : Table) (litecoin : Option Table) (proof : Detached) (target : List ℕ)
-        → (S.told shelf.old).names ≡ Some names → asked words.now ≡ Some (verify v) → HasFiles names v bitcoin litecoin proof target
+    ensures yes { (names : Names) (v : Verification) (bitcoin : Table) (litecoin : Option Table) (proof : Detached)
+        (target : List ℕ)
+        → (S.told shelf.old).names ≡ Some names → asked words.now ≡ Some (verify v)
+        → HasFiles names v bitcoin litecoin proof target
         → IsDoneExactlyWhere (SaysYes proof target bitcoin litecoin) result }
-    ensures stamps { (names : Names) (s : Stamping) → (S.told shelf.old).names ≡ Some names → asked words.now ≡ Some (stamp s)
-        → CanStamp (Happens D.told D.faults N.left N.faults dialer.old dialer.new nonces.old nonces.new) names s → IsDoneUnlessFailed result }
-    ensures upgrades { (names : Names) (u : Upgrading) → (S.told shelf.old).names ≡ Some names → asked words.now ≡ Some (upgrade u)
-        → CanUpgrade (Happens D.told D.faults N.left N.faults dialer.old dialer.new nonces.old nonces.new) names u → IsDoneUnlessFailed result }
-    ensures samples { (n : ℕ) → asked words.now ≡ Some (sample n) → IsDoneUnlessLost (Rose (K.faults out.old) (K.faults out.new)) result }
-    ensures reads_back { (names : Names) (c : Asked) (to : List ℕ) → (S.told shelf.old).names ≡ Some names → asked words.now ≡ Some c
-        → IsOutput c to → IsDoneOrNo result → ReadsBack (Happens D.told D.faults N.left N.faults dialer.old dialer.new nonces.old nonces.new) names c to (S.told shelf.new).names }
+    ensures stamps { (names : Names) (s : Stamping) → (S.told shelf.old).names ≡ Some names
+        → asked words.now ≡ Some (stamp s)
+        → CanStamp (Happens D.told D.faults N.left N.faults dialer.old dialer.new nonces.old nonces.new) names s
+        → IsDoneUnlessFailed result }
+    ensures upgrades { (names : Names) (u : Upgrading) → (S.told shelf.old).names ≡ Some names
+        → asked words.now ≡ Some (upgrade u)
+        → CanUpgrade (Happens D.told D.faults N.left N.faults dialer.old dialer.new nonces.old nonces.new) names u
+        → IsDoneUnlessFailed result }
+    ensures samples { (n : ℕ) → asked words.now ≡ Some (sample n)
+        → IsDoneUnlessLost (Rose (K.faults out.old) (K.faults out.new)) result }
+    ensures reads_back { (names : Names) (c : Asked) (to : List ℕ) → (S.told shelf.old).names ≡ Some names
+        → asked words.now ≡ Some c
+        → IsOutput c to → IsDoneOrNo result
+        → ReadsBack (Happens D.told D.faults N.left N.faults dialer.old dialer.new nonces.old nonces.new) names c to
+        (S.told shelf.new).names }
 {
-    verdict_of_sample();
     match come_to_end(alloc, words, shelf, dialer, nonces) {
         Ok(ending) => carry_out(alloc, &ending, shelf, out),
         Err(OutOfMemory) => Status::OutOfMemory,
@@ -88,10 +105,13 @@ fn come_to_end<'a, S: Shelf, D: Dialer, N: Nonces>(
     dialer: &mut D,
     nonces: &mut N,
 ) -> Result<Ending<'a>, OutOfMemory>
-    ensures ends { ComesToEnd (λ told. AnswersAs (Happens D.told D.faults N.left N.faults dialer.old dialer.new nonces.old nonces.new) told (asked words.entry.now)) (names_read (asked words.entry.now))
+    ensures ends { ComesToEnd
+        (λ told. AnswersAs (Happens D.told D.faults N.left N.faults dialer.old dialer.new nonces.old nonces.new) told
+        (asked words.entry.now)) (names_read (asked words.entry.now))
         (S.told shelf.old) (S.told shelf.new) (S.faults shelf.old) (S.faults shelf.new) result }
     ensures bounded { BoundsEnd (asked words.entry.now) (S.told shelf.old) (S.told shelf.new) result }
-    ensures asks { Asks D.told D.faults N.left (S.told shelf.old).names (asked words.entry.now) dialer.old dialer.new nonces.old nonces.new }
+    ensures asks { Asks D.told D.faults N.left (S.told shelf.old).names (asked words.entry.now) dialer.old dialer.new
+        nonces.old nonces.new }
     ensures nonces { DrawsFor N.left (asked words.entry.now) nonces.old nonces.new }
 {
     match read_words(alloc, words) {
@@ -104,15 +124,18 @@ fn come_to_end<'a, S: Shelf, D: Dialer, N: Nonces>(
 /// How a command ends.
 fn end_of<'a, S: Shelf, D: Dialer, N: Nonces>(
     alloc: Global,
-    command: Command<'a>,
+    command: ClientCommand<'a>,
     shelf: &mut S,
     dialer: &mut D,
     nonces: &mut N,
 ) -> Result<Ending<'a>, OutOfMemory>
-    ensures ends { ComesToEnd (λ told. AnswersAs (Happens D.told D.faults N.left N.faults dialer.old dialer.new nonces.old nonces.new) told (Some (read_as command.entry))) (names_read (Some (read_as command.entry)))
+    ensures ends { ComesToEnd
+        (λ told. AnswersAs (Happens D.told D.faults N.left N.faults dialer.old dialer.new nonces.old nonces.new) told
+        (Some (read_as command.entry))) (names_read (Some (read_as command.entry)))
         (S.told shelf.old) (S.told shelf.new) (S.faults shelf.old) (S.faults shelf.new) result }
     ensures bounded { BoundsEnd (Some (read_as command.entry)) (S.told shelf.old) (S.told shelf.new) result }
-    ensures asks { Asks D.told D.faults N.left (S.told shelf.old).names (Some (read_as command.entry)) dialer.old dialer.new nonces.old nonces.new }
+    ensures asks { Asks D.told D.faults N.left (S.told shelf.old).names (Some (read_as command.entry)) dialer.old
+        dialer.new nonces.old nonces.new }
     ensures nonces { DrawsFor N.left (Some (read_as command.entry)) nonces.old nonces.new }
 {
     match gather(alloc, command, shelf) {

@@ -3,7 +3,7 @@
 ghost use Rattle.std.specs.Prelude.{◌≡◌, ◌≤◌, ◌⊎◌, [], ◌∷◌, length, map, IfErr, IfOk};
 ghost use Rattle.std.specs.List.{All};
 ghost use Rattle.ots_base.specs.Cause.{Rose};
-ghost use Rattle.ots_words.specs.declared.limits.TheConstants.{MAX_STAMPED};
+ghost use Rattle.ots_client_words.specs.declared.limits.TheConstants.{MAX_STAMPED};
 ghost use Rattle.ots_upgrade.specs.Stamped.{AreSoundBelow, good_trees};
 ghost use Rattle.ots_cli.specs.Answer.{StampsAs};
 ghost use Rattle.ots_cli.specs.Asking.{Happens};
@@ -67,8 +67,11 @@ pub fn stamped<'a, D: Dialer, N: Nonces>(
     dialer: &mut D,
     nonces: &mut N,
 ) -> Result<Ending<'a>, OutOfMemory>
-    ensures decided { IfOk result (EndsAs (StampsAs (Happens D.told D.faults N.left N.faults dialer.old dialer.new nonces.old nonces.new) submission.entry)) }
-    ensures asks { (dialer.new ≡ dialer.old) ⊎ SubmitsUpTo D.told D.faults N.left submission.entry dialer.old dialer.new nonces.old nonces.new }
+    ensures decided { IfOk result
+        (EndsAs (StampsAs (Happens D.told D.faults N.left N.faults dialer.old dialer.new nonces.old nonces.new)
+        submission.entry)) }
+    ensures asks { (dialer.new ≡ dialer.old) ⊎ SubmitsUpTo D.told D.faults N.left submission.entry dialer.old dialer.new
+        nonces.old nonces.new }
     ensures draws { DrawsSome N.left (length submission.entry.files.items) nonces.old nonces.new }
 {
     match draw_targets(alloc, &submission.digests, nonces) {
@@ -110,8 +113,10 @@ fn asked<'a, D: Dialer>(
     dialer: &mut D,
 ) -> Result<Ending<'a>, OutOfMemory>
     requires { map (λ t. t.digest) targets.items ≡ submission.digests.items }
-    ensures decided { IfOk result (EndsAs (AnswersTo D.told D.faults submission.entry targets.items dialer.old dialer.new)) }
-    ensures asks { (dialer.new ≡ dialer.old) ⊎ Submits D.told D.faults submission.entry targets.items dialer.old dialer.new }
+    ensures decided { IfOk result
+        (EndsAs (AnswersTo D.told D.faults submission.entry targets.items dialer.old dialer.new)) }
+    ensures asks { (dialer.new ≡ dialer.old) ⊎ Submits D.told D.faults submission.entry targets.items dialer.old
+        dialer.new }
 {
     let batch = Batch::new(alloc, targets)?;
     let outcomes = batch.ask(alloc, dialer, &submission.calendars)?;

@@ -2,32 +2,35 @@
 ghost use Rattle.std.specs.Prelude.{◌≡◌, ◌++◌, ℕ, List, [], codes, decimal, false, MatchResult};
 ghost use Rattle.hex.specs.Hex.{encode_lower};
 ghost use Rattle.ots_base.specs.Cause.{Rose};
-ghost use Rattle.ots_eval.specs.declared.verdicts.Verdict.TheVariants.{Yes};
-ghost use Rattle.ots_info.specs.Listing.{line};
-ghost use Rattle.ots_outside.specs.Streams.{Takes, TakesFront};
+ghost use Rattle.ots_verdicts.specs.declared.verdicts.Verdict.TheVariants.{Yes};
+ghost use Rattle.ots_outside.specs.Streams.{Takes, TakesPrefix};
 ghost use Rattle.ots_printer.specs.Printing.{Puts};
-ghost use Rattle.ots_cli.specs.CarriedOut.{SinkStays};
 ghost use Rattle.ots_cli.specs.Decided.{IsTextOf};
-ghost use Rattle.ots_cli.specs.Refusal.{bad_words, refusal_text};
+ghost use Rattle.ots_cli.specs.Refusal.{refusal_text};
 ghost use Rattle.ots_cli.specs.Stamping.{wrote_text};
-ghost use Rattle.ots_cli.specs.Text.{complete_status, complete_text, sample_text, verdict_status, verdict_text, yes_words};
-ghost use Rattle.ots_cli.specs.declared.status.Status.TheVariants.{BadAddress, BadProof, Differs, TooFew};
+ghost use Rattle.ots_cli.specs.Text.{complete_status, complete_text, sample_text, verdict_status, verdict_text};
+ghost use Rattle.ots_cli.specs.Text.{yes_words};
+ghost use Rattle.ots_cli.specs.declared.status.Status.TheVariants.{BadProof, Differs, TooFew};
+ghost use Rattle.ots_outputs.specs.Lines.{line};
+ghost use Rattle.ots_outputs.specs.Printed.{SinkStays};
 
 use crate::ending::Text;
 use crate::status::Status;
-use ots_eval::{Chain, Verdict};
 use ots_info::{put_pair, put_proof};
 use ots_lines::{put_asked, put_calendars};
 use ots_ops::{Digest, HashOp};
+use ots_outputs::{put_bad_address, put_name, put_number};
 use ots_outside::{Failed, Sink};
 use ots_printer::Printer;
 use ots_reader::Fault;
 use ots_sample::Sample;
+use ots_verdicts::{Chain, Verdict};
 
-/// Prints a text of a run that ends with this status, or a front of it where the sink fails.
+/// Prints a text of a run that ends with this status, or a prefix of it where the sink fails.
 pub fn print_text<K: Sink>(text: &Text<'_>, status: &Status, sink: &mut K) -> Result<(), Failed>
-    ensures printed { (bytes : List ℕ) × IsTextOf status.now text.now bytes × MatchResult result (λ _. Takes (K.taken sink.old) (K.taken sink.new) bytes)
-        (λ _. Rose (K.faults sink.old) (K.faults sink.new) × TakesFront (K.taken sink.old) (K.taken sink.new) bytes) }
+    ensures printed { (bytes : List ℕ) × IsTextOf status.now text.now bytes
+        × MatchResult result (λ _. Takes (K.taken sink.old) (K.taken sink.new) bytes)
+        (λ _. Rose (K.faults sink.old) (K.faults sink.new) × TakesPrefix (K.taken sink.old) (K.taken sink.new) bytes) }
     ensures sink { SinkStays K.faults K.same sink.old sink.new }
 {
     put_all(text, status, &mut Printer::new(sink))
@@ -42,8 +45,10 @@ fn put_all<K: Sink>(
     requires empty { out.old.held ≡ [] }
     requires good { out.old.failed ≡ false }
     ensures loan { out.new.sink.ghost_name ≡ out.old.sink.ghost_name }
-    ensures printed { (bytes : List ℕ) × IsTextOf status.now text.now bytes × MatchResult result (λ _. Takes (K.taken out.old.sink.now) (K.taken out.new.sink.now) bytes)
-        (λ _. Rose (K.faults out.old.sink.now) (K.faults out.new.sink.now) × TakesFront (K.taken out.old.sink.now) (K.taken out.new.sink.now) bytes) }
+    ensures printed { (bytes : List ℕ) × IsTextOf status.now text.now bytes
+        × MatchResult result (λ _. Takes (K.taken out.old.sink.now) (K.taken out.new.sink.now) bytes)
+        (λ _. Rose (K.faults out.old.sink.now) (K.faults out.new.sink.now)
+        × TakesPrefix (K.taken out.old.sink.now) (K.taken out.new.sink.now) bytes) }
     ensures sink { SinkStays K.faults K.same out.old.sink.now out.new.sink.now }
 {
     put_text(text, status, out);
@@ -56,13 +61,14 @@ fn put_all<K: Sink>(
 /// Puts a text.
 fn put_text<K: Sink>(text: &Text<'_>, status: &Status, out: &mut Printer<'_, K>)
     ensures loan { out.new.sink.ghost_name ≡ out.old.sink.ghost_name }
-    ensures put { (bytes : List ℕ) × IsTextOf status.now text.now bytes × Puts K.taken K.faults K.same bytes out.old out.new }
+    ensures put { (bytes : List ℕ) × IsTextOf status.now text.now bytes
+        × Puts K.taken K.faults K.same bytes out.old out.new }
 {
     match text {
         Text::Proof(proof) => put_proof(proof, out),
         Text::Verdict(verdict) => put_verdict(*verdict, out),
         Text::Refusal(name) => put_refusal(name, status, out),
-        Text::Asked(asked) => put_asked(asked, out),
+        Text::Asked(asked) => put_asked(asked.items(), out),
         Text::Complete(complete) => put_complete(*complete, out),
         Text::Calendars(replies) => put_calendars(&replies.calendars, &replies.outcomes, out),
         Text::Wrote(name) => put_wrote(name, out),
@@ -122,19 +128,10 @@ pub fn verdict_status(verdict: Verdict) -> Status
 fn put_sample<K: Sink>(sample: &Sample, out: &mut Printer<'_, K>)
     ensures { Puts K.taken K.faults K.same (sample_text sample.now) out.old out.new }
 {
-    put_numbered("paths ", sample.paths as u64, out);
-    put_numbered("bytes ", sample.length, out);
+    put_number("paths ", sample.paths as u64, out);
+    put_number("bytes ", sample.length, out);
     put_digest(&sample.digest, out);
     put_verdict(sample.verdict, out);
-}
-
-/// Puts a line of a word and a number.
-fn put_numbered<K: Sink>(word: &str, number: u64, out: &mut Printer<'_, K>)
-    ensures { Puts K.taken K.faults K.same (line (word.now ++ decimal number)) out.old out.new }
-{
-    out.word(word);
-    out.number(number);
-    out.word("\n");
 }
 
 /// Puts the line of a digest.
@@ -181,20 +178,16 @@ fn put_refusal<K: Sink>(name: &str, status: &Status, out: &mut Printer<'_, K>)
             "usage: ots info, canon, merge, prune, verify, stamp, upgrade, sample\n",
         ),
         Status::BadProof(fault) => put_fault(name, *fault, out),
-        Status::NoFile => put_line("no file ", name, out),
-        Status::Exists => put_line("exists ", name, out),
-        Status::ReadFault => put_line("read fault ", name, out),
-        Status::WriteFault => put_line("write fault ", name, out),
-        Status::TooBig => put_line("too big ", name, out),
-        Status::BadHeaders(length) => {
-            out.word("bad headers ");
-            out.number(*length);
-            out.word("\n");
-        }
+        Status::NoFile => put_name("no file ", name, out),
+        Status::Exists => put_name("exists ", name, out),
+        Status::ReadFault => put_name("read fault ", name, out),
+        Status::WriteFault => put_name("write fault ", name, out),
+        Status::TooBig => put_name("too big ", name, out),
+        Status::BadHeaders(length) => put_number("bad headers ", *length, out),
         Status::TooFew { got, wanted } => put_too_few(*got, *wanted, out),
         Status::NonceFault => out.word("nonce fault\n"),
-        Status::FileTooLong => put_line("file too long ", name, out),
-        Status::BadAddress { place, https } => put_bad_address(*place, *https, out),
+        Status::FileTooLong => put_name("file too long ", name, out),
+        Status::BadAddress { place, https } => put_bad_address(*place as u64, *https, out),
         Status::Differs {
             first_hash,
             first_digest,
@@ -203,15 +196,6 @@ fn put_refusal<K: Sink>(name: &str, status: &Status, out: &mut Printer<'_, K>)
         } => put_pairs(*first_hash, first_digest, *second_hash, second_digest, out),
         Status::Done | Status::No | Status::OutOfMemory => {}
     }
-}
-
-/// Puts a line of a word and a name.
-fn put_line<K: Sink>(word: &str, name: &str, out: &mut Printer<'_, K>)
-    ensures { Puts K.taken K.faults K.same (line (word.now ++ name.now)) out.old out.new }
-{
-    out.word(word);
-    out.word(name);
-    out.word("\n");
 }
 
 /// Puts the line for an input that is no proof file.
@@ -225,26 +209,6 @@ fn put_fault<K: Sink>(name: &str, fault: Fault, out: &mut Printer<'_, K>)
     out.word(": ");
     out.word(fault.reason.words());
     out.word("\n");
-}
-
-/// Puts the line for a list of calendars with a piece that is no address.
-fn put_bad_address<K: Sink>(place: usize, https: bool, out: &mut Printer<'_, K>)
-    ensures { Puts K.taken K.faults K.same (refusal_text [] (BadAddress place https)) out.old out.new }
-{
-    out.word(bad_words(https));
-    out.number(place as u64);
-    out.word("\n");
-}
-
-/// The words before the place of a piece that is no address.
-fn bad_words(https: bool) -> &'static str
-    ensures { result.now ≡ bad_words https }
-{
-    if https {
-        "https is not supported at "
-    } else {
-        "bad address at "
-    }
 }
 
 /// Puts the line for too few calendars.
@@ -266,7 +230,8 @@ fn put_pairs<K: Sink>(
     second_digest: &Digest,
     out: &mut Printer<'_, K>,
 )
-    ensures { Puts K.taken K.faults K.same (refusal_text [] (Differs first_hash first_digest.now second_hash second_digest.now)) out.old out.new }
+    ensures { Puts K.taken K.faults K.same
+        (refusal_text [] (Differs first_hash first_digest.now second_hash second_digest.now)) out.old out.new }
 {
     out.word("differs ");
     put_pair(first_hash, first_digest, out);

@@ -2,21 +2,23 @@
 ghost use Rattle.std.specs.Prelude.{◌≡◌, ◌<◌, [], ◌∷◌, length, string_bytes, IfOk};
 ghost use Rattle.ots_base.specs.Cause.{Rose};
 ghost use Rattle.ots_upgrade.specs.Stamped.{good_trees};
-ghost use Rattle.ots_cli.specs.CarriedOut.{Carries, CarriesOn, SinkStays};
+ghost use Rattle.ots_cli.specs.CarriedOut.{Carries, CarriesOn};
 ghost use Rattle.ots_detached.specs.File.{file_of};
 ghost use Rattle.ots_cli.specs.Decided.{acts_at, acts_of_stamped, name_at};
 ghost use Rattle.ots_cli.specs.Ending.{makes, prints};
 ghost use Rattle.ots_cli.specs.Stamping.{IsStampAt, calendars_text, proof_name, wrote_text};
+ghost use Rattle.ots_outputs.specs.Printed.{SinkStays};
 
 use crate::carry_out::refuse;
 use crate::decide::is_too_long;
 use crate::ending::Text;
-use crate::output::{OutputError, make_file};
+use crate::output::make_proof;
 use crate::replies::Stamped;
 use crate::status::Status;
 use crate::text::print_text;
 use ots_base::OutOfMemory;
 use ots_detached::written_file;
+use ots_outputs::OutputError;
 use ots_outside::{Failed, Shelf, Sink};
 use ots_tree::Detached;
 use std::alloc::Global;
@@ -30,8 +32,10 @@ pub fn make_stamps<S: Shelf, K: Sink>(
     shelf: &mut S,
     out: &mut K,
 ) -> Status
-    ensures made { Carries status.now (prints (calendars_text stamped.now.calendars stamped.now.outcomes) ∷ acts_of_stamped stamped.now)
-        (S.told shelf.old) (S.told shelf.new) (S.faults shelf.old) (S.faults shelf.new) (Rose (K.faults out.old) (K.faults out.new)) (K.taken out.old) (K.taken out.new) result }
+    ensures made { Carries status.now (prints (calendars_text stamped.now.calendars stamped.now.outcomes)
+        ∷ acts_of_stamped stamped.now)
+        (S.told shelf.old) (S.told shelf.new) (S.faults shelf.old) (S.faults shelf.new)
+        (Rose (K.faults out.old) (K.faults out.new)) (K.taken out.old) (K.taken out.new) result }
     ensures sink { SinkStays K.faults K.same out.old out.new }
 {
     match print_text(&Text::Calendars(stamped.replies()), status, out) {
@@ -48,7 +52,8 @@ fn make_each<S: Shelf, K: Sink>(
     shelf: &mut S,
     out: &mut K,
 ) -> Status
-    ensures made { Carries status.now (acts_of_stamped stamped.now) (S.told shelf.old) (S.told shelf.new) (S.faults shelf.old) (S.faults shelf.new)
+    ensures made { Carries status.now (acts_of_stamped stamped.now) (S.told shelf.old) (S.told shelf.new)
+        (S.faults shelf.old) (S.faults shelf.new)
         (Rose (K.faults out.old) (K.faults out.new)) (K.taken out.old) (K.taken out.new) result }
     ensures sink { SinkStays K.faults K.same out.old out.new }
 {
@@ -70,7 +75,8 @@ fn make_stamp<S: Shelf, K: Sink>(
     out: &mut K,
 ) -> Result<(), Status>
     requires { i < length stamped.now.files }
-    ensures made { CarriesOn (acts_at stamped.now i) (S.told shelf.old) (S.told shelf.new) (S.faults shelf.old) (S.faults shelf.new)
+    ensures made { CarriesOn (acts_at stamped.now i) (S.told shelf.old) (S.told shelf.new) (S.faults shelf.old)
+        (S.faults shelf.new)
         (Rose (K.faults out.old) (K.faults out.new)) (K.taken out.old) (K.taken out.new) result }
     ensures sink { SinkStays K.faults K.same out.old out.new }
 {
@@ -110,11 +116,13 @@ fn make_and_tell<S: Shelf, K: Sink>(
     shelf: &mut S,
     out: &mut K,
 ) -> Result<(), Status>
-    ensures made { CarriesOn (makes to.now (file_of proof.now) ∷ prints (wrote_text name.now) ∷ []) (S.told shelf.old) (S.told shelf.new)
-        (S.faults shelf.old) (S.faults shelf.new) (Rose (K.faults out.old) (K.faults out.new)) (K.taken out.old) (K.taken out.new) result }
+    ensures made { CarriesOn (makes to.now (file_of proof.now) ∷ prints (wrote_text name.now) ∷ []) (S.told shelf.old)
+        (S.told shelf.new)
+        (S.faults shelf.old) (S.faults shelf.new) (Rose (K.faults out.old) (K.faults out.new)) (K.taken out.old)
+        (K.taken out.new) result }
     ensures sink { SinkStays K.faults K.same out.old out.new }
 {
-    match make_file(to, proof, shelf) {
+    match make_proof(to, proof, shelf) {
         Ok(()) => match print_text(&Text::Wrote(name), &Status::Done, out) {
             Ok(()) => Ok(()),
             Err(Failed) => Err(Status::WriteFault),

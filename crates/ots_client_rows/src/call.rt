@@ -4,7 +4,7 @@ use ots_io::{Dialer, Nonces, Shelf, Sink};
 use std::alloc::Global;
 
 /// A run of the client over any objects, and the number that it ends with. What its clauses say is left
-/// behind here: the transcript says what came of it.
+/// after here: the transcript says what came of it.
 pub fn call<S: Shelf, K: Sink, D: Dialer, N: Nonces>(
     alloc: Global,
     words: &[String],

@@ -84,7 +84,7 @@ pub fn left_by<C: Contents>(
     })
 }
 
-/// The files that a run made: those under its words, and under these with `.ots` behind them.
+/// The files that a run made: those under its words, and under these with `.ots` after them.
 fn made_by<C: Contents>(
     alloc: Global,
     words: &[String],

@@ -7,7 +7,7 @@
 //! | `let NAME PIECES` | these bytes have a name, and are `$NAME` in the lines below |
 //! | `clear` | there are no files, no nonces and no calendars |
 //! | `file NAME PIECES` | there is a file with these bytes |
-//! | `nonces PIECES` | the nonces to come, one behind the other |
+//! | `nonces PIECES` | the nonces to come, one after the other |
 //! | `dial ADDRESS PIECES` | a calendar replies these bytes; conversations take the replies in order |
 //! | `shelf N..`, `sink N..` | these calls of the files, or writes of what is printed, fail in the next run |
 //! | `dial fails N..`, `nonce fails N..` | these calls of the dialer, or draws of a nonce, fail in it |
@@ -19,7 +19,7 @@
 //!
 //! A piece is hexadecimal digits, as `00ff`; `08*255`, so many times; `{0..9}00`, once for each number, as two bytes
 //! and what stands around it; a text in quotes, with `\n`, `\r`, `\\` and `\"`; or `$NAME`, of which `$NAME[..7]` is
-//! the front. A word is in quotes where it is empty or has spaces. `f{0..9}` is ten words, and so many names.
+//! the prefix. A word is in quotes where it is empty or has spaces. `f{0..9}` is ten words, and so many names.
 //!
 //! Each line is printed, and below it what came of it. A run prints its text, a line for each file that it made,
 //! with its length, one for each that it changed, and then the number that it ends with and whom it asked.

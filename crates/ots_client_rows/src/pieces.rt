@@ -43,10 +43,10 @@ fn digits_of(alloc: Global, digits: &str) -> io::Result<Vec<u8>> {
     decode(alloc, digits).map_err(|_| malformed())
 }
 
-/// The bytes that have a name, or the front of them: `NAME[..7]` is the first seven.
+/// The bytes that have a name, or the prefix of them: `NAME[..7]` is the first seven.
 fn named_bytes<'a>(named: &'a Table, name: &str) -> io::Result<&'a [u8]> {
     match name.split_once("[..") {
-        Some((name, end)) => front(find(named, name)?, end.trim_end_matches(']')),
+        Some((name, end)) => prefix(find(named, name)?, end.trim_end_matches(']')),
         None => find(named, name),
     }
 }
@@ -56,8 +56,8 @@ fn find<'a>(named: &'a Table, name: &str) -> io::Result<&'a [u8]> {
     named.get(name).ok_or_else(malformed)
 }
 
-/// The front of some bytes, by its length.
-fn front<'a>(bytes: &'a [u8], length: &str) -> io::Result<&'a [u8]> {
+/// The prefix of some bytes, by its length.
+fn prefix<'a>(bytes: &'a [u8], length: &str) -> io::Result<&'a [u8]> {
     match length.parse::<usize>() {
         Ok(length) => bytes.get(..length).ok_or_else(malformed),
         Err(_) => Err(malformed()),
@@ -76,14 +76,14 @@ fn push_times(bytes: &mut Vec<u8>, part: &[u8], count: &str) -> io::Result<()> {
 /// Appends each number as two bytes, the high one first, between what stands around it.
 fn push_numbered(alloc: Global, bytes: &mut Vec<u8>, braces: Braces<'_>) -> io::Result<()> {
     let before = digits_of(alloc, braces.before)?;
-    let behind = digits_of(alloc, braces.behind)?;
+    let after = digits_of(alloc, braces.after)?;
     for number in braces.first..=braces.last {
-        push_all(bytes, &[&before, &number.to_be_bytes(), &behind])?;
+        push_all(bytes, &[&before, &number.to_be_bytes(), &after])?;
     }
     Ok(())
 }
 
-/// Appends these bytes, one behind the other.
+/// Appends these bytes, one after the other.
 fn push_all(bytes: &mut Vec<u8>, parts: &[&[u8]]) -> Result<(), AllocError> {
     for part in parts {
         bytes.extend_from_slice(part)?;

@@ -209,7 +209,7 @@ impl Scene {
     }
 }
 
-/// The numbers behind the word `fails`.
+/// The numbers after the word `fails`.
 fn failing_of(alloc: Global, rest: &[String]) -> io::Result<Vec<u64>> {
     match rest.split_first() {
         Some((word, numbers)) if word.as_str() == "fails" => numbers_of(alloc, numbers),

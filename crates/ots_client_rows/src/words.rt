@@ -2,7 +2,7 @@
 use std::alloc::{AllocError, Global};
 use std::io;
 
-/// Where in a line a reader of it is: outside of each text, in one, or in one behind a backslash.
+/// Where in a line a reader of it is: outside of each text, in one, or in one after a backslash.
 #[derive(Clone, Copy, PartialEq, Eq)]
 enum Place {
     Outside,
@@ -11,8 +11,8 @@ enum Place {
 }
 
 impl Place {
-    /// Where it is behind this character.
-    fn behind(self, letter: char) -> Place {
+    /// Where it is after this character.
+    fn after(self, letter: char) -> Place {
         match (self, letter) {
             (Place::Outside, '"') | (Place::Escape, _) => Place::Text,
             (Place::Text, '"') => Place::Outside,
@@ -28,7 +28,7 @@ pub fn words_of(alloc: Global, line: &str) -> Result<Vec<String>, AllocError> {
     let mut word = String::new(alloc);
     let mut place = Place::Outside;
     for letter in line.chars() {
-        place = place.behind(letter);
+        place = place.after(letter);
         if letter == ' ' && place == Place::Outside {
             push_word(&mut words, &word)?;
             word.clear();
@@ -72,7 +72,7 @@ fn unescaped(alloc: Global, text: &str) -> Result<String, AllocError> {
     Ok(plain)
 }
 
-/// What a character stands for behind a backslash.
+/// What a character stands for after a backslash.
 fn escape(letter: char) -> char {
     match letter {
         'n' => '\n',
@@ -110,13 +110,13 @@ pub fn range_of(text: &str) -> io::Result<(u16, u16)> {
 }
 
 /// A word with a range in braces: what stands before them, the first and the last number, and what
-/// stands behind them.
+/// stands after them.
 #[derive(Clone, Copy)]
 pub struct Braces<'a> {
     pub before: &'a str,
     pub first: u16,
     pub last: u16,
-    pub behind: &'a str,
+    pub after: &'a str,
 }
 
 /// The parts of a word with a range in braces, or none where it has no braces or is a text in quotes.
@@ -127,13 +127,13 @@ pub fn braces_in(word: &str) -> io::Result<Option<Braces<'_>>> {
     let Some((before, rest)) = word.split_once('{') else {
         return Ok(None);
     };
-    let (range, behind) = rest.split_once('}').ok_or_else(malformed)?;
+    let (range, after) = rest.split_once('}').ok_or_else(malformed)?;
     let (first, last) = range_of(range)?;
     Ok(Some(Braces {
         before,
         first,
         last,
-        behind,
+        after,
     }))
 }
 
@@ -161,9 +161,9 @@ fn push_numbered(
     texts: &mut Vec<String>,
     braces: Braces<'_>,
 ) -> Result<(), AllocError> {
-    let Braces { before, behind, .. } = braces;
+    let Braces { before, after, .. } = braces;
     for number in braces.first..=braces.last {
-        texts.push(format!(in alloc; "{before}{number}{behind}")?)?;
+        texts.push(format!(in alloc; "{before}{number}{after}")?)?;
     }
     Ok(())
 }

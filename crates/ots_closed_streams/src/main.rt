@@ -63,7 +63,7 @@ fn first_failed(
     Ok(0)
 }
 
-// Whether the calendar can't print on these words, and leaves a journal of so many records.
+/// Whether the calendar can't print on these words, and leaves a journal of so many records.
 fn stores(
     rt: &HostRuntime,
     threads: &(impl Threads + Wait + Sync),
@@ -71,7 +71,7 @@ fn stores(
     records: u64,
 ) -> Result<bool, AllocError> {
     let words = split(rt, words)?;
-    let status = ots_server_program::run_words(rt, threads, rt.alloc(), &words);
+    let status = ots_calendar_program::run_words(rt, threads, rt.alloc(), &words);
     let name = match words.first() {
         Some(word) => String::from_str(rt.alloc(), word)?,
         None => String::new(rt.alloc()),
@@ -79,7 +79,7 @@ fn stores(
     Ok(status.number() == WRITE_FAULT && count(rt, name) == Some(records))
 }
 
-// How many records a journal has, if it opens.
+/// How many records a journal has, if it opens.
 fn count(rt: &HostRuntime, name: String) -> Option<u64> {
     let disk = FileDisk::new(SystemFile::new(rt, name));
     match Journal::open(rt.alloc(), disk, MAX_JOURNAL) {
@@ -88,10 +88,10 @@ fn count(rt: &HostRuntime, name: String) -> Option<u64> {
     }
 }
 
-// What the client ends with.
+/// What the client ends with.
 fn client(rt: &HostRuntime, words: &str) -> Result<u8, AllocError> {
     let words = split(rt, words)?;
-    Ok(ots_program::run_words(rt, rt.alloc(), &words).number())
+    Ok(ots_client_program::run_words(rt, rt.alloc(), &words).number())
 }
 
 fn split(rt: &HostRuntime, words: &str) -> Result<Vec<String>, AllocError> {

@@ -14,7 +14,7 @@ use Rattle.ots_reader.specs.OneAnswer.{HasOneTree}
 use Rattle.ots_reader.proofs.ByteLists.{all_drop}
 use Rattle.ots_reader.proofs.FaultOrTree.{fault_or_tree_lem}
 use Rattle.ots_detached.specs.File.{header, file, HasFile, IsHeader}
-use Rattle.ots_detached.specs.FileFault.{at, magic_fault, version_fault, header_fault, HasFault, in_header, in_tree, behind}
+use Rattle.ots_detached.specs.FileFault.{at, magic_fault, version_fault, header_fault, HasFault, in_header, in_tree, after}
 use Rattle.ots_detached.specs.OneAnswer.{HasOneFault, HasOneFile}
 use Rattle.ots_detached.proofs.Headers.{magic_first, version_second, hash_third, digest_last, is_header}
 use Rattle.ots_detached.proofs.Files.{file_apart, one_fault}
@@ -77,7 +77,7 @@ digest_least Sha256 = (omega arith, omega arith)
 one : (b : List ℕ) (f : Fault) → HasFault b f → HasOneFault b ⊎ HasOneFile b
 one b f has = inl (record { fault = f; has = has; only = λ g other. one_fault b g f other has })
 
--- a whole tree behind the header, and what follows it
+-- a whole tree after the header, and what follows it
 with_tree : (b : List ℕ) (h : HashOp) (d : List ℕ) (rest : List ℕ) (t : Node) → HasFile h d t → b ≡ file h d t ++ rest → HasOneFault b ⊎ HasOneFile b
 with_tree b h d [] t has whole =
     let is : b ≡ file h d t = whole ∙ append-nil (file h d t) in
@@ -89,12 +89,12 @@ with_tree b h d [] t has whole =
       spelled = is;
       only = λ k e u other is'. let same = file_apart k h e d u t [] [] other has (ap (λ (z : List ℕ). z ++ []) (sym is' ∙ is)) in (same.hash, same.digest, same.tree);
     })
-with_tree b h d (x ∷ rest) t has whole = one b (at (length (file h d t)) TrailingBytes) (behind h d t x rest has whole refl)
+with_tree b h d (x ∷ rest) t has whole = one b (at (length (file h d t)) TrailingBytes) (after h d t x rest has whole refl)
 
-tree_behind : (b : List ℕ) (h : HashOp) (d : List ℕ) → length b ≤ 4194304 → IsHeader b h d → HasOneTree (length d) 0 (drop (33 + length d) b) → HasOneFault b ⊎ HasOneFile b
-tree_behind b h d size head t =
+tree_after : (b : List ℕ) (h : HashOp) (d : List ℕ) → length b ≤ 4194304 → IsHeader b h d → HasOneTree (length d) 0 (drop (33 + length d) b) → HasOneFault b ⊎ HasOneFile b
+tree_after b h d size head t =
     let whole : b ≡ file h d t.node ++ t.rest =
-    head.front ∙ ap (λ (z : List ℕ). header h d ++ z) t.spelled ∙ sym (append_assoc (header h d) (bytes t.node) t.rest) in
+    head.prefix ∙ ap (λ (z : List ℕ). header h d ++ z) t.spelled ∙ sym (append_assoc (header h d) (bytes t.node) t.rest) in
     with_tree b h d t.rest t.node
     (record { digest = head.digest; tokens = t.sound.fits; sound = t.sound.sound; size = omega (arith, ap length whole, length-append (file h d t.node) t.rest) })
     whole
@@ -109,6 +109,6 @@ fault_or_file_lem b all size =
           elim (fault_or_tree_lem (length head.digest) 0 (drop (33 + length head.digest) b) (record { least = omega arith; greatest = omega arith; depth = omega arith })
           (all_drop (λ byte. byte < 256) (33 + length head.digest) b all)) [
             | inl f ↦ one b _ (in_tree head.hash head.digest f.fault head.is f.has refl)
-            | inr t ↦ tree_behind b head.hash head.digest size head.is t
+            | inr t ↦ tree_after b head.hash head.digest size head.is t
           ]
     ]

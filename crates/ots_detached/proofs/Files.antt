@@ -19,7 +19,7 @@ use Rattle.ots_reader.specs.declared.fault.ReadError.{ReadError}
 use Rattle.ots_reader.specs.declared.fault.ReadError.TheVariants as error
 use Rattle.ots_detached.specs.FileRead.{IsFileError, moved_error, place_of}
 use Rattle.ots_detached.specs.File.{magic, header, file, HasFile, IsHeader}
-use Rattle.ots_detached.specs.FileFault.{at, moved, HasFault, in_header, in_tree, behind}
+use Rattle.ots_detached.specs.FileFault.{at, moved, HasFault, in_header, in_tree, after}
 use Rattle.ots_reader.proofs.OneFault.{one_fault_lem, never_both_lem}
 use Rattle.ots_detached.proofs.Headers.{header_length, header_none}
 
@@ -40,7 +40,7 @@ some_stands : (xs : List ℕ) → 0 < length xs → (x : ℕ) × (rest : List �
 some_stands [] h = absurd (omega arith)
 some_stands (x ∷ rest) h = (x, rest, refl)
 
--- bytes behind the tree
+-- bytes after the tree
 pub trailing : (b : List ℕ) (h : HashOp) (d : List ℕ) (n used : ℕ) (tree : Tree) → length b ≤ 4194304 → IsHeader b h d → n ≡ length d
     → IsTreeAt n 0 (take (length b - (33 + n)) (drop (33 + n) b)) tree used → 33 + n + used < length b → HasFault b (at (33 + n + used) TrailingBytes)
 trailing b h d n used tree size head same read short =
@@ -52,9 +52,9 @@ trailing b h d n used tree size head same read short =
     let more = some_stands (drop used c) (omega (arith, length-drop used c, length-drop (33 + n) b)) in
     let split : c ≡ bytes t ++ (more.0 ∷ more.1) = at-rest.front ∙ ap (λ (z : List ℕ). z ++ drop used c) (sym spelled-is) ∙ ap (λ (z : List ℕ). bytes t ++ z) more.2 in
     let whole : b ≡ file h d t ++ (more.0 ∷ more.1) =
-    head.front ∙ ap (λ (m : ℕ). header h d ++ drop (33 + m) b) (sym same) ∙ ap (λ (z : List ℕ). header h d ++ z) split ∙ sym (append_assoc (header h d) (bytes t) (more.0 ∷ more.1)) in
+    head.prefix ∙ ap (λ (m : ℕ). header h d ++ drop (33 + m) b) (sym same) ∙ ap (λ (z : List ℕ). header h d ++ z) split ∙ sym (append_assoc (header h d) (bytes t) (more.0 ∷ more.1)) in
     let long : length (file h d t) ≡ 33 + n + used = omega (arith, length-append (header h d) (bytes t), header_length h d, ap length spelled-is, at-rest.len) in
-    behind h d t more.0 more.1
+    after h d t more.0 more.1
     (record {
       digest = head.digest;
       tokens = subst (λ (z : List Token). AllByRecursion IsToken z) (sym tokens) at-rest.fits;
@@ -78,7 +78,7 @@ tag_apart Ripemd160 Ripemd160 e = refl
 tag_apart Sha256 Sha256 e = refl
 tag_apart h k e = absurd (omega arith)
 
--- two headers at the front of the same bytes
+-- two headers at the start of the same bytes
 headers_apart : (h k : HashOp) (d e x y : List ℕ) → length d ≡ digest_length h → length e ≡ digest_length k → header h d ++ x ≡ header k e ++ y
     → (h ≡ k) × (d ≡ e) × (x ≡ y)
 headers_apart h k d e x y dl el is =
@@ -100,12 +100,12 @@ pub file_header : (b : List ℕ) (h : HashOp) (d : List ℕ) (t : Node) (x : Lis
 file_header b h d t x f is =
     let regrouped : b ≡ header h d ++ (bytes t ++ x) = is ∙ append_assoc (header h d) (bytes t) x in
     let rest : drop (33 + length d) b ≡ bytes t ++ x = ap (drop (33 + length d)) regrouped ∙ drop_at (header h d) (bytes t ++ x) (33 + length d) (header_length h d) in
-    (record { digest = f.digest; front = regrouped ∙ ap (λ (z : List ℕ). header h d ++ z) (sym rest) }, rest)
+    (record { digest = f.digest; prefix = regrouped ∙ ap (λ (z : List ℕ). header h d ++ z) (sym rest) }, rest)
 
--- the header at the front of bytes is one
+-- the header at the start of bytes is one
 header_one : (b : List ℕ) (h k : HashOp) (d e : List ℕ) → IsHeader b h d → IsHeader b k e → (h ≡ k) × (d ≡ e)
 header_one b h k d e f g =
-    let a = headers_apart h k d e (drop (33 + length d) b) (drop (33 + length e) b) f.digest g.digest (sym f.front ∙ g.front) in
+    let a = headers_apart h k d e (drop (33 + length d) b) (drop (33 + length e) b) f.digest g.digest (sym f.prefix ∙ g.prefix) in
     (a.0, a.1)
 
 -- a tree that is whole, and a fault of the bytes where it stands
@@ -123,7 +123,7 @@ never_both b h d t f file-is is (in_header e) =
     let clash : None ≡ Some f = sym none ∙ e in
     cc
 never_both b h d t f file-is is (in_tree k e g head fault moved-is) = not_in_tree b h k d e t [] g file-is (is ∙ sym (append-nil (file h d t))) head fault
-never_both b h d t f file-is is (behind k e u x rest other whole at-is) =
+never_both b h d t f file-is is (after k e u x rest other whole at-is) =
     let same = file_apart h k d e t u [] (x ∷ rest) file-is other (append-nil (file h d t) ∙ sym is ∙ whole) in
     let nothing = same.rest in
     cc
@@ -131,7 +131,7 @@ never_both b h d t f file-is is (behind k e u x rest other whole at-is) =
 pub one_fault : (b : List ℕ) (f g : Fault) → HasFault b f → HasFault b g → f ≡ g
 one_fault b f g (in_header e) (in_header e') = let same : Some f ≡ Some g = sym e ∙ e' in cc
 one_fault b f g (in_header e) (in_tree k d g' head fault is) = let clash : None ≡ Some f = sym (header_none b k d head) ∙ e in absurd cc
-one_fault b f g (in_header e) (behind k d u x rest other whole is) =
+one_fault b f g (in_header e) (after k d u x rest other whole is) =
     let clash : None ≡ Some f = sym (header_none b k d (file_header b k d u (x ∷ rest) other whole).0) ∙ e in absurd cc
 one_fault b f g (in_tree k d f' head fault is) (in_header e) = let clash : None ≡ Some g = sym (header_none b k d head) ∙ e in absurd cc
 one_fault b f g (in_tree k d f' head fault is) (in_tree k' d' g' head' fault' is') =
@@ -139,11 +139,11 @@ one_fault b f g (in_tree k d f' head fault is) (in_tree k' d' g' head' fault' is
     let here : HasTreeFault (length d) 0 (drop (33 + length d) b) g' = subst (λ (z : List ℕ). HasTreeFault (length z) 0 (drop (33 + length z) b) g') one.1 fault' in
     let same = one_fault_lem (length d) 0 (drop (33 + length d) b) f' g' fault here in
     is ∙ ap (moved (33 + length d)) same ∙ ap (λ (z : List ℕ). moved (33 + length z) g') (sym one.1) ∙ sym is'
-one_fault b f g (in_tree k d f' head fault is) (behind k' d' u x rest other whole is') = absurd (not_in_tree b k' k d' d u (x ∷ rest) f' other whole head fault)
-one_fault b f g (behind k d u x rest other whole is) (in_header e) =
+one_fault b f g (in_tree k d f' head fault is) (after k' d' u x rest other whole is') = absurd (not_in_tree b k' k d' d u (x ∷ rest) f' other whole head fault)
+one_fault b f g (after k d u x rest other whole is) (in_header e) =
     let clash : None ≡ Some g = sym (header_none b k d (file_header b k d u (x ∷ rest) other whole).0) ∙ e in absurd cc
-one_fault b f g (behind k d u x rest other whole is) (in_tree k' d' g' head fault is') = absurd (not_in_tree b k k' d d' u (x ∷ rest) g' other whole head fault)
-one_fault b f g (behind k d u x rest other whole is) (behind k' d' u' x' rest' other' whole' is') =
+one_fault b f g (after k d u x rest other whole is) (in_tree k' d' g' head fault is') = absurd (not_in_tree b k k' d d' u (x ∷ rest) g' other whole head fault)
+one_fault b f g (after k d u x rest other whole is) (after k' d' u' x' rest' other' whole' is') =
     let same = file_apart k k' d d' u u' (x ∷ rest) (x' ∷ rest') other other' (sym whole ∙ whole') in
     let files : file k d u ≡ file k' d' u' = λ i. file (same.hash i) (same.digest i) (same.tree i) in
     is ∙ ap (λ (z : List ℕ). at (length z) TrailingBytes) files ∙ sym is'

@@ -53,8 +53,8 @@ magic_none true y e = refl
 magic_none false true e = absurd cc
 magic_none false false e = absurd cc
 
-magic_front : (b : List ℕ) → None ≡ magic_fault b → magic ≡ take 31 b
-magic_front b e = same_text magic (take 31 b) (sym (magic_none (starts_with nat_eq b magic) (starts_with nat_eq magic b) e))
+magic_prefix : (b : List ℕ) → None ≡ magic_fault b → magic ≡ take 31 b
+magic_prefix b e = same_text magic (take 31 b) (sym (magic_none (starts_with nat_eq b magic) (starts_with nat_eq magic b) e))
 
 version_none : (o : Option ℕ) → None ≡ version_fault_of o → o ≡ Some 0x01
 version_none None e = absurd cc
@@ -64,7 +64,7 @@ version_none (Some v) e = ap Some (is_one (nat_eq v 0x01) e (eqb-true v 0x01))
     is_one true e h = h refl
     is_one false e h = absurd cc
 
--- the byte at a place, and the bytes behind it
+-- the byte at a place, and the bytes after it
 at_drop : (n x : ℕ) (xs : List ℕ) → slice_get xs n ≡ Some x → drop n xs ≡ x ∷ drop (suc n) xs
 at_drop n x [] e = absurd cc
 at_drop zero x (y ∷ ys) e = let same : y ≡ x = cc in ap (λ z. z ∷ ys) same
@@ -73,13 +73,13 @@ at_drop (suc n) x (y ∷ ys) e = at_drop n x ys e
 pub is_header : (b : List ℕ) (h : HashOp) (d : List ℕ) → None ≡ magic_fault b → None ≡ version_fault b → slice_get b 32 ≡ Some (tag h)
     → d ≡ take (digest_length h) (drop 33 b) → length d ≡ digest_length h → IsHeader b h d
 is_header b h d magics version hash digest len =
-    let front = magic_front b magics in
+    let prefix = magic_prefix b magics in
     let one : drop 31 b ≡ 0x01 ∷ drop 32 b = at_drop 31 0x01 b (version_none (slice_get b 31) version) in
     let two : drop 32 b ≡ tag h ∷ drop 33 b = at_drop 32 (tag h) b hash in
-    let behind : drop 33 b ≡ d ++ drop (33 + length d) b = digest_split d (digest_length h) b digest len in
+    let after : drop 33 b ≡ d ++ drop (33 + length d) b = digest_split d (digest_length h) b digest len in
     record {
       digest = len;
-      front = sym (take-append-drop 31 b) ∙ pieces magic (take 31 b) (drop 31 b) (drop 32 b) (drop 33 b) (drop (33 + length d) b) 0x01 (tag h) d front one two behind;
+      prefix = sym (take-append-drop 31 b) ∙ pieces magic (take 31 b) (drop 31 b) (drop 32 b) (drop 33 b) (drop (33 + length d) b) 0x01 (tag h) d prefix one two after;
     }
   where
     digest_split : (d : List ℕ) (n : ℕ) (b : List ℕ) → d ≡ take n (drop 33 b) → length d ≡ n → drop 33 b ≡ d ++ drop (33 + length d) b
@@ -96,4 +96,4 @@ none_of h d r len =
     rw (tag_good h, tag_length h, le-ltb (length (header h d ++ r)) (33 + digest_length h) (omega (arith, length-append (header h d) r, header_length h d))) refl
 
 pub header_none : (b : List ℕ) (h : HashOp) (d : List ℕ) → IsHeader b h d → header_fault b ≡ None
-header_none b h d head = ap header_fault head.front ∙ none_of h d (drop (33 + length d) b) head.digest
+header_none b h d head = ap header_fault head.prefix ∙ none_of h d (drop (33 + length d) b) head.digest

@@ -44,4 +44,4 @@ pub record IsFileOf (b : List ℕ) (p : Detached) : Type 0 where
 -- the bytes begin with the header of this hash and digest
 pub record IsHeader (b : List ℕ) (h : HashOp) (d : List ℕ) : Type 0 where
   pub digest : length d ≡ digest_length h
-  pub front : b ≡ header h d ++ drop (33 + length d) b
+  pub prefix : b ≡ header h d ++ drop (33 + length d) b

@@ -1,19 +1,21 @@
 -- Where and why bytes are no proof file.
-use Rattle.std.specs.Prelude.{◌≡◌, ℕ, ◌+◌, List, [], ◌∷◌, ◌++◌, length, drop, not, ◌||◌, nat_lt, nat_eq, slice_get, Option, Some, None, if◌then◌else◌}
+use Rattle.std.specs.Prelude.{◌≡◌, ℕ, ◌+◌, List, [], ◌∷◌, ◌++◌, length, drop, not, ◌||◌, nat_lt, nat_eq, slice_get}
+use Rattle.std.specs.Prelude.{Option, Some, None, if◌then◌else◌}
 use Rattle.std.specs.List.{starts_with}
 use Rattle.ots_base.specs.Table.{line, first_line}
 use Rattle.ots_ops.specs.declared.hash_op.HashOp.{HashOp}
 use Rattle.ots_tree.specs.Wire.{Node}
 use Rattle.ots_reader.specs.declared.fault.Fault.{Fault}
 use Rattle.ots_reader.specs.declared.fault.Reason.{Reason}
-use Rattle.ots_reader.specs.declared.fault.Reason.TheVariants.{Truncated, Keccak, BadMagic, BadVersion, BadHashOp, TrailingBytes}
+use Rattle.ots_reader.specs.declared.fault.Reason.TheVariants.{Truncated, Keccak, BadMagic, BadVersion, BadHashOp}
+use Rattle.ots_reader.specs.declared.fault.Reason.TheVariants.{TrailingBytes}
 use Rattle.ots_reader.specs.TreeFault.{HasTreeFault}
 use Rattle.ots_detached.specs.File.{magic, file, HasFile, IsHeader}
 
 abbrev pub at : ℕ → Reason → Fault
 at place reason = record { place = place; reason = reason }
 
--- The magic bytes: a front of them is cut, else the bytes are others.
+-- The magic bytes: a prefix of them is cut, else the bytes are others.
 abbrev pub magic_fault : List ℕ → Option Fault
 magic_fault b =
     if starts_with nat_eq b magic then None
@@ -56,11 +58,12 @@ header_fault b = first_line (magic_fault b ∷ version_fault b ∷ hash_fault b 
 abbrev pub moved : ℕ → Fault → Fault
 moved n f = record { place = n + f.place; reason = f.reason }
 
--- The fault of the header; else of the tree behind it; else, where a file is whole, the first byte
--- behind it.
+-- The fault of the header; else of the tree after it; else, where a file is whole, the first byte
+-- after it.
 pub data HasFault (b : List ℕ) (f : Fault) : Type 0 where
   in_header : header_fault b ≡ Some f → HasFault b f
-  in_tree : (h : HashOp) (d : List ℕ) (g : Fault) → IsHeader b h d → HasTreeFault (length d) 0 (drop (33 + length d) b) g
+  in_tree : (h : HashOp) (d : List ℕ) (g : Fault) → IsHeader b h d
+      → HasTreeFault (length d) 0 (drop (33 + length d) b) g
       → f ≡ moved (33 + length d) g → HasFault b f
-  behind : (h : HashOp) (d : List ℕ) (t : Node) (x : ℕ) (rest : List ℕ) → HasFile h d t
+  after : (h : HashOp) (d : List ℕ) (t : Node) (x : ℕ) (rest : List ℕ) → HasFile h d t
       → b ≡ file h d t ++ (x ∷ rest) → f ≡ at (length (file h d t)) TrailingBytes → HasFault b f

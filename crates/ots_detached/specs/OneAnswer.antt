@@ -19,4 +19,5 @@ pub record HasOneFile (b : List ℕ) : Type 0 where
   pub tree : Node
   pub has_file : HasFile hash digest tree
   pub spelled : b ≡ file hash digest tree
-  pub only : (k : HashOp) (e : List ℕ) (u : Node) → HasFile k e u → b ≡ file k e u → (k ≡ hash) × (e ≡ digest) × (u ≡ tree)
+  pub only : (k : HashOp) (e : List ℕ) (u : Node) → HasFile k e u → b ≡ file k e u
+      → (k ≡ hash) × (e ≡ digest) × (u ≡ tree)

@@ -14,7 +14,8 @@ Tells hash limit came whole (Ok digest) = whole × (length came ≤ limit) × (d
 Tells hash limit came whole (Err (FileTooLong n)) = (n ≡ limit) × (limit < length came)
 Tells hash limit came whole (Err ReadFault) = length came ≤ limit
 
-pub record HashesSource (hash : HashOp) (limit : ℕ) (old new : Option (List ℕ)) (result : Result (List ℕ) HashError) : Type 0 where
+pub record HashesSource (hash : HashOp) (limit : ℕ) (old new : Option (List ℕ))
+    (result : Result (List ℕ) HashError) : Type 0 where
   -- what the reads gave
   pub came : List ℕ
   pub gave : Gives old new came

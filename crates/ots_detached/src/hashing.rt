@@ -55,7 +55,7 @@ pub fn hash_source<S: Source>(source: &mut S, hash: HashOp, limit: u64) -> Resul
     Err(HashError::FileTooLong(limit))
 }
 
-/// Reads into the front of a piece, at most one byte more than `left`.
+/// Reads into the start of a piece, at most one byte more than `left`.
 fn read_piece<S: Source>(source: &mut S, piece: &mut [u8], left: u64) -> Result<usize, Failed>
     requires room { 0 < length piece.old }
     requires small { left ≤ MAX_TARGET_FILE }

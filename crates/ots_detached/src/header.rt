@@ -1,11 +1,12 @@
 //! The header of a proof file.
-ghost use Rattle.std.specs.Prelude.{◌≡◌, ◌+◌, ◌<◌, length, take, drop, slice_get, None, Some, IfOk, IfErr, IfSome, IfNone};
+ghost use Rattle.std.specs.Prelude.{◌≡◌, ◌+◌, ◌<◌, length, take, drop, slice_get, None, Some, IfOk, IfErr, IfSome};
+ghost use Rattle.std.specs.Prelude.{IfNone};
 ghost use Rattle.std.specs.Result.{result_err};
 ghost use Rattle.ots_ops.specs.HashOp.{tag, digest_length};
 ghost use Rattle.ots_detached.specs.File.{IsHeader};
 ghost use Rattle.ots_detached.specs.FileFault.{header_fault, magic_fault, version_fault, hash_fault};
 
-use ots_ops::{Digest, HashOp};
+use ots_ops::{Digest, HashOp, KECCAK256_TAG, RIPEMD160_TAG, SHA1_TAG, SHA256_TAG};
 use ots_reader::{Fault, Reason};
 
 /// The first bytes of a proof file: a zero byte, `OpenTimestamps`, two zero bytes, `Proof`, a zero
@@ -16,7 +17,7 @@ pub const MAGIC: [u8; 31] = [
 ];
 
 /// What stands in a proof file before the tree: what the file is a proof of.
-#[derive(Clone, Copy, Debug)]
+#[derive(Clone, Copy)]
 pub struct FileHeader {
     /// The hash of the file.
     pub hash: HashOp,
@@ -85,17 +86,18 @@ fn read_hash(bytes: &[u8]) -> Result<HashOp, Fault>
 {
     match bytes.get(32) {
         None => Err(at(32, Reason::Truncated)),
-        Some(0x02) => Ok(HashOp::Sha1),
-        Some(0x03) => Ok(HashOp::Ripemd160),
-        Some(0x08) => Ok(HashOp::Sha256),
-        Some(0x67) => Err(at(32, Reason::Keccak)),
+        Some(&SHA1_TAG) => Ok(HashOp::Sha1),
+        Some(&RIPEMD160_TAG) => Ok(HashOp::Ripemd160),
+        Some(&SHA256_TAG) => Ok(HashOp::Sha256),
+        Some(&KECCAK256_TAG) => Err(at(32, Reason::Keccak)),
         Some(_) => Err(at(32, Reason::BadHashOp)),
     }
 }
 
 /// The digest of the file, where it is whole.
 fn read_digest(bytes: &[u8], hash: HashOp) -> Option<Digest>
-    ensures some { IfSome result (λ digest. (digest ≡ take (digest_length hash) (drop 33 bytes.now)) × (length digest ≡ digest_length hash)) }
+    ensures some { IfSome result (λ digest. (digest ≡ take (digest_length hash) (drop 33 bytes.now))
+        × (length digest ≡ digest_length hash)) }
     ensures none { IfNone result (length bytes.now < 33 + digest_length hash) }
 {
     let end = 33 + hash.digest_length();

@@ -14,7 +14,8 @@ use ots_tree::{Detached, limits_of_detached};
 /// At most 4,194,304 bytes have exactly one fault or are exactly one proof's file, and never both.
 pub fn fault_or_file()
     ensures either { (b : List ℕ) → AreBytes b → length b ≤ MAX_PROOF_FILE → HasOneFault b ⊎ HasOneFile b }
-    ensures never_both { (h : HashOp) (d : List ℕ) (t : Node) (f : Fault) → HasFile h d t → HasFault (file h d t) f → ⊥ }
+    ensures never_both { (h : HashOp) (d : List ℕ) (t : Node) (f : Fault) → HasFile h d t → HasFault (file h d t) f
+        → ⊥ }
 {}
 
 /// No bytes have two faults.

@@ -49,22 +49,24 @@ pub fn read_file<S: Source>(alloc: Global, source: &mut S) -> Result<Detached, F
 pub fn read_bytes(alloc: Global, bytes: &[u8]) -> Result<Detached, FileError>
     ensures ok { IfOk result (IsFileOf bytes.now) }
     ensures err { IfErr result (IsFileError bytes.now) }
-    ensures accepts { (proof : Detached) → IsFileOf bytes.now proof → UnlessOutOfMemory FileError.OutOfMemory result (Ok proof) }
-    ensures refuses { (f : Fault) → length bytes.now ≤ MAX_PROOF_FILE → HasFault bytes.now f → UnlessOutOfMemory FileError.OutOfMemory result (Err (FileError.BadProof f)) }
+    ensures accepts { (proof : Detached) → IsFileOf bytes.now proof
+        → UnlessOutOfMemory FileError.OutOfMemory result (Ok proof) }
+    ensures refuses { (f : Fault) → length bytes.now ≤ MAX_PROOF_FILE → HasFault bytes.now f
+        → UnlessOutOfMemory FileError.OutOfMemory result (Err (FileError.BadProof f)) }
     ensures too_big { MAX_PROOF_FILE < length bytes.now → result ≡ Err FileError.TooBig }
 {
     if bytes.len() > MAX_PROOF_FILE {
         return Err(FileError::TooBig);
     }
     match read_header(bytes) {
-        Ok(header) => read_behind(alloc, bytes, header),
+        Ok(header) => read_after(alloc, bytes, header),
         Err(fault) => Err(FileError::BadProof(fault)),
     }
 }
 
-/// The proof behind a header.
+/// The proof after a header.
 #[tactic(auto, using(crate::proofs::Files::error_place))]
-fn read_behind(alloc: Global, bytes: &[u8], header: FileHeader) -> Result<Detached, FileError>
+fn read_after(alloc: Global, bytes: &[u8], header: FileHeader) -> Result<Detached, FileError>
     requires size { length bytes.now ≤ MAX_PROOF_FILE }
     requires header { IsHeader bytes.now header.hash header.digest }
     ensures ok { IfOk result (IsFileOf bytes.now) }

@@ -1,7 +1,7 @@
 //! Writing a proof file.
 ghost use Rattle.std.specs.Prelude.{◌≡◌, ◌+◌, ◌-◌, ◌^◌, ◌≤◌, length, min, take, OnOk};
 ghost use Rattle.ots_base.specs.Cause.{HasCause};
-ghost use Rattle.ots_outside.specs.Streams.{Takes, TakesFront};
+ghost use Rattle.ots_outside.specs.Streams.{Takes, TakesPrefix};
 ghost use Rattle.ots_detached.specs.File.{file_of, header};
 
 use crate::header::MAGIC;
@@ -22,12 +22,12 @@ pub fn file_length(proof: &Detached) -> u64
 /// Writes the file of a proof: the magic bytes, the version, the hash's tag, the digest, the tree.
 ///
 /// `WriteFault` comes only where the sink's count of faults rose, and the sink has then taken a
-/// front of the file. It takes no memory. A file of more than 4,194,304 bytes reads back as too
+/// prefix of the file. It takes no memory. A file of more than 4,194,304 bytes reads back as too
 /// big, so a caller looks at `file_length` first.
 #[tactic(auto, unfolding(crate::specs::File::file_of))]
 pub fn write_file<K: Sink>(proof: &Detached, sink: &mut K) -> Result<(), WriteFault>
     ensures whole { OnOk result (Takes (K.taken sink.old) (K.taken sink.new) (file_of proof.now)) }
-    ensures front { TakesFront (K.taken sink.old) (K.taken sink.new) (file_of proof.now) }
+    ensures prefix { TakesPrefix (K.taken sink.old) (K.taken sink.new) (file_of proof.now) }
     ensures cause { HasCause (K.faults sink.old) (K.faults sink.new) result }
     ensures same { K.same sink.old sink.new }
 {
@@ -37,11 +37,11 @@ pub fn write_file<K: Sink>(proof: &Detached, sink: &mut K) -> Result<(), WriteFa
     spell_to(&proof.tree, sink)
 }
 
-/// Writes what stands before the tree at the front, and answers how many bytes it has.
+/// Writes what stands before the tree at the start, and answers how many bytes it has.
 fn put_header(hash: HashOp, digest: &[u8], out: &mut [u8; 65]) -> usize
     requires { length digest.now ≤ 32 }
     ensures in_range { result ≤ 65 }
-    ensures front { take result out.new ≡ header hash digest.now }
+    ensures prefix { take result out.new ≡ header hash digest.now }
 {
     let end = 33 + digest.len();
     out[..31].copy_from_slice(&MAGIC);

@@ -35,16 +35,24 @@ in_first (made ∷ calls) s = in_call made.call s
 
 -- The state in the middle of a call by its number, of which the first is 1. After the last call it is the state now.
 abbrev pub state_in : MemoryDiskTold → ℕ → DiskState
-state_in disk moment = in_first (drop (moment - 1) disk.notes.calls) (after_calls (start disk.first) (take (moment - 1) disk.notes.calls))
+state_in disk moment = in_first (drop (moment - 1) disk.notes.calls)
+    (after_calls (start disk.first) (take (moment - 1) disk.notes.calls))
 
-pub chosen_write_torn : (choice : Choice) (place : ℕ) (piece image : List ℕ) → Torn place (length piece) image (chosen_write choice place piece image)
+pub chosen_write_torn : (choice : Choice) (place : ℕ) (piece image : List ℕ)
+    → Torn place (length piece) image (chosen_write choice place piece image)
 chosen_write_torn Dropped place piece image = torn_same place (length piece) image
 chosen_write_torn Kept place piece image = put_is_torn place piece image
 chosen_write_torn (Fill byte) place piece image =
-    subst (λ (n : ℕ). Torn place n image (put place (replicate (length piece) byte) image)) (length-replicate (length piece) byte) (put_is_torn place (replicate (length piece) byte) image)
+    subst (λ (n : ℕ). Torn place n image (put place (replicate (length piece) byte) image))
+    (length-replicate (length piece) byte) (put_is_torn place (replicate (length piece) byte) image)
 
 -- what is chosen is one of the images
-pub chosen_is_image : (choice : Choice) (durable : List ℕ) (pending : List (ℕ × List ℕ)) → Reaches durable pending (chosen choice durable pending)
+pub chosen_is_image : (choice : Choice) (durable : List ℕ) (pending : List (ℕ × List ℕ))
+    → Reaches durable pending (chosen choice durable pending)
 chosen_is_image choice durable [] = λ _. durable
-chosen_is_image choice durable (write ∷ earlier) =
-    (chosen choice durable earlier, chosen_is_image choice durable earlier, chosen_write_torn choice write.0 write.1 (chosen choice durable earlier))
+chosen_is_image choice durable (write ∷ earlier) = (
+  chosen choice durable earlier,
+  chosen_is_image choice durable earlier,
+  chosen_write_torn choice write.0 write.1
+      (chosen choice durable earlier),
+)

@@ -20,7 +20,11 @@ start bytes = record { bytes = bytes; durable = bytes; pending = [] }
 -- A write that fails leaves what is read as it was, and its range open.
 abbrev pub after_write : ℕ → List ℕ → Bool → DiskState → DiskState
 after_write place piece true s = record s { pending = (place, piece) ∷ s.pending }
-after_write place piece false s = record { bytes = put place piece s.bytes; durable = s.durable; pending = (place, piece) ∷ s.pending }
+after_write place piece false s = record {
+  bytes = put place piece s.bytes;
+  durable = s.durable;
+  pending = (place, piece) ∷ s.pending;
+}
 
 abbrev pub after_sync : Bool → DiskState → DiskState
 after_sync true s = s
@@ -47,4 +51,5 @@ IsImage s c = Reaches s.durable s.pending c
 -- What a crash may have left since a moment: an image of the disk after some number of its calls. In the middle of a
 -- call a crash leaves what it may leave before the call or after it.
 abbrev pub ImagesSince : List ℕ → List MadeCall → ℕ → List ℕ → Type 0
-ImagesSince first calls t c = (k : ℕ) × (t ≤ k) × (k ≤ length calls) × IsImage (after_calls (start first) (take k calls)) c
+ImagesSince first calls t c = (k : ℕ) × (t ≤ k) × (k ≤ length calls)
+    × IsImage (after_calls (start first) (take k calls)) c

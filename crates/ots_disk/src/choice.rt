@@ -1,3 +1,5 @@
+//! What a crash may leave of one write: nothing, some of its bytes, or all.
+
 /// What a crash makes of the writes that no sync has made durable.
 #[derive(Clone, Copy, Debug, PartialEq, Eq)]
 pub enum Choice {

@@ -1,3 +1,4 @@
+//! The bytes of a disk in memory.
 ghost use Rattle.std.specs.Prelude.{◌≡◌, ◌≤◌, ◌+◌, ◌++◌, length, take, drop, min, IfOk};
 ghost use Rattle.ots_disk.specs.Disk.{put};
 
@@ -60,7 +61,7 @@ impl Contents {
     }
 }
 
-// Copies a piece over the bytes from a place on.
+/// Copies a piece over the bytes from a place on.
 fn copy_over(bytes: &mut [u8], place: usize, piece: &[u8])
     requires { place + length piece.now ≤ length bytes.old }
     ensures { bytes.new ≡ put place piece.now bytes.old }

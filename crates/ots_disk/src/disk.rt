@@ -1,3 +1,4 @@
+//! The trait of a disk: reads, writes and syncs, each of which may fail.
 ghost use Rattle.std.specs.Prelude.{◌≡◌, ◌≤◌, ◌-◌, min, ℕ, List, length, take, drop, Some, IfOk, OnOk, OnErr};
 ghost use Rattle.std.specs.declared.option.Option.{Option};
 ghost use Rattle.std.specs.Option.{option_map};
@@ -44,10 +45,11 @@ pub trait Disk {
         ensures length { IfTold (bytes self.old) (λ b. IfOk result (λ n. n ≡ length b)) }
         ensures same { bytes self.new ≡ bytes self.old }
         ensures no_more { (c : List ℕ) → images self.new c → images self.old c }
-        ensures time { Elapses (clock self.old) (clock self.new) (images_since self.old) (images_since self.new) (images self.new) }
+        ensures time { Elapses (clock self.old) (clock self.new) (images_since self.old) (images_since self.new)
+            (images self.new) }
         ensures cause { HasCause (faults self.old) (faults self.new) result };
 
-    /// `Ok(n)` puts the n bytes from `place` on at the front of `buf`: all that it holds, and fewer
+    /// `Ok(n)` puts the n bytes from `place` on at the start of `buf`: all that it holds, and fewer
     /// only at the end of the file.
     fn read_at(&mut self, place: u64, buf: &mut [u8]) -> Result<usize, Failed>
         ensures bound { ReadsAtMost result buf.new }
@@ -55,7 +57,8 @@ pub trait Disk {
         ensures count { IfTold (bytes self.old) (λ b. IfOk result (λ n. n ≡ min (length buf.new) (length b - place))) }
         ensures same { bytes self.new ≡ bytes self.old }
         ensures no_more { (c : List ℕ) → images self.new c → images self.old c }
-        ensures time { Elapses (clock self.old) (clock self.new) (images_since self.old) (images_since self.new) (images self.new) }
+        ensures time { Elapses (clock self.old) (clock self.new) (images_since self.old) (images_since self.new)
+            (images self.new) }
         ensures cause { HasCause (faults self.old) (faults self.new) result };
 
     /// Writes over what is there, and past the end. Until a sync that answers `Ok` a crash may
@@ -65,7 +68,8 @@ pub trait Disk {
         ensures written { OnOk result (bytes self.new ≡ option_map (put place piece.now) (bytes self.old)) }
         ensures failed { OnErr result (Tears (Torn place (length piece.now)) (bytes self.old) (bytes self.new)) }
         ensures torn { Follows (Torn place (length piece.now)) (images self.old) (images self.new) }
-        ensures time { Elapses (clock self.old) (clock self.new) (images_since self.old) (images_since self.new) (images self.new) }
+        ensures time { Elapses (clock self.old) (clock self.new) (images_since self.old) (images_since self.new)
+            (images self.new) }
         ensures cause { HasCause (faults self.old) (faults self.new) result };
 
     /// After `Ok` a crash leaves what a read gives. After `Failed` nothing more is durable than
@@ -75,7 +79,8 @@ pub trait Disk {
         ensures failed { OnErr result ((c : List ℕ) → images self.old c → images self.new c) }
         ensures same { bytes self.new ≡ bytes self.old }
         ensures no_more { (c : List ℕ) → images self.new c → images self.old c }
-        ensures time { Elapses (clock self.old) (clock self.new) (images_since self.old) (images_since self.new) (images self.new) }
+        ensures time { Elapses (clock self.old) (clock self.new) (images_since self.old) (images_since self.new)
+            (images self.new) }
         ensures cause { HasCause (faults self.old) (faults self.new) result };
 
     /// What is read is one of the images.

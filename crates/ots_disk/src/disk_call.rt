@@ -1,3 +1,5 @@
+//! One call of a disk, as it is noted.
+
 use ots_outside::Bytes;
 
 /// A call of a disk in memory.

@@ -1,3 +1,5 @@
+//! How much memory a disk in memory takes when it is made.
+
 /// How much a disk in memory can do, which is reserved when it is made.
 #[derive(Clone, Copy, Debug, PartialEq, Eq)]
 pub struct DiskRoom {

@@ -1,3 +1,4 @@
+//! What a crash may leave: the bytes after some calls, and a choice for each write that no sync followed.
 ghost use Rattle.std.specs.Prelude.{◌≡◌, ◌≤◌, length, take, drop, IfOk, OnOk};
 ghost use Rattle.ots_disk.specs.Choice.{chosen, chosen_write, in_first};
 ghost use Rattle.ots_disk.specs.Disk.{put};
@@ -15,8 +16,11 @@ pub fn replay(
     made: &MadeCall,
     choice: Choice,
 ) -> Result<(), OutOfMemory>
-    ensures bytes { (s : DiskState) → bytes.old.items ≡ s.bytes → OnOk result (bytes.new.items ≡ (after_of made.now.call made.now.failed s).bytes) }
-    ensures image { (s : DiskState) → bytes.old.items ≡ s.bytes → image.old.items ≡ chosen choice s.durable s.pending → OnOk result (image.new.items ≡ chosen choice (after_of made.now.call made.now.failed s).durable (after_of made.now.call made.now.failed s).pending) }
+    ensures bytes { (s : DiskState) → bytes.old.items ≡ s.bytes
+        → OnOk result (bytes.new.items ≡ (after_of made.now.call made.now.failed s).bytes) }
+    ensures image { (s : DiskState) → bytes.old.items ≡ s.bytes → image.old.items ≡ chosen choice s.durable s.pending
+        → OnOk result (image.new.items ≡ chosen choice (after_of made.now.call made.now.failed s).durable
+        (after_of made.now.call made.now.failed s).pending) }
 {
     match &made.call {
         DiskCall::Length | DiskCall::Read => Ok(()),
@@ -60,7 +64,7 @@ pub fn choose(
     }
 }
 
-/// What is chosen in the middle of the call behind the first `before` calls.
+/// What is chosen in the middle of the call after the first `before` calls.
 pub fn image_in(
     alloc: Global,
     first: &[u8],
@@ -69,21 +73,24 @@ pub fn image_in(
     choice: Choice,
 ) -> Result<Vec<u8>, OutOfMemory>
     requires { before ≤ length calls.now }
-    ensures { IfOk result (λ image. image.items ≡ chosen choice (in_first (drop before calls.now) (after_calls (start first.now) (take before calls.now))).durable (in_first (drop before calls.now) (after_calls (start first.now) (take before calls.now))).pending) }
+    ensures { IfOk result (λ image. image.items ≡ chosen choice
+        (in_first (drop before calls.now) (after_calls (start first.now) (take before calls.now))).durable
+        (in_first (drop before calls.now) (after_calls (start first.now) (take before calls.now))).pending) }
 {
     let mut image = image_after(alloc, first, &calls[..before], choice)?;
     choose_first(alloc, &mut image, &calls[before..], choice)?;
     Ok(image)
 }
 
-// What is chosen between calls.
+/// What is chosen between calls.
 fn image_after(
     alloc: Global,
     first: &[u8],
     calls: &[MadeCall],
     choice: Choice,
 ) -> Result<Vec<u8>, OutOfMemory>
-    ensures { IfOk result (λ image. image.items ≡ chosen choice (after_calls (start first.now) calls.now).durable (after_calls (start first.now) calls.now).pending) }
+    ensures { IfOk result (λ image. image.items ≡ chosen choice (after_calls (start first.now) calls.now).durable
+        (after_calls (start first.now) calls.now).pending) }
 {
     let mut bytes = first.to_vec(alloc)?;
     let mut image = first.to_vec(alloc)?;
@@ -93,14 +100,15 @@ fn image_after(
     Ok(image)
 }
 
-// What is chosen in the middle of the first of these calls, where there is one.
+/// What is chosen in the middle of the first of these calls, where there is one.
 fn choose_first(
     alloc: Global,
     image: &mut Vec<u8>,
     calls: &[MadeCall],
     choice: Choice,
 ) -> Result<(), OutOfMemory>
-    ensures { (s : DiskState) → image.old.items ≡ chosen choice s.durable s.pending → OnOk result (image.new.items ≡ chosen choice (in_first calls.now s).durable (in_first calls.now s).pending) }
+    ensures { (s : DiskState) → image.old.items ≡ chosen choice s.durable s.pending
+        → OnOk result (image.new.items ≡ chosen choice (in_first calls.now s).durable (in_first calls.now s).pending) }
 {
     match calls {
         [] => Ok(()),
@@ -111,7 +119,7 @@ fn choose_first(
     }
 }
 
-// The bytes after a piece is written over those that are there, and past their end.
+/// The bytes after a piece is written over those that are there, and past their end.
 fn overwritten(
     alloc: Global,
     bytes: &[u8],

@@ -1,4 +1,6 @@
-ghost use Rattle.std.specs.Prelude.{◌≡◌, ◌≤◌, ◌+◌, ◌-◌, [], ℕ, List, false, length, min, take, drop, Some, IfOk, OnOk, OnErr, is_err};
+//! A disk in memory, which notes its calls and fails those that it is told to fail.
+ghost use Rattle.std.specs.Prelude.{◌≡◌, ◌≤◌, ◌+◌, ◌-◌, [], ℕ, List, false, length, min, take, drop, Some, IfOk, OnOk};
+ghost use Rattle.std.specs.Prelude.{OnErr, is_err};
 ghost use Rattle.std.specs.Io.{ReadsAtMost};
 ghost use Rattle.std.specs.Option.{option_map};
 ghost use Rattle.ots_base.specs.Cause.{HasCause};
@@ -62,7 +64,12 @@ impl MemoryDisk {
         failing: &[u64],
     ) -> Result<MemoryDisk, OutOfMemory>
         ensures bytes { IfOk result (λ d. d.first ≡ bytes.now) }
-        ensures notes { IfOk result (λ d. d.notes ≡ record { calls = []; room = room.calls; failing = failing.now; faults = 0 }) }
+        ensures notes { IfOk result (λ d. d.notes ≡ record {
+          calls = [];
+          room = room.calls;
+          failing = failing.now;
+          faults = 0;
+        }) }
         ensures write_room { IfOk result (λ d. d.write_room ≡ room.write) }
         ensures file_room { IfOk result (λ d. d.file_room ≡ room.file) }
     {
@@ -95,7 +102,8 @@ impl MemoryDisk {
     pub fn image(&self, moment: u64, choice: Choice) -> Result<Bytes, OutOfMemory>
         requires first { 1 ≤ moment }
         requires last { moment ≤ length self.now.notes.calls + 1 }
-        ensures chosen { IfOk result (λ image. image ≡ chosen choice (state_in self.now moment).durable (state_in self.now moment).pending) }
+        ensures chosen { IfOk result (λ image. image ≡ chosen choice (state_in self.now moment).durable
+            (state_in self.now moment).pending) }
         ensures is_image { IfOk result (λ image. IsImage (state_in self.now moment) image) }
     {
         let before = moment as usize - 1;
@@ -104,7 +112,7 @@ impl MemoryDisk {
         Ok(Bytes::from_vec(image))
     }
 
-    // Whether a write goes past what was reserved.
+    /// Whether a write goes past what was reserved.
     fn is_past(&self, place: u64, piece: &[u8]) -> bool
         ensures { result ≡ is_past self.now (DiskCall.Write place piece.now) }
     {
@@ -112,7 +120,7 @@ impl MemoryDisk {
         piece.len() > self.spare.room() || piece.len() > room || place > (room - piece.len()) as u64
     }
 
-    // Makes a call that writes nothing.
+    /// Makes a call that writes nothing.
     fn make(&mut self, call: DiskCall) -> Result<(), Failed>
         requires { is_write call ≡ false }
         ensures failed { is_err result ≡ fails self.old call }
@@ -123,7 +131,7 @@ impl MemoryDisk {
         self.notes.note(call)
     }
 
-    // Makes a call that writes.
+    /// Makes a call that writes.
     fn make_write(&mut self, place: u64, piece: &[u8]) -> Result<(), Failed>
         requires { place ≤ length (state_of self.old).bytes }
         ensures failed { is_err result ≡ fails self.old (DiskCall.Write place piece.now) }
@@ -170,7 +178,9 @@ impl Disk for MemoryDisk {
         ensures length { IfOk result (λ n. n ≡ length (state_of self.old).bytes) }
         ensures same { Some (state_of self.new).bytes ≡ Some (state_of self.old).bytes }
         ensures no_more { (c : List ℕ) → IsImage (state_of self.new) c → IsImage (state_of self.old) c }
-        ensures time { Elapses (length self.old.notes.calls) (length self.new.notes.calls) (ImagesSince self.old.first self.old.notes.calls) (ImagesSince self.new.first self.new.notes.calls) (IsImage (state_of self.new)) }
+        ensures time { Elapses (length self.old.notes.calls) (length self.new.notes.calls)
+            (ImagesSince self.old.first self.old.notes.calls) (ImagesSince self.new.first self.new.notes.calls)
+            (IsImage (state_of self.new)) }
         ensures cause { HasCause self.old.notes.faults self.new.notes.faults result }
         ensures failed { is_err result ≡ fails self.old DiskCall.Length }
         ensures noted { self.new ≡ after self.old DiskCall.Length }
@@ -188,7 +198,9 @@ impl Disk for MemoryDisk {
         ensures count { IfOk result (λ n. n ≡ min (length buf.new) (length (state_of self.old).bytes - place)) }
         ensures same { Some (state_of self.new).bytes ≡ Some (state_of self.old).bytes }
         ensures no_more { (c : List ℕ) → IsImage (state_of self.new) c → IsImage (state_of self.old) c }
-        ensures time { Elapses (length self.old.notes.calls) (length self.new.notes.calls) (ImagesSince self.old.first self.old.notes.calls) (ImagesSince self.new.first self.new.notes.calls) (IsImage (state_of self.new)) }
+        ensures time { Elapses (length self.old.notes.calls) (length self.new.notes.calls)
+            (ImagesSince self.old.first self.old.notes.calls) (ImagesSince self.new.first self.new.notes.calls)
+            (IsImage (state_of self.new)) }
         ensures cause { HasCause self.old.notes.faults self.new.notes.faults result }
         ensures failed { is_err result ≡ fails self.old DiskCall.Read }
         ensures noted { self.new ≡ after self.old DiskCall.Read }
@@ -201,10 +213,15 @@ impl Disk for MemoryDisk {
 
     fn write_at(&mut self, place: u64, piece: &[u8]) -> Result<(), Failed>
         requires { place ≤ length (state_of self.old).bytes }
-        ensures written { OnOk result (Some (state_of self.new).bytes ≡ Some (put place piece.now (state_of self.old).bytes)) }
-        ensures failed_write { OnErr result (Torn place (length piece.now) (state_of self.old).bytes (state_of self.new).bytes) }
-        ensures torn { Follows (Torn place (length piece.now)) (IsImage (state_of self.old)) (IsImage (state_of self.new)) }
-        ensures time { Elapses (length self.old.notes.calls) (length self.new.notes.calls) (ImagesSince self.old.first self.old.notes.calls) (ImagesSince self.new.first self.new.notes.calls) (IsImage (state_of self.new)) }
+        ensures written { OnOk result (Some (state_of self.new).bytes
+            ≡ Some (put place piece.now (state_of self.old).bytes)) }
+        ensures failed_write { OnErr result (Torn place (length piece.now) (state_of self.old).bytes
+            (state_of self.new).bytes) }
+        ensures torn { Follows (Torn place (length piece.now)) (IsImage (state_of self.old))
+            (IsImage (state_of self.new)) }
+        ensures time { Elapses (length self.old.notes.calls) (length self.new.notes.calls)
+            (ImagesSince self.old.first self.old.notes.calls) (ImagesSince self.new.first self.new.notes.calls)
+            (IsImage (state_of self.new)) }
         ensures cause { HasCause self.old.notes.faults self.new.notes.faults result }
         ensures failed { is_err result ≡ fails self.old (DiskCall.Write place piece.now) }
         ensures noted { self.new ≡ after self.old (DiskCall.Write place piece.now) }
@@ -213,11 +230,15 @@ impl Disk for MemoryDisk {
     }
 
     fn sync(&mut self) -> Result<(), Failed>
-        ensures durable { OnOk result ((c : List ℕ) → IsImage (state_of self.new) c → Some (state_of self.old).bytes ≡ Some c) }
-        ensures failed_sync { OnErr result ((c : List ℕ) → IsImage (state_of self.old) c → IsImage (state_of self.new) c) }
+        ensures durable { OnOk result ((c : List ℕ) → IsImage (state_of self.new) c
+            → Some (state_of self.old).bytes ≡ Some c) }
+        ensures failed_sync { OnErr result ((c : List ℕ) → IsImage (state_of self.old) c
+            → IsImage (state_of self.new) c) }
         ensures same { Some (state_of self.new).bytes ≡ Some (state_of self.old).bytes }
         ensures no_more { (c : List ℕ) → IsImage (state_of self.new) c → IsImage (state_of self.old) c }
-        ensures time { Elapses (length self.old.notes.calls) (length self.new.notes.calls) (ImagesSince self.old.first self.old.notes.calls) (ImagesSince self.new.first self.new.notes.calls) (IsImage (state_of self.new)) }
+        ensures time { Elapses (length self.old.notes.calls) (length self.new.notes.calls)
+            (ImagesSince self.old.first self.old.notes.calls) (ImagesSince self.new.first self.new.notes.calls)
+            (IsImage (state_of self.new)) }
         ensures cause { HasCause self.old.notes.faults self.new.notes.faults result }
         ensures failed { is_err result ≡ fails self.old DiskCall.Sync }
         ensures noted { self.new ≡ after self.old DiskCall.Sync }
@@ -226,10 +247,10 @@ impl Disk for MemoryDisk {
     }
 }
 
-// Copies the bytes from a place on to the front of a buffer, as many as there are room and bytes.
+/// Copies the bytes from a place on to the start of a buffer, as many as there are room and bytes.
 fn copy_from(bytes: &[u8], place: u64, buf: &mut [u8]) -> usize
     ensures count { result ≡ min (length buf.new) (length bytes.now - place) }
-    ensures front { take result buf.new ≡ take result (drop place bytes.now) }
+    ensures prefix { take result buf.new ≡ take result (drop place bytes.now) }
 {
     let from = place.min(bytes.len() as u64) as usize;
     let rest = &bytes[from..];

@@ -1,3 +1,4 @@
+//! The calls that a disk in memory has noted.
 ghost use Rattle.std.specs.Prelude.{◌≡◌, ◌≤◌, ◌||◌, ◌++◌, ◌∷◌, [], length, IfOk, is_err};
 ghost use Rattle.ots_base.specs.Cause.{HasCause, Rose};
 ghost use Rattle.ots_disk.specs.Notes.{NotesTold, is_full, is_next_listed, after_note, refused};

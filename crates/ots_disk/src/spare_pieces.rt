@@ -1,3 +1,4 @@
+//! Memory taken beforehand for the pieces of noted writes.
 ghost use Rattle.std.specs.Prelude.{◌≡◌, ◌≤◌, ◌<◌, ◌+◌, All, length, IfOk};
 ghost use Rattle.ots_disk.specs.Reserved.{SpareTold, IsSparePiece};
 

@@ -1,2 +1,9 @@
-pub mod Confirmed
-pub mod Walked
+pub use Rattle.ots_verdicts.specs.Confirmed
+pub use Rattle.ots_verdicts.specs.Walked
+pub use Rattle.ots_verifier.specs.Checked
+pub use Rattle.ots_verifier.specs.Following
+pub use Rattle.ots_verifier.specs.Messages
+pub use Rattle.ots_verifier.specs.Progress
+pub use Rattle.ots_verifier.specs.Rows
+pub use Rattle.ots_verifier.specs.Stage
+pub use Rattle.ots_verifier.specs.Source

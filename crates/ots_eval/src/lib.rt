@@ -1,19 +1,14 @@
-//! What the paths of a timestamp proof make of its digest, and the verdict on a file by the headers
-//! of blocks.
+//! What a timestamp proof confirms, under one path.
 //!
-//! Operations and attestations are those of the reference library python-opentimestamps
-//! (`opentimestamps/core/op.py` and `notary.py`).
+//! | crate | what it has |
+//! |---|---|
+//! | `ots_verdicts` | the value of a path, and the verdict of a proof in memory |
+//! | `ots_verifier` | the verdict of a proof file that comes in pieces |
+//!
+//! Libraries stand on the one that they need.
 #![tactic(auto)]
 
-mod best;
-mod confirming;
-mod laws;
-mod values;
-mod verdicts;
-mod walk;
-
-pub use best::{Best, Found};
-pub use confirming::verdict;
-pub use laws::{one_verdict, some_verdict};
-pub use values::value;
-pub use verdicts::{Chain, Confirmation, Verdict};
+pub use ots_verdicts::{
+    Best, Chain, Confirmation, Found, Verdict, one_verdict, some_verdict, value, verdict,
+};
+pub use ots_verifier::{CheckError, Checked, SourceError, VERIFIER_BYTES, Verifier, check_source};

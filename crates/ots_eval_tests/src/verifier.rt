@@ -1,4 +1,4 @@
-//! Tests of proof files that come in pieces: what no clause of `ots_verifier` says. Each row is fed
+//! Tests of proof files that come in pieces: what no clause of `ots_eval` says. Each row is fed
 //! whole, and one byte at a time.
 mod confirmed;
 mod genesis;

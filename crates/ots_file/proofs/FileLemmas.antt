@@ -10,8 +10,8 @@ use Rattle.std.specs.Prelude.{slice_range, Bool}
 use Rattle.ots_file.specs.Runs.{writes, total, from_here, reads, joined}
 use Rattle.ots_file.specs.Told.{told_bytes}
 
-front : (Y R : List ℕ) (n : ℕ) → length Y ≡ n → take n (Y ++ R) ≡ Y
-front Y R n is = take-append-le n Y R (omega (arith, is)) ∙ take_all n Y (omega (arith, is))
+prefix : (Y R : List ℕ) (n : ℕ) → length Y ≡ n → take n (Y ++ R) ≡ Y
+prefix Y R n is = take-append-le n Y R (omega (arith, is)) ∙ take_all n Y (omega (arith, is))
 
 back : (Y R : List ℕ) (n k : ℕ) → length Y ≡ n → drop (n + k) (Y ++ R) ≡ drop k R
 back Y R n k is = ap (λ (m : ℕ). drop (m + k) (Y ++ R)) (sym is) ∙ drop-append-add Y R k
@@ -32,7 +32,7 @@ put_more place piece d k b le fits =
     let w : length (take (d + k) piece) ≡ d + k = length-take-le (d + k) piece fits in
     let y : length (X ++ P) ≡ place + d = omega (arith, length-append X P, x, p) in
     let whole : put place P b ≡ (X ++ P) ++ R = sym (append_assoc X P R) in
-    let tk : take (place + d) (put place P b) ≡ X ++ P = ap (take (place + d)) whole ∙ front (X ++ P) R (place + d) y in
+    let tk : take (place + d) (put place P b) ≡ X ++ P = ap (take (place + d)) whole ∙ prefix (X ++ P) R (place + d) y in
     let end : place + length P + length K ≡ place + length (take (d + k) piece) = omega (arith, p, q, w) in
     let dr : drop (place + d + length K) (put place P b) ≡ T = ap (drop (place + d + length K)) whole ∙ back (X ++ P) R (place + d) (length K) y ∙ drop-drop (length K) (place + length P) b ∙ ap (λ (n : ℕ). drop n b) end in
     ap (λ (l : List ℕ). l ++ (K ++ drop (place + d + length K) (put place P b))) tk

@@ -52,7 +52,7 @@ pub trait FileCalls {
         ensures kept { first self.new ≡ first self.old }
         ensures stays { folder self.new ≡ folder self.old };
 
-    /// Puts bytes from a place on at the front of the buffer, and answers how many. No bytes come
+    /// Puts bytes from a place on at the start of the buffer, and answers how many. No bytes come
     /// only at the end of the file.
     fn read_some(&mut self, place: u64, buf: &mut [u8]) -> Result<usize, Failed>
         requires { 0 < length buf.old }
@@ -63,7 +63,7 @@ pub trait FileCalls {
         ensures kept { first self.new ≡ first self.old }
         ensures stays { folder self.new ≡ folder self.old };
 
-    /// Writes the front of the piece at a place, and answers how many bytes were taken.
+    /// Writes the prefix of the piece at a place, and answers how many bytes were taken.
     fn write_some(&mut self, place: u64, piece: &[u8]) -> Result<usize, Failed>
         requires { 0 < length piece.now }
         ensures count { IfOk result (λ n. (0 < n) × (n ≤ length piece.now) × (place < 2 ^ 63)) }

@@ -175,7 +175,7 @@ impl<F: FileCalls> Disk for FileDisk<F> {
     }
 }
 
-// The answer of a run of calls, whose failure is counted.
+/// The answer of a run of calls, whose failure is counted.
 fn counted<T: Drop>(faults: &mut Count, answer: Result<T, Failed>) -> Result<T, Failed>
     ensures same { result ≡ answer }
     ensures cause { HasCause faults.old faults.new result }

@@ -192,7 +192,7 @@ impl FileCalls for MemoryFile {
     }
 }
 
-// Counts a call, and answers whether it is to fail.
+/// Counts a call, and answers whether it is to fail.
 fn fails(made: &mut u64, failing: &[u64]) -> bool
     ensures number { made.new ≡ min (made.old + 1) (2 ^ 64 - 1) }
     ensures listed { result ≡ list_any (λ number. number == made.new) failing.now }
@@ -201,11 +201,11 @@ fn fails(made: &mut u64, failing: &[u64]) -> bool
     failing.contains(made)
 }
 
-// Copies the bytes from a place on to the front of a buffer, at most so many.
+/// Copies the bytes from a place on to the start of a buffer, at most so many.
 fn copy_from(bytes: &[u8], place: u64, most: usize, buf: &mut [u8]) -> usize
     requires { 0 < most }
     ensures within { result ≤ length buf.new }
-    ensures front { take result buf.new ≡ take result (drop place bytes.now) }
+    ensures prefix { take result buf.new ≡ take result (drop place bytes.now) }
     ensures end { 0 < length buf.old → result ≡ 0 → length bytes.now ≤ place }
 {
     let from = place.min(bytes.len() as u64) as usize;
@@ -215,7 +215,7 @@ fn copy_from(bytes: &[u8], place: u64, most: usize, buf: &mut [u8]) -> usize
     count
 }
 
-// Writes a piece to the cache, and to what the device is to hold.
+/// Writes a piece to the cache, and to what the device is to hold.
 fn put_in_both(
     bytes: &mut Vec<u8>,
     target: &mut Vec<u8>,
@@ -239,7 +239,7 @@ fn put_in_both(
     Ok(())
 }
 
-// Fills up to a place with zeros, where what was before it was given up.
+/// Fills up to a place with zeros, where what was before it was given up.
 fn pad(bytes: &mut Vec<u8>, place: usize) -> Result<(), OutOfMemory>
     ensures same { place ≤ length bytes.old.items → (is_ok result ≡ true) × (bytes.new.items ≡ bytes.old.items) }
     ensures reaches { OnOk result (place ≤ length bytes.new.items) }
@@ -251,7 +251,7 @@ fn pad(bytes: &mut Vec<u8>, place: usize) -> Result<(), OutOfMemory>
     Ok(())
 }
 
-// Writes a piece over what is there, and past the end.
+/// Writes a piece over what is there, and past the end.
 fn put_over(bytes: &mut Vec<u8>, place: usize, piece: &[u8])
     requires at { place ≤ length bytes.old.items }
     requires fits { length bytes.old.items + length piece.now ≤ vec_capacity bytes.old }
@@ -262,7 +262,7 @@ fn put_over(bytes: &mut Vec<u8>, place: usize, piece: &[u8])
     bytes.extend_from_slice(&piece[over..]).unwrap();
 }
 
-// Copies a piece over the bytes from a place on.
+/// Copies a piece over the bytes from a place on.
 fn copy_over(bytes: &mut [u8], place: usize, piece: &[u8])
     requires { place + length piece.now ≤ length bytes.old }
     ensures { bytes.new ≡ put place piece.now bytes.old }
@@ -270,7 +270,7 @@ fn copy_over(bytes: &mut [u8], place: usize, piece: &[u8])
     bytes[place..place + piece.len()].copy_from_slice(piece);
 }
 
-// Brings to the device what it is to hold.
+/// Brings to the device what it is to hold.
 fn bring(device: &mut Vec<u8>, target: &[u8]) -> Result<(), OutOfMemory>
     requires { length device.old.items ≤ length target.now }
     ensures brought { OnOk result (device.new.items ≡ target.now) }
@@ -282,7 +282,7 @@ fn bring(device: &mut Vec<u8>, target: &[u8]) -> Result<(), OutOfMemory>
     Ok(())
 }
 
-// Gives up what the device does not hold.
+/// Gives up what the device does not hold.
 fn give_up(target: &mut Vec<u8>, device: &[u8])
     requires { length device.now ≤ length target.old.items }
     ensures { target.new.items ≡ device.now }

@@ -80,7 +80,7 @@ impl Record {
         self.note(&[6, 0, 0, u64::from(ok)], &[]);
     }
 
-    // Notes a call: its kind, its place, its count and 1 for success, with the bytes that it bears.
+    /// Notes a call: its kind, its place, its count and 1 for success, with the bytes that it bears.
     fn note(&mut self, _numbers: &[u64], _bytes: &[u8])
         ensures { self.new.events ≡ event_of _numbers.now _bytes.now ∷ self.old.events }
     {}

@@ -13,7 +13,7 @@ ghost use Rattle.ots_file.specs.Told.{Quiet, Grows, told_bytes, told_images};
 use crate::FileCalls;
 use ots_outside::Failed;
 
-// A sync, of which it is remembered whether it failed.
+/// A sync, of which it is remembered whether it failed.
 fn sync_file<F: FileCalls>(file: &mut F, sync_failed: &mut bool) -> Result<(), Failed>
     requires { sync_failed.old ≡ has_failed_sync (F.FileCalls.history file.old) }
     ensures remembered { sync_failed.new ≡ has_failed_sync (F.FileCalls.history file.new) }
@@ -36,7 +36,7 @@ fn sync_file<F: FileCalls>(file: &mut F, sync_failed: &mut bool) -> Result<(), F
     }
 }
 
-// A sync, of which it is remembered whether it failed.
+/// A sync, of which it is remembered whether it failed.
 fn sync_folder<F: FileCalls>(file: &mut F, sync_failed: &mut bool) -> Result<(), Failed>
     requires { sync_failed.old ≡ has_failed_sync (F.FileCalls.history file.old) }
     ensures remembered { sync_failed.new ≡ has_failed_sync (F.FileCalls.history file.new) }
@@ -59,7 +59,7 @@ fn sync_folder<F: FileCalls>(file: &mut F, sync_failed: &mut bool) -> Result<(),
     }
 }
 
-// Opens the file, so that what is read is what the device has.
+/// Opens the file, so that what is read is what the device has.
 #[tactic(auto, using(crate::specs::Told::stays_unready, crate::specs::Told::stays_folder))]
 fn settle<F: FileCalls>(file: &mut F, sync_failed: &mut bool) -> Result<(), Failed>
     requires known { sync_failed.old ≡ has_failed_sync (F.FileCalls.history file.old) }

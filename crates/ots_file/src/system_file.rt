@@ -159,7 +159,7 @@ impl<R: Files<File = File> + AllocGlobal> FileCalls for SystemFile<R> {
     }
 }
 
-// The open file.
+/// The open file.
 fn held(file: &Option<File>) -> io::Result<&File>
     ensures { IfOk result (λ held. file.now ≡ Some held.now) }
 {
@@ -218,7 +218,7 @@ fn write(file: &Option<File>, place: u64, piece: &[u8]) -> io::Result<usize>
     Err(io::Error::from(ErrorKind::Interrupted))
 }
 
-// Opens the regular file that stands at the name and holds it, with the folder that it stands in.
+/// Opens the regular file that stands at the name and holds it, with the folder that it stands in.
 fn open_locked<R: Files<File = File> + AllocGlobal>(
     rt: &R,
     name: &str,
@@ -234,7 +234,7 @@ fn open_locked<R: Files<File = File> + AllocGlobal>(
     Ok((file, path))
 }
 
-// The path with no link in it. The file is made where nothing stands at the name.
+/// The path with no link in it. The file is made where nothing stands at the name.
 fn resolve<R: Files<File = File> + AllocGlobal>(rt: &R, name: &str) -> io::Result<PathBuf> {
     match fs::canonicalize(rt, name) {
         Err(error) if error.kind() == ErrorKind::NotFound => {
@@ -245,7 +245,7 @@ fn resolve<R: Files<File = File> + AllocGlobal>(rt: &R, name: &str) -> io::Resul
     }
 }
 
-// A regular file for reading and writing, made where nothing stands at the path. No link is followed.
+/// A regular file for reading and writing, made where nothing stands at the path. No link is followed.
 fn open_or_make<R: Files<File = File>>(rt: &R, path: &str) -> io::Result<File> {
     let mut options = OpenOptions::new();
     options.read(true);

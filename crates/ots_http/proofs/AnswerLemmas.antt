@@ -31,13 +31,15 @@ asked : (input came rest : List ℕ) (spans : List HeaderSpan) (head : RequestSp
     → request ≡ request_by (span_bytes came head.method) (span_bytes came head.path) (map (header_bytes came) (take head.headers spans)) (drop head.len came ++ rest)
     → IsRequestAnswer input (Ok request)
 asked input came rest spans head h request whole fits room within at is =
-    let front : ReadsRequest (came ++ rest) h (drop head.len came ++ rest) = ReadsRequest-append came h (drop head.len came) rest at.reads in
-    let reads : ReadsRequest input h (drop head.len came ++ rest) = (front.0, whole ∙ front.1) in (
+    let prefix : ReadsRequest (came ++ rest) h (drop head.len came ++ rest) = ReadsRequest-append came h (drop head.len came) rest at.reads in
+    let reads : ReadsRequest input h (drop head.len came ++ rest) = (prefix.0, whole ∙ prefix.1) in (
       omega (arith, ap length reads.1, head_some h (drop head.len came ++ rest) reads.0.method),
       by_head h (drop head.len came ++ rest) (record {
         reads = reads;
-        short = omega (arith, at.len, within.section.len_fits);
-        few = omega (arith, fields_few came spans head.headers h.fields at.fields);
+        limits = record {
+          short = omega (arith, at.len, within.section.len_fits);
+          few = omega (arith, fields_few came spans head.headers h.fields at.fields);
+        };
       }) (is ∙ (λ i. request_by (at.method i) (at.path i) (at.fields i) (drop head.len came ++ rest))),
     )
 

@@ -1,7 +1,6 @@
 -- Heads of replies in what came of a link.
-use Rattle.std.proofs.Common.{◌≡◌, ◌≢◌, ◌⊎◌, ◌-◌, ◌<◌, ◌≤◌, ℕ, Bool, false, List, [], ◌∷◌, ◌++◌, length, length-drop, take, drop, get_or, refl, sym, ap, subst, ◌∙◌, arith, append_assoc, length-append, append-nil, Option, Some, None, inl, inr}
-use Rattle.std.proofs.lemmas.List.{take_all, take-append-drop, drop_at}
-use Rattle.std.proofs.lemmas.List.Elements.{All-same}
+use Rattle.std.proofs.Common.{◌≡◌, ◌⊎◌, ◌-◌, ◌<◌, ◌≤◌, ℕ, Bool, false, List, [], ◌∷◌, ◌++◌, length, take, drop, get_or, refl, sym, ap, subst, ◌∙◌, arith, append_assoc, length-append, append-nil, Option, Some, None, inl, inr}
+use Rattle.std.proofs.lemmas.List.{take-append-drop, drop_at}
 use Rattle.std.specs.List.{flat_map}
 use Rattle.httparse.specs.Ascii.{line_feed, space}
 use Rattle.httparse.specs.Grammar.{ResponseHead, print_response, print_blank, print_version, print_reason, print_end, print_field, print_section, ReadsResponse, HasNoResponse}
@@ -12,7 +11,7 @@ use Rattle.ots_outside.specs.Link.{LinkTold, LinkGives}
 use Rattle.ots_http.specs.Head.{HasNoReplyHead}
 use Rattle.ots_http.specs.LineEnds.{IsEndByte, IsBlank, HasNoLineFeed}
 use Rattle.ots_http.specs.declared.limits.TheConstants.{MAX_HEAD, MAX_FIELDS}
-use Rattle.ots_http.proofs.HeadLemmas.{ends_in_line_feed, ends_before, text_in_front, at_drop}
+use Rattle.ots_http.proofs.HeadLemmas.{ends_in_line_feed, ends_before, text_in_prefix, at_drop}
 
 -- a head has bytes
 reply_some : (h : ResponseHead) (rest : List ℕ) → 0 < length (print_response h ++ rest)
@@ -23,14 +22,14 @@ pub no_reply_in_nothing : HasNoResponse []
 no_reply_in_nothing h rest reads = omega (arith, ap length reads.1, reply_some h rest)
 
 -- a head in what came of an input, where so much came
-reply_in_front : (came rest body : List ℕ) (h : ResponseHead) → ReadsResponse (came ++ rest) h body → length (print_response h) ≤ length came
+reply_in_prefix : (came rest body : List ℕ) (h : ResponseHead) → ReadsResponse (came ++ rest) h body → length (print_response h) ≤ length came
     → (more : List ℕ) × ReadsResponse came h more
-reply_in_front came rest body h reads short =
-    (take (length came - length (print_response h)) body, (reads.0, text_in_front came rest body (print_response h) reads.1 short))
+reply_in_prefix came rest body h reads short =
+    (take (length came - length (print_response h)) body, (reads.0, text_in_prefix came rest body (print_response h) reads.1 short))
 
 -- ---- bytes in which no head ends
 
-reply_ends : (h : ResponseHead) → (front : List ℕ) × (print_response h ≡ front ++ line_feed ∷ [])
+reply_ends : (h : ResponseHead) → (prefix : List ℕ) × (print_response h ≡ prefix ++ line_feed ∷ [])
 unfolding print_response
 reply_ends h =
     let line = print_blank h.blank ++ print_version h.minor ++ space ∷ h.digits ++ print_reason h.reason ++ print_end h.line_end in
@@ -42,8 +41,8 @@ pub no_reply_without_line : (old new : List ℕ) → HasNoResponse old → HasNo
 no_reply_without_line old new none no_end = λ h rest reads.
     let e = reply_ends h in
     let within : length (print_response h) ≤ length old = rw e.1 (ends_before old new e.0 rest (reads.1 ∙ ap (λ (z : List ℕ). z ++ rest) e.1) no_end) in
-    let front = reply_in_front old new rest h reads within in
-    none h front.0 front.1
+    let prefix = reply_in_prefix old new rest h reads within in
+    none h prefix.0 prefix.1
 
 no_end_in_version : IsEndByte 72 → ⊥
 no_end_in_version (inl is) = cc
@@ -52,21 +51,20 @@ no_end_in_version (inr is) = cc
 pub no_reply_in_blank : (came : List ℕ) → IsBlank came → HasNoResponse came
 no_reply_in_blank came blank = λ h rest reads.
     let tail = space ∷ (h.digits ++ (print_reason h.reason ++ (print_end h.line_end ++ (print_section h.fields h.last ++ rest)))) in
-    let behind = length (print_blank h.blank) in
+    let after = length (print_blank h.blank) in
     let whole : came ≡ print_blank h.blank ++ (print_version h.minor ++ tail) = reads.1 ∙ print_response-append h rest in
-    let there : drop behind came ≡ print_version h.minor ++ tail = ap (drop behind) whole ∙ drop_at (print_blank h.blank) (print_version h.minor ++ tail) behind refl in
-    let first : get_or came behind 0 ≡ 72 = at_drop behind came ∙ ap (λ (z : List ℕ). get_or z 0 0) there in
+    let there : drop after came ≡ print_version h.minor ++ tail = ap (drop after) whole ∙ drop_at (print_blank h.blank) (print_version h.minor ++ tail) after refl in
+    let first : get_or came after 0 ≡ 72 = at_drop after came ∙ ap (λ (z : List ℕ). get_or z 0 0) there in
     no_end_in_version
-    (subst IsEndByte first (blank behind 0 (omega (arith, ap length whole, length-append (print_blank h.blank) (print_version h.minor ++ tail), length-append (print_version h.minor) tail))))
+    (subst IsEndByte first (blank after 0 (omega (arith, ap length whole, length-append (print_blank h.blank) (print_version h.minor ++ tail), length-append (print_version h.minor) tail))))
 
 -- no head ends in new bytes that end no line, or before one has begun
-pub no_reply_yet : (came : List ℕ) (before n : ℕ) (begun : Bool) → n ≡ length came - before → HasNoResponse (take before came) → (begun ≡ false → IsBlank came)
-    → (begun ≡ false) ⊎ HasNoLineFeed (take n (drop before came)) → HasNoResponse came
-no_reply_yet came before n begun all none blank (inl is) = no_reply_in_blank came (blank is)
-no_reply_yet came before n begun all none blank (inr no_end) =
+pub no_reply_yet : (came : List ℕ) (before : ℕ) (begun : Bool) → HasNoResponse (take before came) → (begun ≡ false → IsBlank came)
+    → (begun ≡ false) ⊎ HasNoLineFeed (drop before came) → HasNoResponse came
+no_reply_yet came before begun none blank (inl is) = no_reply_in_blank came (blank is)
+no_reply_yet came before begun none blank (inr no_end) =
     subst HasNoResponse (take-append-drop before came)
-    (no_reply_without_line (take before came) (drop before came) none
-    (All-same (λ b. b ≢ line_feed) (drop before came) (take n (drop before came)) (sym (take_all n (drop before came) (omega (arith, all, length-drop before came)))) no_end))
+    (no_reply_without_line (take before came) (drop before came) none no_end)
 
 -- ---- inputs that have no head
 
@@ -84,12 +82,12 @@ pub no_reply_in_full : (a b : Option LinkTold) (came : List ℕ) → BothTold (L
 no_reply_in_full None b came gives full none = tt
 no_reply_in_full (Some link) None came gives full none = absurd gives
 no_reply_in_full (Some link) (Some later) came gives full none =
-    λ h body head. let short : length (print_response h) ≤ length came = omega (arith, full, head.short) in
-    let front = reply_in_front came later.left body h (head.reads.0, sym gives.left ∙ head.reads.1) short in none h front.0 front.1
+    λ h body head. let short : length (print_response h) ≤ length came = omega (arith, full, head.limits.short) in
+    let prefix = reply_in_prefix came later.left body h (head.reads.0, sym gives.left ∙ head.reads.1) short in none h prefix.0 prefix.1
 
 -- whatever follows, there is no head of so few fields
 pub no_reply_ever : (a b : Option LinkTold) (came : List ℕ) → BothTold (LinkGives came) a b → ResponseOverflows MAX_FIELDS came → IfTold a (λ link. HasNoReplyHead link.left)
 no_reply_ever None b came gives never = tt
 no_reply_ever (Some link) None came gives never = absurd gives
 no_reply_ever (Some link) (Some later) came gives never =
-    λ h body head. omega (arith, never later.left h body (head.reads.0, sym gives.left ∙ head.reads.1), head.few)
+    λ h body head. omega (arith, never later.left h body (head.reads.0, sym gives.left ∙ head.reads.1), head.limits.few)

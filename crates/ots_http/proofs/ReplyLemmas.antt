@@ -16,8 +16,9 @@ use Rattle.ots_http.specs.declared.reply.HttpReply.{HttpReply}
 use Rattle.ots_http.specs.declared.reply.HttpReply.TheVariants.{Good, Status}
 use Rattle.ots_http.specs.declared.reply.ReplyError.{ReplyError}
 use Rattle.ots_http.specs.declared.reply.ReplyError.TheVariants.{TooLong, BadHttp, LinkFault, OutOfMemory}
+use Rattle.ots_http.specs.Fields.{body_length}
 use Rattle.ots_http.specs.ReplyHeadRead.{FindsReplyHead}
-use Rattle.ots_http.specs.ReplyTable.{ReplyOutcome, good, status, too_long, bad_http, IsOutcome, by_head, IsReplyAnswer, reply_length, outcome_of_body, outcome_by}
+use Rattle.ots_http.specs.ReplyTable.{ReplyOutcome, good, status, too_long, bad_http, IsOutcome, by_head, IsReplyAnswer, outcome_of_body, outcome_by}
 use Rattle.ots_http.specs.ReplyBodyRead.{IsBodyAnswer}
 use Rattle.ots_http.proofs.AnswerLemmas.{fields_few}
 
@@ -39,11 +40,13 @@ replied : (input came rest : List ℕ) (spans : List HeaderSpan) (head : Respons
     → length came ≤ MAX_HEAD → length spans ≡ MAX_FIELDS → IsResponseWithin came spans head → IsResponseAt came spans head h
     → outcome ≡ outcome_by head.code (map (header_bytes came) (take head.headers spans)) (drop head.len came ++ rest) → IsOutcome input outcome
 replied input came rest spans head h outcome whole fits room within at is =
-    let front : ReadsResponse (came ++ rest) h (drop head.len came ++ rest) = ReadsResponse-append came h (drop head.len came) rest at.reads in
+    let prefix : ReadsResponse (came ++ rest) h (drop head.len came ++ rest) = ReadsResponse-append came h (drop head.len came) rest at.reads in
     by_head h (drop head.len came ++ rest) (record {
-      reads = (front.0, whole ∙ front.1);
-      short = omega (arith, at.len, within.section.len_fits);
-      few = omega (arith, fields_few came spans head.headers h.fields at.fields);
+      reads = (prefix.0, whole ∙ prefix.1);
+      limits = record {
+        short = omega (arith, at.len, within.section.len_fits);
+        few = omega (arith, fields_few came spans head.headers h.fields at.fields);
+      };
     }) (is ∙ (λ i. outcome_by (at.code i) (at.fields i) (drop head.len came ++ rest)))
 
 pub found_status : (a b : Option LinkTold) (buffer : List ℕ) (spans : List HeaderSpan) (head : ResponseSpans) (filled : ℕ) → FindsReplyHead a b buffer spans head filled
@@ -57,7 +60,7 @@ found_status (Some told) (Some later) buffer spans head filled found room code =
 
 of_body : (input came rest : List ℕ) (spans : List HeaderSpan) (head : ResponseSpans) (h : ResponseHead) (stated : StatedLength) (result : Result HttpReply ReplyError) → input ≡ came ++ rest
     → length came ≤ MAX_HEAD → length spans ≡ MAX_FIELDS → IsResponseWithin came spans head → IsResponseAt came spans head h → head.code ≡ 200
-    → stated ≡ reply_length (map (header_bytes came) (take head.headers spans)) → IsBodyAnswer (drop head.len came ++ rest) stated result → IsReplyAnswer input result
+    → stated ≡ body_length MAX_REPLY_BODY (map (header_bytes came) (take head.headers spans)) → IsBodyAnswer (drop head.len came ++ rest) stated result → IsReplyAnswer input result
 of_body input came rest spans head h stated result whole fits room within at code states answer =
     let body = drop head.len came ++ rest in
     let by : outcome_of_body body stated ≡ outcome_by head.code (map (header_bytes came) (take head.headers spans)) body = rw (eq-eqb head.code 200 code, states) refl in
@@ -75,7 +78,7 @@ of_body input came rest spans head h stated result whole fits room within at cod
 
 pub found_body : (a b : Option LinkTold) (buffer : List ℕ) (spans : List HeaderSpan) (head : ResponseSpans) (filled : ℕ) (stated : StatedLength) (result : Result HttpReply ReplyError)
     → FindsReplyHead a b buffer spans head filled → length spans ≡ MAX_FIELDS → head.code ≡ 200
-    → stated ≡ reply_length (map (header_bytes (take filled buffer)) (take head.headers spans))
+    → stated ≡ body_length MAX_REPLY_BODY (map (header_bytes (take filled buffer)) (take head.headers spans))
     → IfTold b (λ told. IsBodyAnswer (drop head.len (take filled buffer) ++ told.left) stated result)
     → IfTold a (λ told. IsReplyAnswer told.left result)
 found_body None b buffer spans head filled stated result found room code states answer = tt

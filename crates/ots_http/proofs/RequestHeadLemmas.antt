@@ -1,7 +1,6 @@
 -- Heads of requests in what came of a link.
-use Rattle.std.proofs.Common.{◌≡◌, ◌≢◌, ◌⊎◌, ◌-◌, ◌<◌, ◌≤◌, ℕ, Bool, false, List, [], ◌∷◌, ◌++◌, length, length-drop, take, drop, get_or, refl, sym, ap, subst, ◌∙◌, arith, append_assoc, length-append, append-nil, Option, Some, None, inl, inr, IsTrue}
-use Rattle.std.proofs.lemmas.List.{take_all, take-append-drop, drop_at, get_or_append_left}
-use Rattle.std.proofs.lemmas.List.Elements.{All-same}
+use Rattle.std.proofs.Common.{◌≡◌, ◌⊎◌, ◌-◌, ◌<◌, ◌≤◌, ℕ, Bool, false, List, [], ◌∷◌, ◌++◌, length, take, drop, get_or, refl, sym, ap, subst, ◌∙◌, arith, append_assoc, length-append, append-nil, Option, Some, None, inl, inr, IsTrue}
+use Rattle.std.proofs.lemmas.List.{take-append-drop, drop_at, get_or_append_left}
 use Rattle.std.specs.List.{flat_map}
 use Rattle.httparse.specs.Ascii.{line_feed, space}
 use Rattle.httparse.specs.Grammar.{RequestHead, print_request, print_blank, print_version, print_end, print_field, print_section, is_token_byte, IsToken, ReadsRequest, HasNoRequest}
@@ -12,7 +11,7 @@ use Rattle.ots_outside.specs.Link.{LinkTold, LinkGives}
 use Rattle.ots_http.specs.Head.{HasNoRequestHead}
 use Rattle.ots_http.specs.LineEnds.{IsEndByte, IsBlank, HasNoLineFeed}
 use Rattle.ots_http.specs.declared.limits.TheConstants.{MAX_HEAD, MAX_FIELDS}
-use Rattle.ots_http.proofs.HeadLemmas.{ends_in_line_feed, ends_before, text_in_front, at_drop}
+use Rattle.ots_http.proofs.HeadLemmas.{ends_in_line_feed, ends_before, text_in_prefix, at_drop}
 
 -- a head has bytes
 pub head_some : (h : RequestHead) (rest : List ℕ) → IsToken h.method → 0 < length (print_request h ++ rest)
@@ -23,14 +22,14 @@ pub no_request_in_nothing : HasNoRequest []
 no_request_in_nothing h rest reads = omega (arith, ap length reads.1, head_some h rest reads.0.method)
 
 -- a head in what came of an input, where so much came
-pub head_in_front : (came rest body : List ℕ) (h : RequestHead) → ReadsRequest (came ++ rest) h body → length (print_request h) ≤ length came
+pub head_in_prefix : (came rest body : List ℕ) (h : RequestHead) → ReadsRequest (came ++ rest) h body → length (print_request h) ≤ length came
     → (more : List ℕ) × ReadsRequest came h more
-head_in_front came rest body h reads short =
-    (take (length came - length (print_request h)) body, (reads.0, text_in_front came rest body (print_request h) reads.1 short))
+head_in_prefix came rest body h reads short =
+    (take (length came - length (print_request h)) body, (reads.0, text_in_prefix came rest body (print_request h) reads.1 short))
 
 -- ---- bytes in which no head ends
 
-request_ends : (h : RequestHead) → (front : List ℕ) × (print_request h ≡ front ++ line_feed ∷ [])
+request_ends : (h : RequestHead) → (prefix : List ℕ) × (print_request h ≡ prefix ++ line_feed ∷ [])
 unfolding print_request
 request_ends h =
     let line = print_blank h.blank ++ h.method ++ space ∷ h.target ++ space ∷ print_version h.minor ++ print_end h.line_end in
@@ -42,8 +41,8 @@ pub none_without_line : (old new : List ℕ) → HasNoRequest old → HasNoLineF
 none_without_line old new none no_end = λ h rest reads.
     let e = request_ends h in
     let within : length (print_request h) ≤ length old = rw e.1 (ends_before old new e.0 rest (reads.1 ∙ ap (λ (z : List ℕ). z ++ rest) e.1) no_end) in
-    let front = head_in_front old new rest h reads within in
-    none h front.0 front.1
+    let prefix = head_in_prefix old new rest h reads within in
+    none h prefix.0 prefix.1
 
 no_end_in_token : (b : ℕ) → IsEndByte b → IsTrue (is_token_byte b) → ⊥
 unfolding is_token_byte
@@ -53,22 +52,21 @@ no_end_in_token b (inr is) token = let no : IsTrue (is_token_byte 10) = subst (�
 pub none_in_blank : (came : List ℕ) → IsBlank came → HasNoRequest came
 none_in_blank came blank = λ h rest reads.
     let tail = space ∷ (h.target ++ space ∷ (print_version h.minor ++ (print_end h.line_end ++ (print_section h.fields h.last ++ rest)))) in
-    let behind = length (print_blank h.blank) in
+    let after = length (print_blank h.blank) in
     let whole : came ≡ print_blank h.blank ++ (h.method ++ tail) = reads.1 ∙ print_request-append h rest in
-    let there : drop behind came ≡ h.method ++ tail = ap (drop behind) whole ∙ drop_at (print_blank h.blank) (h.method ++ tail) behind refl in
-    let first : get_or came behind 0 ≡ get_or h.method 0 0 = at_drop behind came ∙ ap (λ (z : List ℕ). get_or z 0 0) there ∙ get_or_append_left h.method tail 0 0 reads.0.method.0 in
+    let there : drop after came ≡ h.method ++ tail = ap (drop after) whole ∙ drop_at (print_blank h.blank) (h.method ++ tail) after refl in
+    let first : get_or came after 0 ≡ get_or h.method 0 0 = at_drop after came ∙ ap (λ (z : List ℕ). get_or z 0 0) there ∙ get_or_append_left h.method tail 0 0 reads.0.method.0 in
     no_end_in_token (get_or h.method 0 0)
-    (subst IsEndByte first (blank behind 0 (omega (arith, ap length whole, length-append (print_blank h.blank) (h.method ++ tail), length-append h.method tail, reads.0.method.0))))
+    (subst IsEndByte first (blank after 0 (omega (arith, ap length whole, length-append (print_blank h.blank) (h.method ++ tail), length-append h.method tail, reads.0.method.0))))
     (reads.0.method.1 0 0 reads.0.method.0)
 
 -- no head ends in new bytes that end no line, or before one has begun
-pub none_yet : (came : List ℕ) (before n : ℕ) (begun : Bool) → n ≡ length came - before → HasNoRequest (take before came) → (begun ≡ false → IsBlank came)
-    → (begun ≡ false) ⊎ HasNoLineFeed (take n (drop before came)) → HasNoRequest came
-none_yet came before n begun all none blank (inl is) = none_in_blank came (blank is)
-none_yet came before n begun all none blank (inr no_end) =
+pub none_yet : (came : List ℕ) (before : ℕ) (begun : Bool) → HasNoRequest (take before came) → (begun ≡ false → IsBlank came)
+    → (begun ≡ false) ⊎ HasNoLineFeed (drop before came) → HasNoRequest came
+none_yet came before begun none blank (inl is) = none_in_blank came (blank is)
+none_yet came before begun none blank (inr no_end) =
     subst HasNoRequest (take-append-drop before came)
-    (none_without_line (take before came) (drop before came) none
-    (All-same (λ b. b ≢ line_feed) (drop before came) (take n (drop before came)) (sym (take_all n (drop before came) (omega (arith, all, length-drop before came)))) no_end))
+    (none_without_line (take before came) (drop before came) none no_end)
 
 -- ---- inputs that have no head
 
@@ -89,8 +87,8 @@ none_in_full None b came gives full none = tt
 none_in_full (Some link) None came gives full none = absurd gives
 none_in_full (Some link) (Some later) came gives full none = (
   omega (arith, ap length gives.left, length-append came later.left),
-  λ h body head. let short : length (print_request h) ≤ length came = omega (arith, full, head.short) in
-      let front = head_in_front came later.left body h (head.reads.0, sym gives.left ∙ head.reads.1) short in none h front.0 front.1,
+  λ h body head. let short : length (print_request h) ≤ length came = omega (arith, full, head.limits.short) in
+      let prefix = head_in_prefix came later.left body h (head.reads.0, sym gives.left ∙ head.reads.1) short in none h prefix.0 prefix.1,
 )
 
 -- whatever follows, there is no head of so few fields
@@ -100,5 +98,5 @@ none_ever None b came gives some never = tt
 none_ever (Some link) None came gives some never = absurd gives
 none_ever (Some link) (Some later) came gives some never = (
   omega (arith, ap length gives.left, length-append came later.left),
-  λ h body head. omega (arith, never later.left h body (head.reads.0, sym gives.left ∙ head.reads.1), head.few),
+  λ h body head. omega (arith, never later.left h body (head.reads.0, sym gives.left ∙ head.reads.1), head.limits.few),
 )

@@ -3,7 +3,7 @@ use Rattle.std.proofs.Common.{◌≡◌, ◌+◌, ◌^◌, ◌<◌, ◌-◌, min
 use Rattle.std.proofs.Math.Seq.{take-append-add}
 use Rattle.std.proofs.lemmas.List.{take-append-le}
 use Rattle.ots_base.specs.Told.{BothTold, BothTold-trans}
-use Rattle.ots_outside.specs.Link.{LinkTold, LinkTakes, LinkTakesFront}
+use Rattle.ots_outside.specs.Link.{LinkTold, LinkTakes, LinkTakesPrefix}
 use Rattle.ots_http.specs.Written.{WritesAll}
 
 one_after_another : (first second : List ℕ) (t u v : LinkTold) → LinkTakes first t u → LinkTakes second u v → LinkTakes (first ++ second) t v
@@ -18,14 +18,14 @@ takes_both : (a b c : Option LinkTold) (first second : List ℕ) → BothTold (L
 takes_both a b c first second p q =
     BothTold-trans (LinkTakes first) (LinkTakes second) (LinkTakes (first ++ second)) (one_after_another first second) a b c p q
 
-second_front : (a b c : Option LinkTold) (first second : List ℕ) → BothTold (LinkTakes first) a b → LinkTakesFront b c second → LinkTakesFront a c (first ++ second)
-second_front a b c first second p (n, few, q) = (
+second_prefix : (a b c : Option LinkTold) (first second : List ℕ) → BothTold (LinkTakes first) a b → LinkTakesPrefix b c second → LinkTakesPrefix a c (first ++ second)
+second_prefix a b c first second p (n, few, q) = (
   length first + n,
   omega (arith, length-append first second),
   subst (λ (z : List ℕ). BothTold (LinkTakes z) a c) (sym (take-append-add first second n)) (takes_both a b c first (take n second) p q),
 )
 
--- the first text was written, and then the second, or a front of it
+-- the first text was written, and then the second, or a prefix of it
 pub both_written : {T E S F : Type 0} (a b c : Option LinkTold) (text first second : List ℕ) (done : S) (result : Result T E) → text ≡ first
     → WritesAll {T = S} {E = F} text a b (Ok done) → WritesAll second b c result → WritesAll (first ++ second) a c result
 both_written {T} {E} {S} {F} a b c text first second done result is p q =
@@ -33,19 +33,19 @@ both_written {T} {E} {S} {F} a b c text first second done result is p q =
     by_result result whole q
   where
     by_result : (result : Result T E) → BothTold (LinkTakes first) a b → WritesAll second b c result → WritesAll (first ++ second) a c result
-    by_result (Ok x) whole q = record { whole = takes_both a b c first second whole q.whole; front = second_front a b c first second whole q.front }
-    by_result (Err e) whole q = record { whole = tt; front = second_front a b c first second whole q.front }
+    by_result (Ok x) whole q = record { whole = takes_both a b c first second whole q.whole; prefix = second_prefix a b c first second whole q.prefix }
+    by_result (Err e) whole q = record { whole = tt; prefix = second_prefix a b c first second whole q.prefix }
 
 -- the first text was not written whole
 pub first_cut : {T E S F : Type 0} (a b : Option LinkTold) (text first second : List ℕ) (failed : F) (error : E) → text ≡ first
     → WritesAll {T = S} {E = F} text a b (Err failed) → WritesAll {T = T} {E = E} (first ++ second) a b (Err error)
 first_cut a b text first second failed error is p = record {
   whole = tt;
-  front = (
-    p.front.0,
-    omega (arith, length-append first second, ap length is, p.front.1),
+  prefix = (
+    p.prefix.0,
+    omega (arith, length-append first second, ap length is, p.prefix.1),
     subst (λ (z : List ℕ). BothTold (LinkTakes z) a b)
-        (ap (take p.front.0) is ∙ sym (take-append-le p.front.0 first second (omega (arith, ap length is, p.front.1)))) p.front.2,
+        (ap (take p.prefix.0) is ∙ sym (take-append-le p.prefix.0 first second (omega (arith, ap length is, p.prefix.1)))) p.prefix.2,
   );
 }
 

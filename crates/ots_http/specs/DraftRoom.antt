@@ -2,7 +2,7 @@
 use Rattle.std.specs.Prelude.{◌≡◌, ℕ, ◌≤◌, List, length}
 use Rattle.ots_http.specs.declared.draft.TheConstants.{ROOM}
 
--- So many bytes are kept at the front of the room.
+-- So many bytes are kept at the start of the room.
 pub record HasRoom (bytes : List ℕ) (n : ℕ) : Type 0 where
   pub room : length bytes ≡ ROOM
   pub fits : n ≤ ROOM

@@ -1,5 +1,5 @@
 -- The fields of a head that say how long the body is (RFC 9110, sections 5.1 and 8.6; RFC 9112, section 6.1).
-use Rattle.std.specs.Prelude.{ℕ, ◌≤◌, Bool, ◌&&◌, nat_lt, List, [], ◌∷◌, length, map, filter, if◌then◌else◌}
+use Rattle.std.specs.Prelude.{ℕ, ◌≤◌, Bool, ◌&&◌, nat_lt, List, [], ◌∷◌, length, map, filter, codes, if◌then◌else◌}
 use Rattle.std.specs.List.{list_all}
 use Rattle.std.specs.Char.{is_ascii_digit}
 use Rattle.std.specs.Str.{str_eq_ignore_ascii_case}
@@ -39,6 +39,15 @@ abbrev pub stated : ℕ → List (List ℕ) → StatedLength
 stated most [] = Absent
 stated most (value ∷ []) = stated_by most value
 stated most (value ∷ another ∷ more) = Malformed
+
+-- The length that a head states of its body, where at most so many bytes are taken. No coding is taken: a
+-- Transfer-Encoding field is as bad as a length that is no number, whatever the Content-Length fields are.
+abbrev pub length_beside : ℕ → List NameAndValue → List (List ℕ) → StatedLength
+length_beside most fields [] = stated most (values_of (codes "content-length") fields)
+length_beside most fields (coding ∷ more) = Malformed
+
+abbrev pub body_length : ℕ → List NameAndValue → StatedLength
+body_length most fields = length_beside most fields (values_of (codes "transfer-encoding") fields)
 
 -- A length that is stated is at most so great.
 abbrev pub StatesAtMost : ℕ → StatedLength → Type 0

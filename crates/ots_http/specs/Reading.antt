@@ -7,7 +7,7 @@ use Rattle.ots_outside.specs.Link.{LinkTold, LinkGives}
 -- So many bytes came, and stand after the first `filled`. None came only at the end of input.
 pub record ReadsAfter (old new : Option LinkTold) (before buffer : List ℕ) (filled end count : ℕ) : Type 0 where
   pub within : filled + count ≤ end
-  pub front : take filled buffer ≡ take filled before
+  pub prefix : take filled buffer ≡ take filled before
   pub gives : BothTold (LinkGives (take count (drop filled buffer))) old new
   pub ended : count ≡ 0 → IfTold new (λ link. link.left ≡ [])
 
@@ -17,5 +17,5 @@ ReadsMore old new before buffer filled end (Ok count) = ReadsAfter old new befor
 ReadsMore old new before buffer filled end (Err failed) = new ≡ old
 
 -- The first `count` bytes of the buffer are the first `end` bytes of a text, or all where it is shorter.
-abbrev pub HoldsFront : List ℕ → ℕ → List ℕ → ℕ → Type 0
-HoldsFront text end buffer count = take end text ≡ take count buffer
+abbrev pub HoldsPrefix : List ℕ → ℕ → List ℕ → ℕ → Type 0
+HoldsPrefix text end buffer count = take end text ≡ take count buffer

@@ -11,7 +11,8 @@ use Rattle.ots_http.specs.declared.reply_head.ReplyHeadRead.TheVariants.{Head, N
 use Rattle.ots_http.specs.Head.{HasNoReplyHead}
 
 -- The first bytes of the buffer came, and begin with the head that the spans cover.
-pub record FindsReplyHead (old new : Option LinkTold) (buffer : List ℕ) (fields : List HeaderSpan) (head : ResponseSpans) (filled : ℕ) : Type 0 where
+pub record FindsReplyHead (old new : Option LinkTold) (buffer : List ℕ) (fields : List HeaderSpan)
+    (head : ResponseSpans) (filled : ℕ) : Type 0 where
   pub fits : filled ≤ MAX_HEAD
   pub within : IsResponseWithin (take filled buffer) fields head
   pub is : IsResponseOf (take filled buffer) fields head

@@ -1,6 +1,6 @@
 -- What a reply's bytes are to a client. Source: the table of this project's HTTP profile, of which the first line that
 -- fits decides.
-use Rattle.std.specs.Prelude.{◌≡◌, ℕ, nat_eq, nat_lt, List, [], ◌∷◌, length, take, codes, if◌then◌else◌, Result, Ok, Err}
+use Rattle.std.specs.Prelude.{◌≡◌, ℕ, nat_eq, nat_lt, List, length, take, if◌then◌else◌, Result, Ok, Err}
 use Rattle.httparse.specs.Grammar.{ResponseHead, status_code}
 use Rattle.ots_http.specs.declared.limits.TheConstants.{MAX_REPLY_BODY}
 use Rattle.ots_http.specs.declared.fields.StatedLength.{StatedLength}
@@ -10,20 +10,12 @@ use Rattle.ots_http.specs.declared.reply.HttpReply.TheVariants.{Good, Status}
 use Rattle.ots_http.specs.declared.reply.ReplyError.{ReplyError}
 use Rattle.ots_http.specs.declared.reply.ReplyError.TheVariants.{TooLong, BadHttp, LinkFault, OutOfMemory}
 use Rattle.ots_http.specs.Head.{HasReplyHead, HasNoReplyHead}
-use Rattle.ots_http.specs.Fields.{NameAndValue, names_and_values, values_of, stated}
+use Rattle.ots_http.specs.Fields.{NameAndValue, names_and_values, body_length}
 
 pub data ReplyOutcome : Type 0 where
   good : List ℕ → ReplyOutcome
   status : ℕ → ReplyOutcome
   too_long bad_http : ReplyOutcome
-
--- The length that the fields state of the body. A Transfer-Encoding field is as bad as a length that is no number.
-abbrev pub stated_beside : List NameAndValue → List (List ℕ) → StatedLength
-stated_beside fields [] = stated MAX_REPLY_BODY (values_of (codes "content-length") fields)
-stated_beside fields (coding ∷ more) = Malformed
-
-abbrev pub reply_length : List NameAndValue → StatedLength
-reply_length fields = stated_beside fields (values_of (codes "transfer-encoding") fields)
 
 -- Status 200: by the length that is stated and what follows the head.
 abbrev pub outcome_of_body : List ℕ → StatedLength → ReplyOutcome
@@ -34,7 +26,8 @@ outcome_of_body body (Length n) = if nat_lt (length body) n then bad_http else g
 
 -- The outcome by the parts of a head and what follows it.
 abbrev pub outcome_by : ℕ → List NameAndValue → List ℕ → ReplyOutcome
-outcome_by code fields body = if nat_eq code 200 then outcome_of_body body (reply_length fields) else status code
+outcome_by code fields body = if nat_eq code 200 then outcome_of_body body (body_length MAX_REPLY_BODY fields)
+    else status code
 
 -- The outcome of a whole input: by its head, or BadHttp where no prefix of it is a head.
 pub data IsOutcome (input : List ℕ) (outcome : ReplyOutcome) : Type 0 where

@@ -1,12 +1,14 @@
--- The bytes of a reply that a calendar writes. Source: RFC 9112, sections 2.1 and 4, with the statuses, fields and words
--- of this project's HTTP profile.
+-- The bytes of a reply that a calendar writes. Source: RFC 9112, sections 2.1 and 4, with the statuses, fields and
+-- words of this project's HTTP profile.
 use Rattle.std.specs.Prelude.{◌≡◌, ◌≤◌, ℕ, ◌+◌, List, ◌++◌, length, codes, decimal}
 use Rattle.ots_base.specs.declared.limits.TheConstants.{MAX_PROOF_FILE}
 use Rattle.ots_tree.specs.Wire.{spelled}
 use Rattle.ots_http.specs.declared.replying.Reply.{Reply}
 use Rattle.ots_http.specs.declared.replying.Reply.TheVariants.{Tree, Text}
 use Rattle.ots_http.specs.declared.word.Word.{Word}
-use Rattle.ots_http.specs.declared.word.Word.TheVariants.{BadRequest, NotFound, Pending, MethodNotAllowed, LengthRequired, TooLarge, Clock, Busy, Disk, Nonce, JournalFull}
+use Rattle.ots_http.specs.declared.word.Word.TheVariants.{BadRequest, NotFound, Pending, MethodNotAllowed}
+use Rattle.ots_http.specs.declared.word.Word.TheVariants.{LengthRequired, TooLarge, Clock, Busy, Disk, Nonce}
+use Rattle.ots_http.specs.declared.word.Word.TheVariants.{JournalFull}
 
 -- The status of the line in which the words stand.
 abbrev pub status_of : Word → ℕ
@@ -52,12 +54,14 @@ words_of JournalFull = codes "journal full"
 -- The head of a reply: its status and phrase, the type and the length of its body.
 abbrev pub reply_head : ℕ → List ℕ → List ℕ → ℕ → List ℕ
 reply_head status phrase kind size =
-    codes "HTTP/1.1 " ++ decimal status ++ codes " " ++ phrase ++ codes "\r\nContent-Type: " ++ kind ++ codes "\r\nContent-Length: " ++ decimal size
+    codes "HTTP/1.1 " ++ decimal status ++ codes " " ++ phrase ++ codes "\r\nContent-Type: " ++ kind
+    ++ codes "\r\nContent-Length: " ++ decimal size
     ++ codes "\r\nConnection: close\r\n\r\n"
 
 -- The reply with this status and these words.
 abbrev pub text_reply : ℕ → Word → List ℕ
-text_reply status word = reply_head status (phrase_of word) (codes "text/plain") (length (words_of word) + 1) ++ words_of word ++ codes "\n"
+text_reply status word = reply_head status (phrase_of word) (codes "text/plain") (length (words_of word) + 1)
+    ++ words_of word ++ codes "\n"
 
 -- The reply with a tree that is spelled so.
 abbrev pub tree_reply : List ℕ → List ℕ

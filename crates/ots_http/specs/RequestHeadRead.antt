@@ -11,7 +11,8 @@ use Rattle.ots_http.specs.declared.request_head.RequestHeadRead.TheVariants.{Hea
 use Rattle.ots_http.specs.Head.{HasNoRequestHead}
 
 -- The first bytes of the buffer came, and begin with the head that the spans cover.
-pub record FindsHead (old new : Option LinkTold) (buffer : List ℕ) (fields : List HeaderSpan) (head : RequestSpans) (filled : ℕ) : Type 0 where
+pub record FindsHead (old new : Option LinkTold) (buffer : List ℕ) (fields : List HeaderSpan) (head : RequestSpans)
+    (filled : ℕ) : Type 0 where
   pub fits : filled ≤ MAX_HEAD
   pub within : IsRequestWithin (take filled buffer) fields head
   pub is : IsRequestOf (take filled buffer) fields head

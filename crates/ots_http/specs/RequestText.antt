@@ -1,5 +1,5 @@
--- The bytes of a request that a client writes. Source: RFC 9112, sections 2.1 and 3, and RFC 9110, section 7.2, with the
--- paths and the Accept field of python-opentimestamps (`calendar.py`, `RemoteCalendar`).
+-- The bytes of a request that a client writes. Source: RFC 9112, sections 2.1 and 3, and RFC 9110, section 7.2, with
+-- the paths and the Accept field of python-opentimestamps (`calendar.py`, `RemoteCalendar`).
 use Rattle.std.specs.Prelude.{ℕ, nat_eq, List, ◌∷◌, ◌++◌, length, codes, decimal, if◌then◌else◌}
 use Rattle.hex.specs.Hex.{encode_lower}
 use Rattle.ots_address.specs.Address.{AddressParts, colon}
@@ -11,11 +11,15 @@ use Rattle.ots_http.specs.declared.asking.Asked.TheVariants.{Post, Get}
 abbrev pub host_text : List ℕ → ℕ → List ℕ
 host_text host port = if nat_eq port DEFAULT_PORT then host else host ++ colon ∷ decimal port
 
+-- what stands between the host and the length of a digest
+abbrev pub digest_fields : List ℕ
+digest_fields =
+    codes "\r\nAccept: application/vnd.opentimestamps.v1\r\nContent-Type: application/octet-stream\r\nContent-Length: "
+
 -- The request that posts a digest.
 abbrev pub post_text : List ℕ → List ℕ → List ℕ
 post_text host digest =
-    codes "POST /digest HTTP/1.1\r\nHost: " ++ host
-    ++ codes "\r\nAccept: application/vnd.opentimestamps.v1\r\nContent-Type: application/octet-stream\r\nContent-Length: " ++ decimal (length digest)
+    codes "POST /digest HTTP/1.1\r\nHost: " ++ host ++ digest_fields ++ decimal (length digest)
     ++ codes "\r\nConnection: close\r\n\r\n" ++ digest
 
 -- The request that asks for the timestamp of a message.

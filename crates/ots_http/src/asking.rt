@@ -22,7 +22,7 @@ pub enum Asked {
 
 /// Writes a request to the calendar at this address, in one piece.
 ///
-/// `LinkFault` comes only where the link's count of faults rose, and the link has then taken a front
+/// `LinkFault` comes only where the link's count of faults rose, and the link has then taken a prefix
 /// of the request. It takes no memory.
 pub fn write_request<L: Link>(
     link: &mut L,

@@ -3,18 +3,18 @@ ghost use Rattle.std.specs.Char.{is_ascii_digit, digit_value};
 ghost use Rattle.std.specs.Prelude.{◌≡◌, ◌+◌, ◌*◌, ◌<◌, ◌≤◌, ℕ, List, IsTrue, codes, min, length, map, All};
 ghost use Rattle.std.specs.Str.{str_eq_ignore_ascii_case};
 ghost use Rattle.httparse.specs.Spans.{IsHeaderWithin, header_bytes, span_bytes};
-ghost use Rattle.ots_http.specs.Fields.{is_named, values_of, stated, stated_by, StatesAtMost};
+ghost use Rattle.ots_http.specs.Fields.{body_length, is_named, values_of, stated, stated_by, StatesAtMost};
 ghost use Rattle.ots_http.specs.FieldValues.{AreValues, with_another};
 
 use crate::limits::MAX_REPLY_BODY;
 use httparse::spans::{HeaderSpan, Span};
 
-/// The length of the body that the Content-Length fields of a head state.
+/// The length of the body that the fields of a head state.
 #[derive(Clone, Copy, Debug, PartialEq, Eq)]
 pub enum StatedLength {
     /// There is no such field.
     Absent,
-    /// There are several, or the value is not one or more digits.
+    /// There are several, the value is not one or more digits, or a Transfer-Encoding field stands beside.
     Malformed,
     /// The number is greater than the caller takes.
     TooGreat,
@@ -24,7 +24,7 @@ pub enum StatedLength {
 
 /// The values of all fields of one name.
 #[derive(Clone, Copy, Debug)]
-pub(crate) enum FieldValues {
+enum FieldValues {
     /// There is no such field.
     Absent,
     /// The value of the only one.
@@ -54,7 +54,7 @@ fn is_named(buffer: &[u8], field: HeaderSpan, name: &[u8]) -> bool
 }
 
 /// The values of all fields of this name.
-pub(crate) fn values_of(buffer: &[u8], fields: &[HeaderSpan], name: &[u8]) -> FieldValues
+fn values_of(buffer: &[u8], fields: &[HeaderSpan], name: &[u8]) -> FieldValues
     requires { All (IsHeaderWithin (length buffer.now)) fields.now }
     ensures { AreValues buffer.now (values_of name.now (map (header_bytes buffer.now) fields.now)) result }
 {
@@ -67,11 +67,27 @@ pub(crate) fn values_of(buffer: &[u8], fields: &[HeaderSpan], name: &[u8]) -> Fi
     values
 }
 
-/// The length that the Content-Length fields state, where at most `most` bytes are taken.
-pub(crate) fn stated_length(buffer: &[u8], fields: &[HeaderSpan], most: usize) -> StatedLength
+/// The length that the fields of a head state of its body, where at most `most` bytes are taken. It is the
+/// rule of requests and of replies: no coding is taken, and Content-Length comes once at most.
+pub(crate) fn body_length(buffer: &[u8], fields: &[HeaderSpan], most: usize) -> StatedLength
     requires small { most ≤ MAX_REPLY_BODY }
     requires fields { All (IsHeaderWithin (length buffer.now)) fields.now }
-    ensures stated { result ≡ stated most (values_of (codes "content-length") (map (header_bytes buffer.now) fields.now)) }
+    ensures stated { result ≡ body_length most (map (header_bytes buffer.now) fields.now) }
+    ensures limit { StatesAtMost most result }
+{
+    let codings = values_of(buffer, fields, b"transfer-encoding");
+    if !matches!(codings, FieldValues::Absent) {
+        return StatedLength::Malformed;
+    }
+    stated_length(buffer, fields, most)
+}
+
+/// The length that the Content-Length fields state, where at most `most` bytes are taken.
+fn stated_length(buffer: &[u8], fields: &[HeaderSpan], most: usize) -> StatedLength
+    requires small { most ≤ MAX_REPLY_BODY }
+    requires fields { All (IsHeaderWithin (length buffer.now)) fields.now }
+    ensures stated { result
+        ≡ stated most (values_of (codes "content-length") (map (header_bytes buffer.now) fields.now)) }
     ensures limit { StatesAtMost most result }
 {
     match values_of(buffer, fields, b"content-length") {

@@ -3,7 +3,7 @@ ghost use Rattle.std.specs.Prelude.{◌≡◌, ◌≤◌, ◌<◌, ◌+◌, ◌-
 ghost use Rattle.ots_base.specs.Cause.{HasCause};
 ghost use Rattle.ots_base.specs.Told.{IfTold};
 ghost use Rattle.ots_http.specs.Given.{GivesAtMost};
-ghost use Rattle.ots_http.specs.Reading.{ReadsMore, HoldsFront};
+ghost use Rattle.ots_http.specs.Reading.{ReadsMore, HoldsPrefix};
 
 use ots_outside::{Failed, Link};
 
@@ -33,7 +33,8 @@ pub(crate) fn read_on<L: Link>(
 ) -> Result<usize, Failed>
     requires filled { filled ≤ length buffer.old }
     requires within { end ≤ length buffer.old }
-    ensures whole { IfTold (L.told link.old) (λ told. IfOk result (λ count. HoldsFront (take filled buffer.old ++ told.left) end buffer.new count)) }
+    ensures whole { IfTold (L.told link.old) (λ told. IfOk result
+        (λ count. HoldsPrefix (take filled buffer.old ++ told.left) end buffer.new count)) }
     ensures least { IfOk result (λ count. min filled end ≤ count) }
     ensures most { IfOk result (λ count. count ≤ end) }
     ensures came { GivesAtMost (end - filled) (L.told link.old) (L.told link.new) }

@@ -1,19 +1,18 @@
 //! Replies of a calendar.
-ghost use Rattle.std.specs.Prelude.{◌≡◌, ◌+◌, ℕ, List, ◌≤◌, ◌++◌, length, map, take, drop, All, IsErrOf};
+ghost use Rattle.std.specs.Prelude.{◌≡◌, ◌+◌, ℕ, List, ◌≤◌, ◌++◌, length, take, drop, IsErrOf};
 ghost use Rattle.ots_base.specs.Cause.{HasCauseWhere};
 ghost use Rattle.ots_base.specs.Told.{IfTold};
-ghost use Rattle.httparse.specs.Spans.{IsHeaderWithin, header_bytes};
 ghost use Rattle.ots_http.specs.Given.{GivesAtMost};
-ghost use Rattle.ots_http.specs.ReplyTable.{IsReplyAnswer, reply_length};
+ghost use Rattle.ots_http.specs.ReplyTable.{IsReplyAnswer};
 ghost use Rattle.ots_http.specs.Fields.{StatesAtMost};
 ghost use Rattle.ots_http.specs.ReplyBodyRead.{IsBodyAnswer};
 ghost use Rattle.ots_http.specs.declared.reply.ReplyError.TheVariants.{LinkFault, OutOfMemory};
 
-use crate::fields::{FieldValues, StatedLength, stated_length, values_of};
+use crate::fields::{StatedLength, body_length};
 use crate::limits::{MAX_FIELDS, MAX_HEAD, MAX_REPLY_BODY};
 use crate::reading::read_on;
 use crate::reply_head::{ReplyHeadRead, read_reply_head};
-use httparse::spans::{EMPTY_HEADER_SPAN, HeaderSpan};
+use httparse::spans::EMPTY_HEADER_SPAN;
 use ots_outside::{Bytes, Failed, Link};
 use std::alloc::{AllocError, Global};
 
@@ -74,23 +73,10 @@ pub fn read_reply<L: Link>(alloc: Global, link: &mut L) -> Result<HttpReply, Rep
             if head.code != 200 {
                 return Ok(HttpReply::Status(head.code));
             }
-            let stated = reply_length(&buffer[..filled], &fields[..head.headers]);
+            let stated = body_length(&buffer[..filled], &fields[..head.headers], MAX_REPLY_BODY);
             read_body(alloc, link, &mut buffer, filled, head.len, stated)
         }
     }
-}
-
-/// The length that the fields state of the body.
-fn reply_length(buffer: &[u8], fields: &[HeaderSpan]) -> StatedLength
-    requires { All (IsHeaderWithin (length buffer.now)) fields.now }
-    ensures stated { result ≡ reply_length (map (header_bytes buffer.now) fields.now) }
-    ensures limit { StatesAtMost MAX_REPLY_BODY result }
-{
-    let codings = values_of(buffer, fields, b"transfer-encoding");
-    if !matches!(codings, FieldValues::Absent) {
-        return StatedLength::Malformed;
-    }
-    stated_length(buffer, fields, MAX_REPLY_BODY)
 }
 
 /// The body that stands at `start`, of which bytes up to `filled` have come.
@@ -106,7 +92,8 @@ fn read_body<L: Link>(
     requires start { start ≤ filled }
     requires filled { filled ≤ MAX_HEAD }
     requires stated { StatesAtMost MAX_REPLY_BODY stated }
-    ensures answer { IfTold (L.told link.old) (λ told. IsBodyAnswer (drop start (take filled buffer.old) ++ told.left) stated result) }
+    ensures answer { IfTold (L.told link.old) (λ told. IsBodyAnswer (drop start (take filled buffer.old) ++ told.left)
+        stated result) }
     ensures came { GivesAtMost (MAX_REPLY_BODY + 1) (L.told link.old) (L.told link.new) }
     ensures cause { HasCauseWhere (IsErrOf result ReplyError.LinkFault) (L.faults link.old) (L.faults link.new) }
     ensures same { L.same link.old link.new }
@@ -127,7 +114,8 @@ fn read_body<L: Link>(
 
 /// The body, of which these are the first `MAX_REPLY_BODY + 1` bytes, or all.
 fn body_up_to_limit(alloc: Global, bytes: &[u8]) -> Result<HttpReply, ReplyError>
-    ensures body { (body : List ℕ) → bytes.now ≡ take (MAX_REPLY_BODY + 1) body → IsBodyAnswer body StatedLength.Absent result }
+    ensures body { (body : List ℕ) → bytes.now ≡ take (MAX_REPLY_BODY + 1) body
+        → IsBodyAnswer body StatedLength.Absent result }
     ensures no_fault { ¬ (IsErrOf result ReplyError.LinkFault) }
 {
     if bytes.len() > MAX_REPLY_BODY {

@@ -56,9 +56,8 @@ pub(crate) fn read_reply_head<L: Link>(
     Ok(ReplyHeadRead::NoHead)
 }
 
-/// Parses the head of a reply in what came, of which all but the first `before` bytes are new. Where
-/// these end no line, or nothing but empty lines came, no head can have ended in them, and nothing is
-/// parsed. The first piece is parsed at all events.
+/// Parses the head of a reply in what came, of which all but the first `before` bytes are new, where one
+/// may end in them.
 fn parse_new(
     came: &[u8],
     before: usize,
@@ -73,7 +72,7 @@ fn parse_new(
     ensures partial { OnPartial result (HasNoResponse came.now) }
     ensures no_room { OnErr result (ResponseOverflows (length fields.old) came.now) }
 {
-    if before > 0 && !may_end(begun, &came[before..]) {
+    if !may_end(came, before, begun) {
         return Ok(Status::Partial);
     }
     parse_response(came, fields)

@@ -24,7 +24,7 @@ pub enum Reply {
 /// Writes a reply: one without a tree in one piece, and a tree after its head as `spell_to` spells
 /// it.
 ///
-/// `LinkFault` comes only where the link's count of faults rose, and the link has then taken a front
+/// `LinkFault` comes only where the link's count of faults rose, and the link has then taken a prefix
 /// of the reply. It takes no memory.
 pub fn write_reply<L: Link>(link: &mut L, reply: &Reply) -> Result<(), LinkFault>
     requires { IsReply reply.now }

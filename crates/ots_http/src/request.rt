@@ -8,7 +8,7 @@ ghost use Rattle.ots_http.specs.RequestTable.{get_request};
 ghost use Rattle.ots_http.specs.RequestRead.{IsRequestAnswer, DecidesHead, DecidesPost, digest_of};
 ghost use Rattle.ots_http.specs.declared.request.RequestError.TheVariants.{LinkFault};
 
-use crate::fields::{FieldValues, StatedLength, stated_length, values_of};
+use crate::fields::{StatedLength, body_length};
 use crate::limits::{MAX_FIELDS, MAX_HEAD};
 use crate::reading::read_on;
 use crate::request_head::{RequestHeadRead, read_request_head};
@@ -77,7 +77,8 @@ fn decide_head(buffer: &[u8], fields: &[HeaderSpan], head: RequestSpans) -> Resu
     requires method { IsWithin (length buffer.now) head.method }
     requires target { IsWithin (length buffer.now) head.path }
     requires fields { All (IsHeaderWithin (length buffer.now)) fields.now }
-    ensures { DecidesHead (span_bytes buffer.now head.method) (span_bytes buffer.now head.path) (map (header_bytes buffer.now) fields.now) result }
+    ensures { DecidesHead (span_bytes buffer.now head.method) (span_bytes buffer.now head.path)
+        (map (header_bytes buffer.now) fields.now) result }
 {
     let method = head.method.of(buffer);
     let target = head.path.of(buffer);
@@ -103,11 +104,7 @@ fn decide_post(buffer: &[u8], fields: &[HeaderSpan]) -> Result<usize, Request>
     requires { All (IsHeaderWithin (length buffer.now)) fields.now }
     ensures { DecidesPost (map (header_bytes buffer.now) fields.now) result }
 {
-    let codings = values_of(buffer, fields, b"transfer-encoding");
-    if !matches!(codings, FieldValues::Absent) {
-        return Err(Request::Refused(400));
-    }
-    match stated_length(buffer, fields, MAX_DIGEST) {
+    match body_length(buffer, fields, MAX_DIGEST) {
         StatedLength::Absent => Err(Request::Refused(411)),
         StatedLength::Malformed => Err(Request::Refused(400)),
         StatedLength::TooGreat => Err(Request::Refused(413)),

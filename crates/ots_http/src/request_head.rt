@@ -1,5 +1,5 @@
 //! The head of a request, read from a link.
-ghost use Rattle.std.specs.Prelude.{◌≡◌, ◌≤◌, ◌+◌, length, take, drop, false, IfOk, OnErr};
+ghost use Rattle.std.specs.Prelude.{◌≡◌, ◌≤◌, ◌+◌, length, take, false, IfOk, OnErr};
 ghost use Rattle.httparse.specs.Grammar.{HasNoRequest};
 ghost use Rattle.httparse.specs.Outcome.{IfComplete, OnPartial};
 ghost use Rattle.httparse.specs.Spans.{IsRequestWithin, IsRequestOf, RequestOverflows};
@@ -58,10 +58,8 @@ pub(crate) fn read_request_head<L: Link>(
     Ok(RequestHeadRead::NoHead)
 }
 
-/// Parses the head of a request in what came, of which all but the first `before` bytes are new.
-/// Where these end no line, or nothing but empty lines came, no head can have ended in them, and
-/// nothing is parsed: so a head that comes byte by byte is parsed once a line. The first piece is
-/// parsed at all events, so that bytes of another protocol are refused at once.
+/// Parses the head of a request in what came, of which all but the first `before` bytes are new, where
+/// one may end in them.
 fn parse_new(
     came: &[u8],
     before: usize,
@@ -76,7 +74,7 @@ fn parse_new(
     ensures partial { OnPartial result (HasNoRequest came.now) }
     ensures no_room { OnErr result (RequestOverflows (length fields.old) came.now) }
 {
-    if before > 0 && !may_end(begun, &came[before..]) {
+    if !may_end(came, before, begun) {
         return Ok(Status::Partial);
     }
     parse_request(came, fields)

@@ -21,7 +21,7 @@ impl From<WriteFault> for LinkFault {
     }
 }
 
-/// Writes these bytes in one piece, as far as the link takes it, or a front of them where a write
+/// Writes these bytes in one piece, as far as the link takes it, or a prefix of them where a write
 /// fails.
 pub(crate) fn write_bytes<L: Link>(link: &mut L, bytes: &[u8]) -> Result<(), LinkFault>
     ensures written { WritesAll bytes.now (L.told link.old) (L.told link.new) result }

@@ -37,7 +37,8 @@ abbrev pub attestation_words : Attestation → List ℕ
 attestation_words (Pending uri) = codes "pending " ++ or_dash uri
 attestation_words (Bitcoin height) = codes "bitcoin " ++ decimal height
 attestation_words (Litecoin height) = codes "litecoin " ++ decimal height
-attestation_words (Unknown other) = codes "unknown " ++ encode_lower other.kind ++ codes " " ++ or_dash (encode_lower other.payload)
+attestation_words (Unknown other) = codes "unknown " ++ encode_lower other.kind ++ codes " "
+    ++ or_dash (encode_lower other.payload)
 
 -- words and LF
 abbrev pub line : List ℕ → List ℕ
@@ -62,4 +63,5 @@ file_line h digest = line (codes "file " ++ pair_words h digest)
 
 -- `info` prints the line of the file, and then a line for each item in preorder.
 abbrev pub IsInfoText : Detached → List ℕ → Type 0
-IsInfoText proof text = (items : List TokenAt) × IsListed proof.tree items × (text ≡ file_line proof.hash proof.digest ++ flat_map item_line items)
+IsInfoText proof text = (items : List TokenAt) × IsListed proof.tree items
+    × (text ≡ file_line proof.hash proof.digest ++ flat_map item_line items)

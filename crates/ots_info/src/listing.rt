@@ -5,7 +5,8 @@ ghost use Rattle.std.specs.List.{flat_map};
 ghost use Rattle.hex.specs.Hex.{encode_lower};
 ghost use Rattle.ots_printer.specs.Printing.{Puts};
 ghost use Rattle.ots_tree.specs.Kept.{beside};
-ghost use Rattle.ots_info.specs.Listing.{IsInfoText, attestation_words, file_line, hash_words, item_line, item_words, op_words, or_dash, pair_words};
+ghost use Rattle.ots_info.specs.Listing.{IsInfoText, attestation_words, file_line, hash_words, item_line, item_words};
+ghost use Rattle.ots_info.specs.Listing.{op_words, or_dash, pair_words};
 
 use ots_attest::Attestation;
 use ots_ops::{Digest, HashOp, Op};

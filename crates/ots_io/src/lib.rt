@@ -1,4 +1,4 @@
-//! The door to the outside: every public name of the rooms behind it, under one path, for programs
+//! The door to the outside: every public name of the rooms after it, under one path, for programs
 //! and tests. Libraries stand on the rooms.
 //!
 //! | room | what it has |

@@ -21,7 +21,8 @@ const ROOM: ShelfRoom = ShelfRoom {
 fn read_named<S: Shelf>(alloc: Global, shelf: &mut S, name: &str) -> Result<Vec<u8>, Fail>
     ensures names { (S.told shelf.new).names ≡ (S.told shelf.old).names }
     ensures slots { (k : ℕ) → (S.told shelf.new).slots k ≡ (S.told shelf.old).slots k }
-    ensures opened { OnOk result ((S.told shelf.new).opened ≡ option_map (λ names. names ++ name.now ∷ []) (S.told shelf.old).opened) }
+    ensures opened { OnOk result ((S.told shelf.new).opened ≡ option_map (λ names. names ++ name.now ∷ [])
+        (S.told shelf.old).opened) }
 {
     let slot = shelf.open(name)?;
     let bytes = read_all(alloc, &mut SlotSource::new(shelf, slot), 100);
@@ -125,7 +126,7 @@ fn expect_puts(rt: &impl Abort, shelf: &mut MapShelf) {
     expect_put(rt, shelf, "long", b"", Err(PutError::Exists));
 }
 
-/// Creates two names behind it, which are the last that the shelf has room for.
+/// Creates two names after it, which are the last that the shelf has room for.
 fn expect_creations(rt: &impl Abort, shelf: &mut MapShelf) {
     let once = Ok([Ok(5), Err(Failed)]);
     expect_written_twice(rt, shelf, "long", b"12345", Err(CreateError::Exists));

@@ -1,7 +1,7 @@
 // A created slot of a shelf as a sink.
 ghost use Rattle.std.specs.Prelude.{IsTrue, OnOk};
 ghost use Rattle.ots_io.specs.Shelf.{is_writing};
-ghost use Rattle.ots_io.specs.Streams.{Takes, TakesFront};
+ghost use Rattle.ots_io.specs.Streams.{Takes, TakesPrefix};
 ghost use Rattle.ots_io.specs.Written.{SameButSlotBytes, slot_bytes};
 
 use ots_io::{CreateError, Failed, MapShelf, Shelf, ShelfRoom, Sink, Slot, SlotSink, write_all};
@@ -18,8 +18,10 @@ const ROOM: ShelfRoom = ShelfRoom {
 /// afterwards.
 fn write_slot<S: Shelf>(shelf: &mut S, slot: Slot, text: &[u8]) -> Result<(), Failed>
     requires { IsTrue (is_writing ((S.told shelf.old).slots slot.0)) }
-    ensures whole { OnOk result (Takes (slot_bytes (S.told shelf.old) slot.0) (slot_bytes (S.told shelf.new) slot.0) text.now) }
-    ensures front { TakesFront (slot_bytes (S.told shelf.old) slot.0) (slot_bytes (S.told shelf.new) slot.0) text.now }
+    ensures whole { OnOk result (Takes (slot_bytes (S.told shelf.old) slot.0) (slot_bytes (S.told shelf.new) slot.0)
+        text.now) }
+    ensures prefix { TakesPrefix (slot_bytes (S.told shelf.old) slot.0) (slot_bytes (S.told shelf.new) slot.0)
+        text.now }
     ensures same { SameButSlotBytes slot.0 (S.told shelf.old) (S.told shelf.new) }
 {
     write_all(&mut SlotSink::new(shelf, slot), text)

@@ -4,7 +4,7 @@ use std::alloc::Global;
 use std::process::Abort;
 use std::test::Fail;
 
-// One byte more than a digest can have, each another.
+/// One byte more than a digest can have, each another.
 fn numbered() -> [u8; 65] {
     let mut bytes = [0; 65];
     for i in 0..65u8 {
@@ -52,12 +52,12 @@ fn expect_copied(rt: &impl Abort, bytes: &Bytes, given: &[u8]) -> Result<(), Fai
     Ok(())
 }
 
-/// Whether the bytes are those given and 255 behind them.
+/// Whether the bytes are those given and 255 after them.
 fn is_one_more(bytes: &[u8], given: &[u8]) -> bool {
-    matches!(bytes.split_last(), Some((255, front)) if front == given)
+    matches!(bytes.split_last(), Some((255, prefix)) if prefix == given)
 }
 
-/// These bytes stay in their order where one more is pushed behind them.
+/// These bytes stay in their order where one more is pushed after them.
 fn expect_pushed(rt: &impl Abort, mut bytes: Bytes, given: &[u8]) -> Result<(), Fail> {
     bytes.push(255)?;
     assert!(rt; is_one_more(bytes.items(), given));

@@ -107,7 +107,7 @@ fn expect_written(rt: &impl Abort, mut sink: BytesSink, answer: Result<(), Faile
 }
 
 #[test]
-fn a_whole_text_is_written_or_a_front_of_it(rt: HostRuntime) -> Result<(), Fail> {
+fn a_whole_text_is_written_or_a_prefix_of_it(rt: HostRuntime) -> Result<(), Fail> {
     let sink = BytesSink::new(rt.alloc(), 3, &[])?;
     expect_written(&rt, sink, Ok(()), b"abc");
     let sink = BytesSink::new(rt.alloc(), 2, &[])?;

@@ -5,10 +5,10 @@ use Rattle.ots_base.specs.Told.{IfTold}
 use Rattle.ots_disk.specs.Disk.{put, Torn, After}
 use Rattle.ots_disk.specs.Moments.{if_told, before_step}
 use Rattle.ots_journal.specs.declared.entry.Entry.{Entry}
-use Rattle.ots_journal.specs.Image.{open_gate, front, FitsGroup, group_body}
+use Rattle.ots_journal.specs.Image.{open_gate, prefix, FitsGroup, group_body}
 use Rattle.ots_journal.specs.Journal.{AtGate, Keeps, StandsForEither, size_with}
-use Rattle.ots_journal.proofs.Gates.{room_behind}
-use Rattle.ots_journal.proofs.Groups.{entries_push, fit_push, length-front_push}
+use Rattle.ots_journal.proofs.Gates.{room_after}
+use Rattle.ots_journal.proofs.Groups.{entries_push, fit_push, length-prefix_push}
 use Rattle.ots_journal.proofs.Standing.{Staged, torn_body, put_body, torn_opening, put_opening, stands_either}
 
 module _ (images : List ℕ → Type 0) (entries before flight : List Entry) (gate : ℕ) (k : Keeps images entries before true gate) (fits : FitsGroup flight) where
@@ -16,7 +16,7 @@ module _ (images : List ℕ → Type 0) (entries before flight : List Entry) (ga
   body = group_body flight ++ 0 ∷ []
 
   pub room_for_body : (told : Option (List ℕ)) → ((b : List ℕ) → told ≡ Some b → images b) → IfTold told (λ b. gate + 1 ≤ length b)
-  room_for_body told law = if_told told (λ b. gate + 1 ≤ length b) (λ b is. let at = k.each b (law b is) in omega (arith, room_behind (front k.groups) at.gate at.rest b at.whole, k.place))
+  room_for_body told law = if_told told (λ b. gate + 1 ≤ length b) (λ b is. let at = k.each b (law b is) in omega (arith, room_after (prefix k.groups) at.gate at.rest b at.whole, k.place))
 
   in_flight : (later : List ℕ → Type 0) (all group : List Entry) → all ≡ entries → group ≡ flight → ((c : List ℕ) → later c → AtGate k.groups flight false c) → Keeps later all group false gate
   in_flight later all group is_all is_group each = record {
@@ -45,7 +45,7 @@ module _ (images : List ℕ → Type 0) (entries before flight : List Entry) (ga
   staged_told : (told wrote : Option (List ℕ)) (piece : List ℕ) → piece ≡ body → ((b : List ℕ) → told ≡ Some b → images b) → wrote ≡ option_map (put (gate + 1) piece) told → (c : List ℕ) → wrote ≡ Some c → Staged k.groups flight c
   staged_told told wrote piece is_body law written c is =
       let was = before_step (put (gate + 1) piece) told c (sym written ∙ is) in
-      let same : c ≡ put (length (front k.groups) + 1) body was.0 = was.2 ∙ ap (λ (p : ℕ). put (p + 1) piece was.0) k.place ∙ ap (λ (l : List ℕ). put (length (front k.groups) + 1) l was.0) is_body in
+      let same : c ≡ put (length (prefix k.groups) + 1) body was.0 = was.2 ∙ ap (λ (p : ℕ). put (p + 1) piece was.0) k.place ∙ ap (λ (l : List ℕ). put (length (prefix k.groups) + 1) l was.0) is_body in
       subst (λ (l : List ℕ). Staged k.groups flight l) (sym same) (put_body k.groups before flight was.0 (k.each was.0 (law was.0 was.1)))
 
   -- the second, over what the first left
@@ -55,7 +55,7 @@ module _ (images : List ℕ → Type 0) (entries before flight : List Entry) (ga
     is_staged c image = staged_told told wrote piece is_body law written c (only c image)
 
     pub room_for_gate : IfTold wrote (λ b. gate ≤ length b)
-    room_for_gate = if_told wrote (λ b. gate ≤ length b) (λ b is. let s = staged_told told wrote piece is_body law written b is in omega (arith, k.place, ap length s.whole, length-append (front k.groups) (s.gate ∷ (body ++ s.rest))))
+    room_for_gate = if_told wrote (λ b. gate ≤ length b) (λ b is. let s = staged_told told wrote piece is_body law written b is in omega (arith, k.place, ap length s.whole, length-append (prefix k.groups) (s.gate ∷ (body ++ s.rest))))
 
     gate_torn : (c : List ℕ) → After (Torn gate 1) staged c → AtGate k.groups flight false c
     gate_torn c after = torn_opening k.groups flight after.0 c (is_staged after.0 after.1) (subst (λ (p : ℕ). Torn p 1 after.0 c) k.place after.2)
@@ -72,13 +72,13 @@ module _ (images : List ℕ → Type 0) (entries before flight : List Entry) (ga
       groups = k.groups ++ flight ∷ [];
       fit = fit_push k.groups flight k.fit fits;
       joined = is_all ∙ ap (λ (l : List Entry). l ++ flight) k.joined ∙ sym (entries_push k.groups flight);
-      place = omega (arith, is_next, k.place, length-front_push k.groups flight);
+      place = omega (arith, is_next, k.place, length-prefix_push k.groups flight);
       none_in_flight = λ _. is_none;
       flight_fits = λ is. absurd (cc);
       each = λ c image.
           let was = before_step (put gate (open_gate ∷ [])) wrote c (sym is_opened ∙ only_opened c image) in
           let s = staged_told told wrote piece is_body law written was.0 was.1 in
-          let same : c ≡ put (length (front k.groups)) (open_gate ∷ []) was.0 = was.2 ∙ ap (λ (p : ℕ). put p (open_gate ∷ []) was.0) k.place in
+          let same : c ≡ put (length (prefix k.groups)) (open_gate ∷ []) was.0 = was.2 ∙ ap (λ (p : ℕ). put p (open_gate ∷ []) was.0) k.place in
           subst (λ (g : List Entry). AtGate (k.groups ++ flight ∷ []) g true c) (sym is_none)
           (subst (λ (l : List ℕ). AtGate (k.groups ++ flight ∷ []) [] true l) (sym same) (put_opening k.groups flight was.0 s));
     }

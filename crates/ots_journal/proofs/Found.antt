@@ -4,6 +4,7 @@ use Rattle.std.proofs.lemmas.List.{drop_all}
 use Rattle.std.specs.Option.{option_map}
 use Rattle.ots_disk.specs.Disk.{put, Torn, After}
 use Rattle.ots_disk.specs.Moments.{before_step}
+use Rattle.ots_journal.specs.declared.limits.TheConstants.{EMPTY_JOURNAL}
 use Rattle.ots_journal.specs.declared.entry.Entry.{Entry}
 use Rattle.ots_journal.specs.declared.errors.JournalError.{JournalError}
 use Rattle.ots_journal.specs.declared.errors.JournalError.TheVariants.{DiskFault, Full, OldVersion, NotAJournal, Damaged, OutOfMemory}
@@ -14,9 +15,9 @@ use Rattle.ots_journal.specs.Opening.{FoundTo, Refuses, IsGate, OpenedFrom, Stoo
 zero_is_closed : 0 ≢ open_gate
 zero_is_closed is = absurd (omega (arith, is))
 
--- ---- a file of at most 9 bytes
+-- ---- a file of at most EMPTY_JOURNAL bytes
 
-pub empty_keeps : (told wrote : Option (List ℕ)) (later : List ℕ → Type 0) (entries : List Entry) → entries ≡ [] → ((b : List ℕ) → told ≡ Some b → length b ≤ 9)
+pub empty_keeps : (told wrote : Option (List ℕ)) (later : List ℕ → Type 0) (entries : List Entry) → entries ≡ [] → ((b : List ℕ) → told ≡ Some b → length b ≤ EMPTY_JOURNAL)
     → wrote ≡ option_map (put 0 (magic ++ 0 ∷ [])) told → ((c : List ℕ) → later c → wrote ≡ Some c) → Keeps later entries [] true 8
 empty_keeps told wrote later entries none short written only = record {
   groups = [];
@@ -32,13 +33,13 @@ empty_keeps told wrote later entries none short written only = record {
 }
 
 -- what a torn write of the first 9 bytes leaves
-pub small_torn : (images settled : List ℕ → Type 0) → ((c : List ℕ) → settled c → images c) → ((c : List ℕ) → settled c → length c ≤ 9) → (c : List ℕ) → After (Torn 0 9) settled c → OpenedFrom images c
+pub small_torn : (images settled : List ℕ → Type 0) → ((c : List ℕ) → settled c → images c) → ((c : List ℕ) → settled c → length c ≤ EMPTY_JOURNAL) → (c : List ℕ) → After (Torn 0 9) settled c → OpenedFrom images c
 small_torn images settled fewer short c after =
     inr (omega (arith, after.2.no_longer, short after.0 after.1), (after.0, fewer after.0 after.1, short after.0 after.1))
 
 -- ---- a longer file
 
-module _ (bytes : List ℕ) (entries : List Entry) (place : ℕ) (long : 9 < length bytes) (f : FoundTo bytes entries place) where
+module _ (bytes : List ℕ) (entries : List Entry) (place : ℕ) (long : EMPTY_JOURNAL < length bytes) (f : FoundTo bytes entries place) where
   abbrev found_long : StandsLong bytes entries
   found_long = record {
     long = long;

@@ -5,11 +5,12 @@ use Rattle.std.proofs.lemmas.List.Concat.{flat_map-append}
 use Rattle.std.proofs.lemmas.Nat.{from_be_bytes-to_be_bytes_2, from_be_bytes-to_be_bytes_4}
 use Rattle.std.specs.List.{AllByRecursion}
 use Rattle.std.specs.Int.{w16, w32, to_be_bytes, from_be_bytes}
+use Rattle.ots_journal.specs.declared.limits.TheConstants.{EMPTY_JOURNAL, MAX_GROUP}
 use Rattle.ots_journal.specs.declared.entry.Entry.{Entry}
-use Rattle.ots_journal.specs.Image.{magic, open_gate, entry_bytes, entries_bytes, FitsEntry, front}
+use Rattle.ots_journal.specs.Image.{magic, open_gate, entry_bytes, entries_bytes, FitsEntry, prefix}
 use Rattle.ots_journal.specs.Opening.{HasGroup, ReadsEntry, ReadsEntries, ReadsGroup, ReadTo, FoundTo, IsDamaged}
-use Rattle.ots_journal.proofs.Groups.{entries_push, fit_push, length-entry, length-front_push, length-group_body}
-use Rattle.ots_journal.proofs.Gates.{gate_is, rest_is, room_behind}
+use Rattle.ots_journal.proofs.Groups.{entries_push, fit_push, length-entry, length-prefix_push, length-group_body}
+use Rattle.ots_journal.proofs.Gates.{gate_is, rest_is, room_after}
 use Rattle.ots_journal.proofs.Standing.{opened_whole}
 
 -- ---- one entry
@@ -79,7 +80,7 @@ entry_more bytes rest after old new more entry count counter lt is_more read s =
   others = λ all many fit whole. left_more entry rest after count counter lt read (s.others all many fit whole);
 }
 
--- where no entry is at the front, the bytes are no such list
+-- where no entry is at the start, the bytes are no such list
 pub none_at : (rest : List ℕ) (count counter : ℕ) → counter < count → ((entry : Entry) (r : List ℕ) → ReadsEntry rest entry r → ⊥) → Left rest count counter → ⊥
 none_at rest count counter lt none left = go left.tail left.many left.fit left.whole
   where
@@ -113,17 +114,17 @@ module _ (bytes rest : List ℕ) (count size : ℕ) (whole : bytes ≡ to_be_byt
       sym (from_be_bytes-to_be_bytes_4 size lt) ∙ ap (λ (l : List ℕ). from_be_bytes w32 (take 4 (drop 2 l))) (sym whole ∙ h.whole)
       ∙ from_be_bytes-to_be_bytes_4 (length (entries_bytes h.group)) (omega (arith, h.fits.most, entries_bound h.group h.fits.payloads))
 
-  pub behind_same : (h : HasGroup bytes) → rest ≡ entries_bytes h.group ++ h.next ∷ h.after
-  behind_same h = ap (λ (l : List ℕ). drop 6 l) (sym whole ∙ h.whole)
+  pub after_same : (h : HasGroup bytes) → rest ≡ entries_bytes h.group ++ h.next ∷ h.after
+  after_same h = ap (λ (l : List ℕ). drop 6 l) (sym whole ∙ h.whole)
 
   -- the bytes of the entries, where there is a group
   pub entries_same : (h : HasGroup bytes) → size < 2 ^ 32 → take size rest ≡ entries_bytes h.group
-  entries_same h lt = ap (λ (l : List ℕ). take size l) (behind_same h) ∙ take_at (entries_bytes h.group) (h.next ∷ h.after) size (sym (size_same h lt))
+  entries_same h lt = ap (λ (l : List ℕ). take size l) (after_same h) ∙ take_at (entries_bytes h.group) (h.next ∷ h.after) size (sym (size_same h lt))
 
   pub room_same : (h : HasGroup bytes) → size < 2 ^ 32 → size < length rest
-  room_same h lt = omega (arith, size_same h lt, ap length (behind_same h), length-append (entries_bytes h.group) (h.next ∷ h.after))
+  room_same h lt = omega (arith, size_same h lt, ap length (after_same h), length-append (entries_bytes h.group) (h.next ∷ h.after))
 
-  pub reads_group : (old new : List Entry) → 1 ≤ count → count ≤ 1024 → size < length rest → ReadsEntries (take size rest) old new count → ReadsGroup bytes old new (6 + size)
+  pub reads_group : (old new : List Entry) → 1 ≤ count → count ≤ MAX_GROUP → size < length rest → ReadsEntries (take size rest) old new count → ReadsGroup bytes old new (6 + size)
   reads_group old new some most lt read =
       let sizes : size ≡ length (entries_bytes read.group) = sym (length-take-le size rest (omega arith)) ∙ ap length read.whole in
       let counts : count ≡ length read.group = sym read.many in
@@ -145,7 +146,7 @@ module _ (bytes rest : List ℕ) (count size : ℕ) (whole : bytes ≡ to_be_byt
 
 -- ---- groups so far
 
-pub first_gate : (bytes : List ℕ) → 9 < length bytes → take 8 bytes ≡ magic → ReadTo bytes [] 8
+pub first_gate : (bytes : List ℕ) → EMPTY_JOURNAL < length bytes → take 8 bytes ≡ magic → ReadTo bytes [] 8
 first_gate bytes long is = record {
   groups = [];
   gate = get_or bytes 8 0;
@@ -157,13 +158,13 @@ first_gate bytes long is = record {
 
 module _ (bytes : List ℕ) (entries : List Entry) (place : ℕ) (r : ReadTo bytes entries place) where
   pub gate_at : get_or bytes place 0 ≡ r.gate
-  gate_at = ap (λ (n : ℕ). get_or bytes n 0) r.at ∙ gate_is (front r.groups) r.gate r.rest bytes r.begins.whole
+  gate_at = ap (λ (n : ℕ). get_or bytes n 0) r.at ∙ gate_is (prefix r.groups) r.gate r.rest bytes r.begins.whole
 
   pub rest_at : drop (place + 1) bytes ≡ r.rest
-  rest_at = ap (λ (n : ℕ). drop (n + 1) bytes) r.at ∙ rest_is (front r.groups) r.gate r.rest bytes r.begins.whole
+  rest_at = ap (λ (n : ℕ). drop (n + 1) bytes) r.at ∙ rest_is (prefix r.groups) r.gate r.rest bytes r.begins.whole
 
   pub place_within : place < length bytes
-  place_within = omega (arith, r.at, room_behind (front r.groups) r.gate r.rest bytes r.begins.whole)
+  place_within = omega (arith, r.at, room_after (prefix r.groups) r.gate r.rest bytes r.begins.whole)
 
   pub next_gate : (new : List Entry) (size : ℕ) → get_or bytes place 0 ≡ open_gate → ReadsGroup (drop (place + 1) bytes) entries new size → ReadTo bytes new (place + (1 + size))
   next_gate new size is g =
@@ -177,15 +178,15 @@ module _ (bytes : List ℕ) (entries : List Entry) (place : ℕ) (r : ReadTo byt
           fit = fit_push r.groups t.group r.begins.fit t.fits;
         };
         joined = g.added ∙ ap (λ (l : List Entry). l ++ t.group) r.joined ∙ sym (entries_push r.groups t.group);
-        at = omega (arith, r.at, g.size_is, length-front_push r.groups t.group, length-group_body t.group);
+        at = omega (arith, r.at, g.size_is, length-prefix_push r.groups t.group, length-group_body t.group);
       }
 
-  pub damaged : 9 < length bytes → get_or bytes place 0 ≡ open_gate → (HasGroup (drop (place + 1) bytes) → ⊥) → IsDamaged bytes place
+  pub damaged : EMPTY_JOURNAL < length bytes → get_or bytes place 0 ≡ open_gate → (HasGroup (drop (place + 1) bytes) → ⊥) → IsDamaged bytes place
   damaged long is none = record {
     long = long;
     groups = r.groups;
     rest = r.rest;
-    begins = record { whole = r.begins.whole ∙ ap (λ (n : ℕ). front r.groups ++ n ∷ r.rest) (sym gate_at ∙ is); fit = r.begins.fit };
+    begins = record { whole = r.begins.whole ∙ ap (λ (n : ℕ). prefix r.groups ++ n ∷ r.rest) (sym gate_at ∙ is); fit = r.begins.fit };
     at = r.at;
     broken = λ h. none (subst HasGroup (sym rest_at) h);
   }

@@ -6,7 +6,7 @@ use Rattle.std.proofs.lemmas.List.Elements.{All-from_recursion}
 use Rattle.std.specs.List.{flat_map, AllByRecursion}
 use Rattle.std.specs.Int.{w16, w32, to_be_bytes}
 use Rattle.ots_journal.specs.declared.entry.Entry.{Entry}
-use Rattle.ots_journal.specs.Image.{magic, open_gate, entry_bytes, entries_bytes, payload_bytes, group_body, group_bytes, FitsEntry, FitsGroup, entries_of, front}
+use Rattle.ots_journal.specs.Image.{magic, open_gate, entry_bytes, entries_bytes, payload_bytes, group_body, group_bytes, FitsEntry, FitsGroup, entries_of, prefix}
 
 pub length-entry : (e : Entry) → length (entry_bytes e) ≡ 5 + length e.payload
 length-entry e = omega (arith, length-append (to_be_bytes w32 (length e.payload)) e.payload)
@@ -28,8 +28,8 @@ length-group_body es = omega (arith, length-append (to_be_bytes w16 (length es))
 
 -- ---- one group more
 
-pub front_push : (groups : List (List Entry)) (group : List Entry) (xs : List ℕ) → front (groups ++ group ∷ []) ++ xs ≡ front groups ++ (open_gate ∷ (group_body group ++ xs))
-front_push groups group xs =
+pub prefix_push : (groups : List (List Entry)) (group : List Entry) (xs : List ℕ) → prefix (groups ++ group ∷ []) ++ xs ≡ prefix groups ++ (open_gate ∷ (group_body group ++ xs))
+prefix_push groups group xs =
     let before = flat_map group_bytes groups in
     let more = group_bytes group in
     ap (λ (l : List ℕ). (magic ++ l) ++ xs) (flat_map-append group_bytes groups (group ∷ []))
@@ -37,10 +37,10 @@ front_push groups group xs =
     ∙ ap (λ (l : List ℕ). l ++ xs) (sym (append_assoc magic before more))
     ∙ append_assoc (magic ++ before) more xs
 
-pub length-front_push : (groups : List (List Entry)) (group : List Entry) → length (front (groups ++ group ∷ [])) ≡ length (front groups) + 7 + length (entries_bytes group)
-length-front_push groups group =
-    let whole = ap length (front_push groups group []) in
-    omega (arith, whole, length-append (front (groups ++ group ∷ [])) [], length-append (front groups) (open_gate ∷ (group_body group ++ [])), length-append (group_body group) [], length-group_body group)
+pub length-prefix_push : (groups : List (List Entry)) (group : List Entry) → length (prefix (groups ++ group ∷ [])) ≡ length (prefix groups) + 7 + length (entries_bytes group)
+length-prefix_push groups group =
+    let whole = ap length (prefix_push groups group []) in
+    omega (arith, whole, length-append (prefix (groups ++ group ∷ [])) [], length-append (prefix groups) (open_gate ∷ (group_body group ++ [])), length-append (group_body group) [], length-group_body group)
 
 pub entries_push : (groups : List (List Entry)) (group : List Entry) → entries_of (groups ++ group ∷ []) ≡ entries_of groups ++ group
 entries_push groups group = flat_map-append (λ (g : List Entry). g) groups (group ∷ []) ∙ ap (λ (l : List Entry). entries_of groups ++ l) (append-nil group)

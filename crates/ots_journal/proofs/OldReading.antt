@@ -3,19 +3,20 @@ use Rattle.std.proofs.Common.{◌≡◌, ◌≢◌, ⊎_elim, inr, ℕ, ◌+◌,
 use Rattle.std.proofs.lemmas.List.{append-nil, drop_more}
 use Rattle.std.proofs.lemmas.List.Concat.{flat_map-append}
 use Rattle.std.specs.List.{flat_map, AllByRecursion}
+use Rattle.ots_journal.specs.declared.limits.TheConstants.{EMPTY_JOURNAL}
 use Rattle.ots_journal.specs.Image.{open_gate, entry_bytes, FitsEntry}
 use Rattle.ots_journal.specs.Opening.{magic1, ReadsEntry}
-use Rattle.ots_journal.specs.Version1.{gated_entry, front1, Stands1, HasEntry, IsDamaged1, ReadTo1, AddsEntry}
+use Rattle.ots_journal.specs.Version1.{gated_entry, prefix1, Stands1, HasEntry, IsDamaged1, ReadTo1, AddsEntry}
 use Rattle.ots_journal.specs.declared.entry.Entry.{Entry}
-use Rattle.ots_journal.proofs.Gates.{gate_is, rest_is, room_behind}
+use Rattle.ots_journal.proofs.Gates.{gate_is, rest_is, room_after}
 use Rattle.ots_journal.proofs.Groups.{length-entry}
 use Rattle.ots_journal.proofs.GroupReading.{unique_rest}
 use Rattle.ots_journal.proofs.Unique.{unique_entry, head_is}
 
 -- ---- one entry more
 
-front1_push : (es : List Entry) (e : Entry) (xs : List ℕ) → front1 (es ++ e ∷ []) ++ xs ≡ front1 es ++ (open_gate ∷ (entry_bytes e ++ xs))
-front1_push es e xs =
+prefix1_push : (es : List Entry) (e : Entry) (xs : List ℕ) → prefix1 (es ++ e ∷ []) ++ xs ≡ prefix1 es ++ (open_gate ∷ (entry_bytes e ++ xs))
+prefix1_push es e xs =
     let before = flat_map gated_entry es in
     let more = gated_entry e in
     ap (λ (l : List ℕ). (magic1 ++ l) ++ xs) (flat_map-append gated_entry es (e ∷ []))
@@ -23,9 +24,9 @@ front1_push es e xs =
     ∙ ap (λ (l : List ℕ). l ++ xs) (sym (append_assoc magic1 before more))
     ∙ append_assoc (magic1 ++ before) more xs
 
-length-front1_push : (es : List Entry) (e : Entry) → length (front1 (es ++ e ∷ [])) ≡ length (front1 es) + 1 + length (entry_bytes e)
-length-front1_push es e =
-    omega (arith, ap length (front1_push es e []), length-append (front1 (es ++ e ∷ [])) [], length-append (front1 es) (open_gate ∷ (entry_bytes e ++ [])), length-append (entry_bytes e) [])
+length-prefix1_push : (es : List Entry) (e : Entry) → length (prefix1 (es ++ e ∷ [])) ≡ length (prefix1 es) + 1 + length (entry_bytes e)
+length-prefix1_push es e =
+    omega (arith, ap length (prefix1_push es e []), length-append (prefix1 (es ++ e ∷ [])) [], length-append (prefix1 es) (open_gate ∷ (entry_bytes e ++ [])), length-append (entry_bytes e) [])
 
 fit_push1 : (es : List Entry) (e : Entry) → AllByRecursion FitsEntry es → FitsEntry e → AllByRecursion FitsEntry (es ++ e ∷ [])
 fit_push1 [] e fit fits = (fits, tt)
@@ -33,7 +34,7 @@ fit_push1 (x ∷ es) e fit fits = (fit.0, fit_push1 es e fit.1 fits)
 
 -- ---- reading
 
-pub first_gate1 : (bytes : List ℕ) → 9 < length bytes → take 8 bytes ≡ magic1 → ReadTo1 bytes [] 8
+pub first_gate1 : (bytes : List ℕ) → EMPTY_JOURNAL < length bytes → take 8 bytes ≡ magic1 → ReadTo1 bytes [] 8
 first_gate1 bytes long is = record {
   gate = get_or bytes 8 0;
   rest = drop 9 bytes;
@@ -41,7 +42,7 @@ first_gate1 bytes long is = record {
   at = refl;
 }
 
--- what an entry read at the front leaves, with one more byte behind it
+-- what an entry read at the start leaves, with one more byte after it
 abbrev pub has_entry : (bytes after : List ℕ) (e : Entry) → ReadsEntry bytes e after → 0 < length after → HasEntry bytes
 has_entry bytes after e read some = record {
   entry = e;
@@ -51,7 +52,7 @@ has_entry bytes after e read some = record {
   whole = read.whole ∙ ap (λ (l : List ℕ). entry_bytes e ++ l) (drop_more after 0 0 some);
 }
 
--- an entry that ends the bytes has no gate behind it
+-- an entry that ends the bytes has no gate after it
 pub none_last : (bytes after : List ℕ) (e : Entry) → ReadsEntry bytes e after → length after ≡ 0 → HasEntry bytes → ⊥
 none_last bytes after e read none h =
     let rest : after ≡ h.next ∷ h.after = unique_rest e h.entry after (h.next ∷ h.after) read.fits h.fits (sym read.whole ∙ h.whole) in
@@ -59,13 +60,13 @@ none_last bytes after e read none h =
 
 module _ (bytes : List ℕ) (entries : List Entry) (place : ℕ) (r : ReadTo1 bytes entries place) where
   gate_at1 : get_or bytes place 0 ≡ r.gate
-  gate_at1 = ap (λ (n : ℕ). get_or bytes n 0) r.at ∙ gate_is (front1 entries) r.gate r.rest bytes r.begins.whole
+  gate_at1 = ap (λ (n : ℕ). get_or bytes n 0) r.at ∙ gate_is (prefix1 entries) r.gate r.rest bytes r.begins.whole
 
   rest_at1 : drop (place + 1) bytes ≡ r.rest
-  rest_at1 = ap (λ (n : ℕ). drop (n + 1) bytes) r.at ∙ rest_is (front1 entries) r.gate r.rest bytes r.begins.whole
+  rest_at1 = ap (λ (n : ℕ). drop (n + 1) bytes) r.at ∙ rest_is (prefix1 entries) r.gate r.rest bytes r.begins.whole
 
   pub place_within1 : place < length bytes
-  place_within1 = omega (arith, r.at, room_behind (front1 entries) r.gate r.rest bytes r.begins.whole)
+  place_within1 = omega (arith, r.at, room_after (prefix1 entries) r.gate r.rest bytes r.begins.whole)
 
   pub next_gate1 : (new : List Entry) (size : ℕ) → get_or bytes place 0 ≡ open_gate → AddsEntry (drop (place + 1) bytes) entries new size → ReadTo1 bytes new (place + (1 + size))
   next_gate1 new size is a =
@@ -75,23 +76,23 @@ module _ (bytes : List ℕ) (entries : List Entry) (place : ℕ) (r : ReadTo1 by
         gate = t.next;
         rest = t.after;
         begins = record {
-          whole = r.begins.whole ∙ ap (λ (n : ℕ). front1 entries ++ n ∷ r.rest) (sym gate_at1 ∙ is) ∙ ap (λ (l : List ℕ). front1 entries ++ open_gate ∷ l) (sym rest_at1 ∙ t.whole) ∙ sym (front1_push entries t.entry (t.next ∷ t.after));
+          whole = r.begins.whole ∙ ap (λ (n : ℕ). prefix1 entries ++ n ∷ r.rest) (sym gate_at1 ∙ is) ∙ ap (λ (l : List ℕ). prefix1 entries ++ open_gate ∷ l) (sym rest_at1 ∙ t.whole) ∙ sym (prefix1_push entries t.entry (t.next ∷ t.after));
           fit = fit_push1 entries t.entry r.begins.fit t.fits;
         };
-        at = omega (arith, r.at, a.size_is, length-front1_push entries t.entry);
+        at = omega (arith, r.at, a.size_is, length-prefix1_push entries t.entry);
       }
 
-  pub damaged1 : 9 < length bytes → get_or bytes place 0 ≡ open_gate → (HasEntry (drop (place + 1) bytes) → ⊥) → IsDamaged1 bytes place
+  pub damaged1 : EMPTY_JOURNAL < length bytes → get_or bytes place 0 ≡ open_gate → (HasEntry (drop (place + 1) bytes) → ⊥) → IsDamaged1 bytes place
   damaged1 long is none = record {
     long = long;
     entries = entries;
     rest = r.rest;
-    begins = record { whole = r.begins.whole ∙ ap (λ (n : ℕ). front1 entries ++ n ∷ r.rest) (sym gate_at1 ∙ is); fit = r.begins.fit };
+    begins = record { whole = r.begins.whole ∙ ap (λ (n : ℕ). prefix1 entries ++ n ∷ r.rest) (sym gate_at1 ∙ is); fit = r.begins.fit };
     at = r.at;
     broken = λ h. none (subst HasEntry (sym rest_at1) h);
   }
 
-  pub found1 : 9 < length bytes → get_or bytes place 0 ≢ open_gate → Stands1 bytes entries
+  pub found1 : EMPTY_JOURNAL < length bytes → get_or bytes place 0 ≢ open_gate → Stands1 bytes entries
   found1 long ne = inr (record { long = long; gate = r.gate; rest = r.rest; begins = r.begins; closed = λ is. ne (gate_at1 ∙ is) })
 
 -- ---- one list at most

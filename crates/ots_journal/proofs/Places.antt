@@ -42,7 +42,7 @@ entries_same a b n [] same all = refl
 entries_same a b n (p ∷ places) same all =
     ap (λ (e : Entry). e ∷ entries_at a places) (same_at a b n p same all.0) ∙ ap (λ (l : List Entry). entry_at b p ∷ l) (entries_same a b n places same all.1)
 
--- more bytes behind
+-- more bytes after
 pub entries_more : (file more : List ℕ) (places : List Place) → AllByRecursion (EndsBy (length file)) places → entries_at (file ++ more) places ≡ entries_at file places
 entries_more file more places all =
     entries_same (file ++ more) file (length file) places (take-append-le (length file) file more (omega arith)) all
@@ -92,7 +92,7 @@ adds_anew file first new old places entry is_new is_places =
 
 -- ---- an entry that was read
 
--- the rest behind an entry
+-- the rest after an entry
 pub rest_there : (bytes rest after : List ℕ) (start : ℕ) (entry : Entry) → rest ≡ take (length rest) (drop start bytes) → rest ≡ entry_bytes entry ++ after
     → after ≡ take (length after) (drop (start + (5 + length entry.payload)) bytes)
 rest_there bytes rest after start entry there whole =
@@ -108,8 +108,8 @@ pub place_read : (bytes rest after : List ℕ) (start : ℕ) (kind : ℕ) (paylo
 place_read bytes rest after start kind payload there whole =
     let head : List ℕ = kind ∷ to_be_bytes w32 (length payload) in
     let size : length rest ≡ 5 + (length payload + length after) = ap length whole ∙ omega (arith, length-append (entry_bytes (record { kind = kind; payload = payload })) after, length-entry (record { kind = kind; payload = payload })) in
-    let behind : take (length payload + length after) (drop (start + 5) bytes) ≡ payload ++ after =
+    let following : take (length payload + length after) (drop (start + 5) bytes) ≡ payload ++ after =
     ap (λ (l : List ℕ). take (length payload + length after) l) (sym (drop-drop 5 start bytes)) ∙ sym (drop-take 5 (length payload + length after) (drop start bytes))
     ∙ ap (λ (k : ℕ). drop 5 (take k (drop start bytes))) (sym size) ∙ ap (λ (l : List ℕ). drop 5 l) (sym there ∙ whole) in
     ap (λ (l : List ℕ). let e : Entry = record { kind = kind; payload = l } in e)
-    (sym (take-take (length payload) (length payload + length after) (drop (start + 5) bytes) (omega arith)) ∙ ap (λ (l : List ℕ). take (length payload) l) behind ∙ take_at payload after (length payload) refl)
+    (sym (take-take (length payload) (length payload + length after) (drop (start + 5) bytes) (omega arith)) ∙ ap (λ (l : List ℕ). take (length payload) l) following ∙ take_at payload after (length payload) refl)

@@ -2,10 +2,10 @@
 use Rattle.std.proofs.Common.{◌≡◌, ◌≢◌, ℕ, ◌+◌, ◌<◌, true, false, List, [], ◌∷◌, ◌++◌, length, get_or, refl, sym, ◌∙◌, ap, subst, arith, Option, Some}
 use Rattle.ots_base.specs.Told.{IfTold}
 use Rattle.ots_journal.specs.declared.entry.Entry.{Entry}
-use Rattle.ots_journal.specs.Image.{open_gate, front}
+use Rattle.ots_journal.specs.Image.{open_gate, prefix}
 use Rattle.ots_journal.specs.Journal.{Keeps, size_with}
-use Rattle.ots_journal.proofs.Gates.{room_behind, gate_is}
-use Rattle.ots_journal.proofs.Groups.{entries_push, fit_push, length-front_push}
+use Rattle.ots_journal.proofs.Gates.{room_after, gate_is}
+use Rattle.ots_journal.proofs.Groups.{entries_push, fit_push, length-prefix_push}
 use Rattle.ots_journal.proofs.Standing.{opened_whole}
 
 pub told_at : (told : Option (List ℕ)) (P : List ℕ → Type 0) (b : List ℕ) → told ≡ Some b → IfTold told P → P b
@@ -13,12 +13,12 @@ told_at told P b is holds = let at : IfTold (Some b) P = subst (λ (t : Option (
 
 module _ (images : List ℕ → Type 0) (entries flight : List Entry) (gate : ℕ) (k : Keeps images entries flight false gate) where
   pub gate_there : (b : List ℕ) → images b → gate < length b
-  gate_there b image = let at = k.each b image in omega (arith, room_behind (front k.groups) at.gate at.rest b at.whole, k.place)
+  gate_there b image = let at = k.each b image in omega (arith, room_after (prefix k.groups) at.gate at.rest b at.whole, k.place)
 
   gate_read : (b : List ℕ) (image : images b) → get_or b gate 0 ≡ (k.each b image).gate
   gate_read b image =
       let at = k.each b image in
-      ap (λ (n : ℕ). get_or b n 0) k.place ∙ gate_is (front k.groups) at.gate at.rest b at.whole
+      ap (λ (n : ℕ). get_or b n 0) k.place ∙ gate_is (prefix k.groups) at.gate at.rest b at.whole
 
   pub keeps_opened : (later : List ℕ → Type 0) (all none : List Entry) (next : ℕ) → all ≡ entries ++ flight → none ≡ [] → next + 1 ≡ size_with gate flight
       → ((c : List ℕ) → later c → images c) → ((c : List ℕ) → later c → get_or c gate 0 ≡ open_gate) → Keeps later all none true next
@@ -26,7 +26,7 @@ module _ (images : List ℕ → Type 0) (entries flight : List Entry) (gate : �
     groups = k.groups ++ flight ∷ [];
     fit = fit_push k.groups flight k.fit (k.flight_fits refl);
     joined = is_all ∙ ap (λ (l : List Entry). l ++ flight) k.joined ∙ sym (entries_push k.groups flight);
-    place = omega (arith, is_next, k.place, length-front_push k.groups flight);
+    place = omega (arith, is_next, k.place, length-prefix_push k.groups flight);
     none_in_flight = λ _. is_none;
     flight_fits = λ is. absurd (cc);
     each = λ c image.

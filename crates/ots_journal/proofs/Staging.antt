@@ -1,4 +1,4 @@
--- A group that is staged behind the entries held, taken in, or forgotten.
+-- A group that is staged after the entries held, taken in, or forgotten.
 use Rattle.std.proofs.Common.{◌≡◌, ℕ, ◌+◌, ◌-◌, ◌*◌, ◌≤◌, List, [], ◌∷◌, ◌++◌, length, take, drop, refl, sym, ◌∙◌, ap, subst, arith, append_assoc, length-append, length-drop, take-append-drop}
 use Rattle.std.proofs.lemmas.List.{take_all, drop_at, take-append-le, take-take, map-append, length-map}
 use Rattle.std.specs.Int.{w16, w32, to_be_bytes}
@@ -30,8 +30,8 @@ spelled file f1 f2 f3 group size is_size is1 is2 is3 =
     ∙ append_assoc file (head (length es) ++ es) (0 ∷ [])
     ∙ ap (λ (l : List ℕ). file ++ ((open_gate ∷ l) ++ 0 ∷ [])) (append_assoc (to_be_bytes w16 (length group)) (to_be_bytes w32 (length es)) es)
 
-pub adds_behind : (first file more : List ℕ) (old new : List Place) (group : List Entry) → Adds first file old new group → Adds first (file ++ more) old new group
-adds_behind first file more old new group a = record {
+pub adds_after : (first file more : List ℕ) (old new : List Place) (group : List Entry) → Adds first file old new group → Adds first (file ++ more) old new group
+adds_after first file more old new group a = record {
   places = a.places;
   added = a.added;
   are = entries_with_more file more a.places a.within ∙ a.are;
@@ -53,8 +53,8 @@ module _ (file before new : List ℕ) (places all : List Place) (held mark : ℕ
   held_stays : take held all ≡ take held places
   held_stays = ap (λ (l : List Place). take held l) adds.added ∙ take-append-le held places adds.places held_there
 
-  behind_is : drop held all ≡ adds.places
-  behind_is = ap (λ (l : List Place). drop held l) adds.added ∙ drop_at places adds.places held (sym held_is)
+  after_is : drop held all ≡ adds.places
+  after_is = ap (λ (l : List Place). drop held l) adds.added ∙ drop_at places adds.places held (sym held_is)
 
   pub staged_entries : entries_at new (take held all) ≡ entries_at file (take held places)
   staged_entries =
@@ -63,7 +63,7 @@ module _ (file before new : List ℕ) (places all : List Place) (held mark : ℕ
 
   pub staged_flight : entries_at new (drop held all) ≡ group
   staged_flight =
-      ap (λ (l : List Place). entries_at new l) behind_is ∙ ap (λ (f : List ℕ). entries_at f adds.places) is_last
+      ap (λ (l : List Place). entries_at new l) after_is ∙ ap (λ (f : List ℕ). entries_at f adds.places) is_last
       ∙ entries_with_more before (0 ∷ []) adds.places adds.within ∙ adds.are
 
   pub staged_is : drop mark new ≡ staged_bytes group
@@ -74,7 +74,7 @@ module _ (file before new : List ℕ) (places all : List Place) (held mark : ℕ
 
   pub flight_within_all : AllByRecursion (EndsBy (length new - 1)) (drop held all)
   flight_within_all =
-      subst (λ (l : List Place). AllByRecursion (EndsBy (length new - 1)) l) (sym behind_is)
+      subst (λ (l : List Place). AllByRecursion (EndsBy (length new - 1)) l) (sym after_is)
       (ends_later (length before) (length new - 1) adds.places (omega (arith, ap length is_last, length-append before (0 ∷ []))) adds.within)
 
 -- how the places of many entries are counted
@@ -116,6 +116,6 @@ pub none_within : (file : List ℕ) (places : List Place) (end : ℕ) → entrie
 none_within file [] end none = tt
 none_within file (p ∷ places) end none = absurd (cc)
 
--- the place of the gate behind the staged group
+-- the place of the gate after the staged group
 pub staged_next : (gate next : ℕ) (staged : List ℕ) (group : List Entry) → staged ≡ staged_bytes group → next + 1 ≡ gate + length staged → next + 1 ≡ size_with gate group
 staged_next gate next staged group is next_is = omega (arith, next_is, ap length is, size_of_staged group, size_of_entries group)

@@ -3,30 +3,31 @@ use Rattle.std.proofs.Common.{◌≡◌, ◌≢◌, inl, inr, ⊎_elim, ℕ, ◌
 use Rattle.std.proofs.lemmas.Bool.{cases_lt, cases_eq}
 use Rattle.std.specs.List.{flat_map, AllByRecursion}
 use Rattle.ots_disk.specs.Disk.{put, Torn}
+use Rattle.ots_journal.specs.declared.limits.TheConstants.{EMPTY_JOURNAL}
 use Rattle.ots_journal.specs.declared.entry.Entry.{Entry}
-use Rattle.ots_journal.specs.Image.{open_gate, group_body, group_bytes, FitsGroup, entries_of, front, Stands}
+use Rattle.ots_journal.specs.Image.{open_gate, group_body, group_bytes, FitsGroup, entries_of, prefix, Stands}
 use Rattle.ots_journal.specs.Journal.{AtGate, Keeps, StandsForEither}
-use Rattle.ots_journal.proofs.Gates.{torn_behind, put_behind, torn_gate, put_gate}
-use Rattle.ots_journal.proofs.Groups.{front_push, entries_push, fit_push, length-group_body}
+use Rattle.ots_journal.proofs.Gates.{torn_left, put_after, torn_gate, put_gate}
+use Rattle.ots_journal.proofs.Groups.{prefix_push, entries_push, fit_push, length-group_body}
 
 -- ---- standing
 
-few_groups : (groups : List (List Entry)) (gate : ℕ) (rest : List ℕ) → length (front groups ++ gate ∷ rest) ≤ 9 → entries_of groups ≡ []
+few_groups : (groups : List (List Entry)) (gate : ℕ) (rest : List ℕ) → length (prefix groups ++ gate ∷ rest) ≤ EMPTY_JOURNAL → entries_of groups ≡ []
 few_groups [] gate rest short = refl
 few_groups (group ∷ groups) gate rest short =
-    absurd (omega (arith, short, length-append (front (group ∷ groups)) (gate ∷ rest), length-append (group_bytes group) (flat_map group_bytes groups), length-group_body group))
+    absurd (omega (arith, short, length-append (prefix (group ∷ groups)) (gate ∷ rest), length-append (group_bytes group) (flat_map group_bytes groups), length-group_body group))
 
-pub stands_closed : (groups : List (List Entry)) (gate : ℕ) (rest c : List ℕ) → AllByRecursion FitsGroup groups → c ≡ front groups ++ gate ∷ rest → gate ≢ open_gate → Stands c (entries_of groups)
+pub stands_closed : (groups : List (List Entry)) (gate : ℕ) (rest c : List ℕ) → AllByRecursion FitsGroup groups → c ≡ prefix groups ++ gate ∷ rest → gate ≢ open_gate → Stands c (entries_of groups)
 stands_closed groups gate rest c fit whole closed = ⊎_elim
     (λ long. inr (record { long = long; groups = groups; gate = gate; rest = rest; begins = record { whole = whole; fit = fit }; closed = closed; joined = refl }))
     (λ short. inl (short, few_groups groups gate rest (omega (arith, short, ap length whole))))
-    (cases_lt 9 (length c))
+    (cases_lt EMPTY_JOURNAL (length c))
 
--- a gate that is open has the group in flight behind it
-pub opened_whole : (groups : List (List Entry)) (flight : List Entry) (gate next : ℕ) (rest after c : List ℕ) → c ≡ front groups ++ gate ∷ rest → gate ≡ open_gate → rest ≡ group_body flight ++ next ∷ after
-    → c ≡ front (groups ++ flight ∷ []) ++ next ∷ after
-opened_whole groups flight gate next rest after c whole is behind =
-    whole ∙ ap (λ (g : ℕ). front groups ++ g ∷ rest) is ∙ ap (λ (l : List ℕ). front groups ++ open_gate ∷ l) behind ∙ sym (front_push groups flight (next ∷ after))
+-- a gate that is open has the group in flight after it
+pub opened_whole : (groups : List (List Entry)) (flight : List Entry) (gate next : ℕ) (rest after c : List ℕ) → c ≡ prefix groups ++ gate ∷ rest → gate ≡ open_gate → rest ≡ group_body flight ++ next ∷ after
+    → c ≡ prefix (groups ++ flight ∷ []) ++ next ∷ after
+opened_whole groups flight gate next rest after c whole is following =
+    whole ∙ ap (λ (g : ℕ). prefix groups ++ g ∷ rest) is ∙ ap (λ (l : List ℕ). prefix groups ++ open_gate ∷ l) following ∙ sym (prefix_push groups flight (next ∷ after))
 
 pub stands_either : (groups : List (List Entry)) (flight : List Entry) (is_sure : Bool) (c : List ℕ) → AllByRecursion FitsGroup groups → FitsGroup flight → AtGate groups flight is_sure c → StandsForEither (entries_of groups) flight c
 stands_either groups flight is_sure c fit fits at = ⊎_elim
@@ -52,23 +53,23 @@ module _ (images : List ℕ → Type 0) where
 
 -- ---- the steps of an append
 
--- The group's bytes and a closed gate lie behind a closed gate.
+-- The group's bytes and a closed gate lie after a closed gate.
 pub record Staged (groups : List (List Entry)) (flight : List Entry) (bytes : List ℕ) : Type 0 where
   pub gate : ℕ
   pub rest : List ℕ
-  pub whole : bytes ≡ front groups ++ gate ∷ ((group_body flight ++ 0 ∷ []) ++ rest)
+  pub whole : bytes ≡ prefix groups ++ gate ∷ ((group_body flight ++ 0 ∷ []) ++ rest)
   pub closed : gate ≢ open_gate
 
-pub torn_body : (groups : List (List Entry)) (old flight : List Entry) (n : ℕ) (d c : List ℕ) → AtGate groups old true d → Torn (length (front groups) + 1) n d c → AtGate groups flight false c
+pub torn_body : (groups : List (List Entry)) (old flight : List Entry) (n : ℕ) (d c : List ℕ) → AtGate groups old true d → Torn (length (prefix groups) + 1) n d c → AtGate groups flight false c
 torn_body groups old flight n d c at torn =
-    let r = torn_behind (front groups) at.gate at.rest d at.whole n c torn in
+    let r = torn_left (prefix groups) at.gate at.rest d at.whole n c torn in
     record { gate = at.gate; rest = r.0; whole = r.1; closed = λ is. at.closed refl; opened = λ is. absurd (at.closed refl is) }
 
-pub put_body : (groups : List (List Entry)) (old flight : List Entry) (d : List ℕ) → AtGate groups old true d → Staged groups flight (put (length (front groups) + 1) (group_body flight ++ 0 ∷ []) d)
+pub put_body : (groups : List (List Entry)) (old flight : List Entry) (d : List ℕ) → AtGate groups old true d → Staged groups flight (put (length (prefix groups) + 1) (group_body flight ++ 0 ∷ []) d)
 put_body groups old flight d at = record {
   gate = at.gate;
   rest = drop (length (group_body flight ++ 0 ∷ [])) at.rest;
-  whole = put_behind (front groups) at.gate at.rest d at.whole (group_body flight ++ 0 ∷ []);
+  whole = put_after (prefix groups) at.gate at.rest d at.whole (group_body flight ++ 0 ∷ []);
   closed = at.closed refl;
 }
 
@@ -78,9 +79,9 @@ zero_is_closed is = absurd (omega (arith, is))
 pub staged_closed : (groups : List (List Entry)) (flight : List Entry) (d : List ℕ) → Staged groups flight d → AtGate groups flight false d
 staged_closed groups flight d s = record { gate = s.gate; rest = (group_body flight ++ 0 ∷ []) ++ s.rest; whole = s.whole; closed = λ is. s.closed; opened = λ is. absurd (s.closed is) }
 
-pub torn_opening : (groups : List (List Entry)) (flight : List Entry) (d c : List ℕ) → Staged groups flight d → Torn (length (front groups)) 1 d c → AtGate groups flight false c
+pub torn_opening : (groups : List (List Entry)) (flight : List Entry) (d c : List ℕ) → Staged groups flight d → Torn (length (prefix groups)) 1 d c → AtGate groups flight false c
 torn_opening groups flight d c s torn =
-    let h = torn_gate (front groups) s.gate ((group_body flight ++ 0 ∷ []) ++ s.rest) d s.whole c torn in
+    let h = torn_gate (prefix groups) s.gate ((group_body flight ++ 0 ∷ []) ++ s.rest) d s.whole c torn in
     record {
       gate = h.0;
       rest = (group_body flight ++ 0 ∷ []) ++ s.rest;
@@ -89,14 +90,14 @@ torn_opening groups flight d c s torn =
       opened = λ is. (0, s.rest, zero_is_closed, append_assoc (group_body flight) (0 ∷ []) s.rest);
     }
 
-pub put_opening : (groups : List (List Entry)) (flight : List Entry) (d : List ℕ) → Staged groups flight d → AtGate (groups ++ flight ∷ []) [] true (put (length (front groups)) (open_gate ∷ []) d)
+pub put_opening : (groups : List (List Entry)) (flight : List Entry) (d : List ℕ) → Staged groups flight d → AtGate (groups ++ flight ∷ []) [] true (put (length (prefix groups)) (open_gate ∷ []) d)
 put_opening groups flight d s =
-    let c = put (length (front groups)) (open_gate ∷ []) d in
+    let c = put (length (prefix groups)) (open_gate ∷ []) d in
     let rest = (group_body flight ++ 0 ∷ []) ++ s.rest in
     record {
       gate = 0;
       rest = s.rest;
-      whole = opened_whole groups flight open_gate 0 rest s.rest c (put_gate (front groups) s.gate rest d s.whole open_gate) refl (append_assoc (group_body flight) (0 ∷ []) s.rest);
+      whole = opened_whole groups flight open_gate 0 rest s.rest c (put_gate (prefix groups) s.gate rest d s.whole open_gate) refl (append_assoc (group_body flight) (0 ∷ []) s.rest);
       closed = λ is. zero_is_closed;
       opened = λ is. absurd (zero_is_closed is);
     }

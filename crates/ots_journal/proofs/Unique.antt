@@ -4,10 +4,11 @@ use Rattle.std.proofs.lemmas.List.{drop_at, drop_more, take_at}
 use Rattle.std.proofs.lemmas.Nat.{from_be_bytes-to_be_bytes_4}
 use Rattle.std.specs.List.{flat_map, AllByRecursion}
 use Rattle.std.specs.Int.{w32, to_be_bytes, from_be_bytes}
+use Rattle.ots_journal.specs.declared.limits.TheConstants.{EMPTY_JOURNAL}
 use Rattle.ots_journal.specs.declared.entry.Entry.{Entry}
 use Rattle.ots_journal.specs.declared.errors.JournalError.{JournalError}
 use Rattle.ots_journal.specs.declared.errors.JournalError.TheVariants.{DiskFault, Full, OldVersion, NotAJournal, Damaged, OutOfMemory}
-use Rattle.ots_journal.specs.Image.{magic, open_gate, entry_bytes, entries_bytes, group_body, group_bytes, FitsEntry, FitsGroup, entries_of, front, Stands, StandsLong}
+use Rattle.ots_journal.specs.Image.{magic, open_gate, entry_bytes, entries_bytes, group_body, group_bytes, FitsEntry, FitsGroup, entries_of, prefix, Stands, StandsLong}
 use Rattle.ots_journal.specs.Opening.{magic1, HasGroup, IsDamaged, Refuses, IsGate, IsOfBytes}
 use Rattle.ots_journal.proofs.GroupReading.{entries_bound, unique_rest}
 
@@ -54,7 +55,7 @@ long_not_refused limit bytes entries (Damaged place) s r of =
     walk r.groups s.groups s.gate r.rest s.rest r.begins.fit s.begins.fit tails s.closed r.broken
 long_not_refused limit bytes entries OutOfMemory s r of = of
 
-short_not_refused : (limit : ℕ) (bytes : List ℕ) (e : JournalError) → length bytes ≤ 9 → Refuses limit bytes e → IsOfBytes e → ⊥
+short_not_refused : (limit : ℕ) (bytes : List ℕ) (e : JournalError) → length bytes ≤ EMPTY_JOURNAL → Refuses limit bytes e → IsOfBytes e → ⊥
 short_not_refused limit bytes DiskFault short r of = of
 short_not_refused limit bytes (Full need most) short r of = of
 short_not_refused limit bytes OldVersion short r of = absurd (omega (arith, short, r.0))
@@ -126,7 +127,7 @@ pub gate_once : (bytes : List ℕ) (p q : ℕ) → IsGate bytes p → IsGate byt
 gate_once bytes p q first second = ⊎_elim
     (λ short. ⊎_elim (λ again. short.1 ∙ sym again.1) (λ long. let l = long.long.long in absurd (omega (arith, short.0, l))) second)
     (λ long. ⊎_elim (λ short. let l = long.long.long in absurd (omega (arith, short.0, l)))
-    (λ again. long.at ∙ ap (λ (groups : List (List Entry)). length (front groups)) (groups_once bytes long.entries again.entries long.long again.long) ∙ sym again.at) second)
+    (λ again. long.at ∙ ap (λ (groups : List (List Entry)). length (prefix groups)) (groups_once bytes long.entries again.entries long.long again.long) ∙ sym again.at) second)
     first
 
 -- ---- one refusal at most

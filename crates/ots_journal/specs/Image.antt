@@ -3,6 +3,8 @@ use Rattle.std.specs.Prelude.{◌≡◌, ◌≢◌, ◌⊎◌, ◌<◌, ◌≤�
 use Rattle.std.specs.Int.{w16, w32, to_be_bytes}
 use Rattle.std.specs.List.{flat_map, AllByRecursion}
 use Rattle.ots_journal.specs.declared.entry.Entry.{Entry}
+use Rattle.ots_journal.specs.declared.limits.TheConstants.{EMPTY_JOURNAL, MAX_GROUP, MIN_ENTRY_PAYLOAD}
+use Rattle.ots_journal.specs.declared.limits.TheConstants.{MAX_ENTRY_PAYLOAD}
 
 -- "OTSCAL", version 2, and a line feed
 abbrev pub magic : List ℕ
@@ -19,10 +21,11 @@ entry_bytes entry = entry.kind ∷ (to_be_bytes w32 (length entry.payload) ++ en
 abbrev pub entries_bytes : List Entry → List ℕ
 entries_bytes entries = flat_map entry_bytes entries
 
--- What stands behind a group's gate: the number of its entries, two bytes, the number of their bytes, four bytes, and
+-- What stands after a group's gate: the number of its entries, two bytes, the number of their bytes, four bytes, and
 -- the entries.
 abbrev pub group_body : List Entry → List ℕ
-group_body entries = to_be_bytes w16 (length entries) ++ (to_be_bytes w32 (length (entries_bytes entries)) ++ entries_bytes entries)
+group_body entries = to_be_bytes w16 (length entries) ++ (to_be_bytes w32 (length (entries_bytes entries))
+    ++ entries_bytes entries)
 
 abbrev pub group_bytes : List Entry → List ℕ
 group_bytes entries = open_gate ∷ group_body entries
@@ -33,12 +36,12 @@ payload_bytes [] = 0
 payload_bytes (entry ∷ entries) = length entry.payload + payload_bytes entries
 
 abbrev pub FitsEntry : Entry → Type 0
-FitsEntry entry = (44 ≤ length entry.payload) × (length entry.payload ≤ 1048576)
+FitsEntry entry = (MIN_ENTRY_PAYLOAD ≤ length entry.payload) × (length entry.payload ≤ MAX_ENTRY_PAYLOAD)
 
--- A group has 1 to 1024 entries, each with a payload of 44 to 1,048,576 bytes.
+-- A group has 1 to MAX_GROUP entries, 1024, each with a payload of 44 to 1,048,576 bytes.
 pub record FitsGroup (entries : List Entry) : Type 0 where
   pub some : 1 ≤ length entries
-  pub most : length entries ≤ 1024
+  pub most : length entries ≤ MAX_GROUP
   pub payloads : AllByRecursion FitsEntry entries
 
 -- The entries of all groups, in order.
@@ -46,18 +49,18 @@ abbrev pub entries_of : List (List Entry) → List Entry
 entries_of groups = flat_map (λ (group : List Entry). group) groups
 
 -- The magic and whole groups.
-abbrev pub front : List (List Entry) → List ℕ
-front groups = magic ++ flat_map group_bytes groups
+abbrev pub prefix : List (List Entry) → List ℕ
+prefix groups = magic ++ flat_map group_bytes groups
 
--- The bytes begin with the magic and these groups, and have this gate and this rest behind them.
+-- The bytes begin with the magic and these groups, and have this gate and this rest after them.
 pub record Begins (groups : List (List Entry)) (gate : ℕ) (rest bytes : List ℕ) : Type 0 where
-  pub whole : bytes ≡ front groups ++ gate ∷ rest
+  pub whole : bytes ≡ prefix groups ++ gate ∷ rest
   pub fit : AllByRecursion FitsGroup groups
 
--- A file of at most 9 bytes stands for no entries. A longer one stands for those of its groups up to the first closed
--- gate, whatever lies behind that.
+-- A file of at most EMPTY_JOURNAL bytes, 9, stands for no entries. A longer one stands for those of its groups up to
+-- the first closed gate, whatever lies after that.
 pub record StandsLong (bytes : List ℕ) (entries : List Entry) : Type 0 where
-  pub long : 9 < length bytes
+  pub long : EMPTY_JOURNAL < length bytes
   pub groups : List (List Entry)
   pub gate : ℕ
   pub rest : List ℕ
@@ -66,4 +69,4 @@ pub record StandsLong (bytes : List ℕ) (entries : List Entry) : Type 0 where
   pub joined : entries ≡ entries_of groups
 
 abbrev pub Stands : List ℕ → List Entry → Type 0
-Stands bytes entries = ((length bytes ≤ 9) × (entries ≡ [])) ⊎ StandsLong bytes entries
+Stands bytes entries = ((length bytes ≤ EMPTY_JOURNAL) × (entries ≡ [])) ⊎ StandsLong bytes entries

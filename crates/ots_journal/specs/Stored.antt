@@ -1,5 +1,6 @@
 -- How the entries of a journal are held: in bytes as the file has them, each found by its place.
-use Rattle.std.specs.Prelude.{◌≡◌, ◌≤◌, ℕ, ◌+◌, ◌-◌, ◌*◌, List, [], ◌∷◌, ◌++◌, length, take, drop, map, Vec, vec_capacity}
+use Rattle.std.specs.Prelude.{◌≡◌, ◌≤◌, ℕ, ◌+◌, ◌-◌, ◌*◌, List, [], ◌∷◌, ◌++◌, length, take, drop, map, Vec}
+use Rattle.std.specs.Prelude.{vec_capacity}
 use Rattle.std.specs.List.{AllByRecursion}
 use Rattle.std.specs.declared.alloc.Global.{Global}
 use Rattle.ots_journal.specs.Image.{group_bytes, payload_bytes}
@@ -9,9 +10,9 @@ use Rattle.ots_journal.specs.declared.place.Place.{Place}
 pub record StoredTold : Type 0 where
   -- the acknowledged entries
   pub entries : List Entry
-  -- the group that is staged behind them, where one is
+  -- the group that is staged after them, where one is
   pub flight : List Entry
-  -- how many bytes the magic and the acknowledged groups have, so the place of the gate behind them
+  -- how many bytes the magic and the acknowledged groups have, so the place of the gate after them
   pub size : ℕ
   -- the bytes of the staged group, with its gate and the next one
   pub staged : List ℕ
@@ -29,13 +30,14 @@ entries_at file places = map (entry_at file) places
 abbrev pub EndsBy : ℕ → Place → Type 0
 EndsBy end place = place.start + place.length ≤ end
 
--- A group with its open gate, and a closed gate behind it.
+-- A group with its open gate, and a closed gate after it.
 abbrev pub staged_bytes : List Entry → List ℕ
 staged_bytes group = group_bytes group ++ 0 ∷ []
 
--- The held entries lie within the marked part, the others behind it and before the last gate, and there is memory for what
--- is spare: an entry takes at most 13 bytes beside its payload, as a group of its own with both gates.
-pub record IsStored (file : Vec ℕ Global) (places : Vec Place Global) (held mark spare_entries spare_bytes : ℕ) : Type 0 where
+-- The held entries lie within the marked part, the others after it and before the last gate, and there is memory for
+-- what is spare: an entry takes at most 13 bytes beside its payload, as a group of its own with both gates.
+pub record IsStored (file : Vec ℕ Global) (places : Vec Place Global)
+    (held mark spare_entries spare_bytes : ℕ) : Type 0 where
   pub held_there : held ≤ length places.items
   pub mark_there : mark ≤ length file.items
   pub held_within : AllByRecursion (EndsBy mark) (take held places.items)
@@ -58,7 +60,7 @@ pub record IsReserved (old new : StoredTold) (entries bytes : ℕ) : Type 0 wher
   pub more_entries : old.spare_entries ≤ new.spare_entries
   pub more_bytes : old.spare_bytes ≤ new.spare_bytes
 
--- A group is staged behind the acknowledged entries.
+-- A group is staged after the acknowledged entries.
 pub record Stages (old new : StoredTold) (group : List Entry) : Type 0 where
   pub entries : new.entries ≡ old.entries
   pub flight : new.flight ≡ group

@@ -1,7 +1,8 @@
+//! An entry of a journal, and which entries make a group.
 ghost use Rattle.std.specs.Prelude.{◌≡◌, true, false};
 ghost use Rattle.ots_journal.specs.Image.{FitsGroup};
 
-use crate::{MAX_GROUP, MAX_PAYLOAD, MIN_PAYLOAD};
+use crate::{MAX_ENTRY_PAYLOAD, MAX_GROUP, MIN_ENTRY_PAYLOAD};
 use ots_outside::Bytes;
 
 /// An entry of a journal.
@@ -9,12 +10,12 @@ use ots_outside::Bytes;
 pub struct Entry {
     /// What the layer above takes the entry for.
     pub kind: u8,
-    /// 44 to 1,048,576 bytes.
+    /// `MIN_ENTRY_PAYLOAD` to `MAX_ENTRY_PAYLOAD` bytes: 44 to 1,048,576.
     pub payload: Bytes,
 }
 
-/// Whether these entries can be a group: 1 to 1024 of them, each with a payload of 44 to 1,048,576
-/// bytes.
+/// Whether these entries can be a group: 1 to `MAX_GROUP` of them, 1024, each with a payload of
+/// `MIN_ENTRY_PAYLOAD` to `MAX_ENTRY_PAYLOAD` bytes, 44 to 1,048,576.
 pub fn is_group(entries: &[Entry]) -> bool
     ensures yes { result ≡ true → FitsGroup entries.now }
     ensures no { result ≡ false → FitsGroup entries.now → ⊥ }
@@ -24,7 +25,7 @@ pub fn is_group(entries: &[Entry]) -> bool
     }
     for entry in entries {
         let length = entry.payload.items().len();
-        if length < MIN_PAYLOAD || length > MAX_PAYLOAD {
+        if length < MIN_ENTRY_PAYLOAD || length > MAX_ENTRY_PAYLOAD {
             return false;
         }
     }

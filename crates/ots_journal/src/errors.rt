@@ -1,3 +1,4 @@
+//! Why a journal is not opened, and why entries are not appended.
 ghost use Rattle.std.specs.Prelude.{◌≡◌};
 ghost use Rattle.ots_journal.specs.declared.errors.JournalError.TheVariants as opening;
 ghost use Rattle.ots_journal.specs.declared.errors.OldError.TheVariants as old;
@@ -43,7 +44,7 @@ pub enum JournalError {
     /// The file begins as no journal.
     #[error("the file is not a journal")]
     NotAJournal,
-    /// Behind the open gate at this place stands no whole group.
+    /// After the open gate at this place stands no whole group.
     #[error("the group at byte {0} is damaged")]
     Damaged(u64),
     /// Memory ran out.
@@ -72,7 +73,7 @@ impl From<OutOfMemory> for JournalError {
 pub enum OldError {
     /// The bytes begin as no journal of version 1.
     NotAJournal,
-    /// Behind the open gate at this place stands no whole entry.
+    /// After the open gate at this place stands no whole entry.
     Damaged(u64),
     /// Memory ran out.
     OutOfMemory,

@@ -1,5 +1,7 @@
-ghost use Rattle.std.specs.Prelude.{◌≡◌, ◌≢◌, ◌<◌, ◌≤◌, ◌^◌, length, IfOk, IfErr};
+//! The entries of a journal found in its bytes.
+ghost use Rattle.std.specs.Prelude.{◌≡◌, ◌≢◌, ◌<◌, ◌≤◌, length, IfOk, IfErr};
 ghost use Rattle.std.specs.List.{AllByRecursion};
+ghost use Rattle.ots_journal.specs.declared.limits.TheConstants.{EMPTY_JOURNAL, MAX_JOURNAL};
 ghost use Rattle.ots_journal.specs.Opening.{FoundTo, Refuses};
 ghost use Rattle.ots_journal.specs.Stored.{entries_at, EndsBy};
 
@@ -15,17 +17,17 @@ pub const MAGIC_1: [u8; 8] = *b"OTSCAL\x01\n";
 /// What a file of version 2 begins with: `OTSCAL`, 2, and a line feed.
 pub const MAGIC_2: [u8; 8] = *b"OTSCAL\x02\n";
 
-/// Where the entries of a journal lie, and the place of the closed gate behind them.
+/// Where the entries of a journal lie, and the place of the closed gate after them.
 #[derive(Drop)]
 pub struct Found {
     pub places: Vec<Place>,
     pub gate: usize,
 }
 
-/// Finds the entries of a file of more than 9 bytes.
+/// Finds the entries of a file of more than `EMPTY_JOURNAL` bytes.
 pub fn find_entries(alloc: Global, bytes: &[u8]) -> Result<Found, JournalError>
-    requires long { 9 < length bytes.now }
-    requires most { length bytes.now ≤ 2 ^ 30 }
+    requires long { EMPTY_JOURNAL < length bytes.now }
+    requires most { length bytes.now ≤ MAX_JOURNAL }
     ensures ok { IfOk result (λ f. FoundTo bytes.now (entries_at bytes.now f.places.items) f.gate) }
     ensures within { IfOk result (λ f. AllByRecursion (EndsBy f.gate) f.places.items) }
     ensures err { IfErr result (Refuses (length bytes.now) bytes.now) }

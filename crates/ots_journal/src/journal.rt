@@ -1,11 +1,16 @@
-ghost use Rattle.std.specs.Prelude.{◌≡◌, ◌≤◌, ◌<◌, ◌+◌, ◌^◌, ◌++◌, ◌∷◌, ℕ, List, [], length, true, false, slice_get, Some, Ok, Err, IsTrue, IsOk, IfOk, IfErr, MatchResult, IsErrOf, OnOk, OnErr};
+//! A journal that is open: its entries are read, and groups of entries appended.
+ghost use Rattle.std.specs.Prelude.{◌≡◌, ◌≤◌, ◌<◌, ◌+◌, ◌^◌, ◌++◌, ◌∷◌, ℕ, List, [], length, true, false, slice_get};
+ghost use Rattle.std.specs.Prelude.{Some, Ok, Err, IsTrue, IsOk, IfOk, IfErr, MatchResult, IsErrOf, OnOk, OnErr};
 ghost use Rattle.ots_base.specs.Cause.{HasCause, HasCauseWhere};
 ghost use Rattle.ots_base.specs.Told.{IfTold};
 ghost use Rattle.ots_disk.specs.Disk.{LeavesOnly};
 ghost use Rattle.ots_journal.specs.declared.entry.Entry.{Entry};
+ghost use Rattle.ots_journal.specs.declared.limits.TheConstants.{EMPTY_JOURNAL, MAX_JOURNAL, MIN_ENTRY_PAYLOAD};
+ghost use Rattle.ots_journal.specs.declared.limits.TheConstants.{MAX_ENTRY_PAYLOAD};
 ghost use Rattle.ots_journal.specs.Image.{Stands, FitsGroup};
 ghost use Rattle.ots_journal.specs.Opening.{Refuses, OpenedFrom, StoodFor, IsFullOrCause, IsGate, IsOfBytes};
-ghost use Rattle.ots_journal.specs.Journal.{JournalTold, IsAtMost, size_with, StandsForEither, StandsNow, Refreshed, Unrefreshed, Appends, UsesRoom, Keeps, Puts, Settles};
+ghost use Rattle.ots_journal.specs.Journal.{JournalTold, IsAtMost, size_with, StandsForEither, StandsNow, Refreshed};
+ghost use Rattle.ots_journal.specs.Journal.{Unrefreshed, Appends, UsesRoom, Keeps, Puts, Settles};
 ghost use Rattle.ots_journal.specs.Stored.{staged_bytes};
 ghost use Rattle.ots_journal.specs.Within.{StaysWithin};
 
@@ -57,26 +62,35 @@ impl<D: Disk> Model for Journal<D> {
 }
 
 impl<D: Disk> Journal<D> {
-    /// Opens a file as a journal. A file of at most 9 bytes becomes an empty one, whatever it
+    /// Opens a file as a journal. A file of at most `EMPTY_JOURNAL` bytes becomes an empty one, whatever it
     /// holds; a longer one is never written to.
     pub fn open(alloc: Global, disk: D, limit: u64) -> Result<Journal<D>, Refused<D>>
-        requires least { 9 ≤ limit }
-        requires most { limit ≤ 2 ^ 30 }
+        requires least { EMPTY_JOURNAL ≤ limit }
+        requires most { limit ≤ MAX_JOURNAL }
         ensures sure { IfOk result (λ j. (j.is_sure ≡ true) × (j.flight ≡ []) × (j.limit ≡ limit)) }
         ensures list { IfTold (D.bytes disk) (λ b. IfOk result (λ j. Stands b j.entries)) }
         ensures gate { IfTold (D.bytes disk) (λ b. IfOk result (λ j. IsGate b j.gate)) }
         ensures images { IfOk result (λ j. (c : List ℕ) → D.images j.disk c → Stands c j.entries) }
         ensures why { IfTold (D.bytes disk) (λ b. IfErr result (λ r. Refuses limit b r.why)) }
-        ensures full { IfTold (D.bytes disk) (λ b. limit < length b → MatchResult result (λ _. ⊥) (λ r. IsFullOrCause r.why)) }
-        ensures accepts { (entries : List Entry) → IfTold (D.bytes disk) (λ b. Stands b entries → IfErr result (λ r. IsOfBytes r.why → ⊥)) }
-        ensures stays_ok { IfTold (D.bytes disk) (λ b. 9 < length b → IfOk result (λ j. D.bytes j.disk ≡ Some b)) }
-        ensures stays_err { IfTold (D.bytes disk) (λ b. 9 < length b → IfErr result (λ r. D.bytes r.disk ≡ Some b)) }
-        ensures any_moment_ok { IfOk result (λ j. LeavesOnly D.clock D.images_since disk j.disk (OpenedFrom (D.images disk))) }
-        ensures any_moment_err { IfErr result (λ r. LeavesOnly D.clock D.images_since disk r.disk (OpenedFrom (D.images disk))) }
-        ensures stood_ok { ((c : List ℕ) → D.images disk c → (entries : List Entry) × Stands c entries) → IfOk result (λ j. LeavesOnly D.clock D.images_since disk j.disk (StoodFor (D.images disk))) }
-        ensures stood_err { ((c : List ℕ) → D.images disk c → (entries : List Entry) × Stands c entries) → IfErr result (λ r. LeavesOnly D.clock D.images_since disk r.disk (StoodFor (D.images disk))) }
+        ensures full { IfTold (D.bytes disk) (λ b. limit < length b
+            → MatchResult result (λ _. ⊥) (λ r. IsFullOrCause r.why)) }
+        ensures accepts { (entries : List Entry) → IfTold (D.bytes disk) (λ b. Stands b entries
+            → IfErr result (λ r. IsOfBytes r.why → ⊥)) }
+        ensures stays_ok { IfTold (D.bytes disk) (λ b. EMPTY_JOURNAL < length b
+            → IfOk result (λ j. D.bytes j.disk ≡ Some b)) }
+        ensures stays_err { IfTold (D.bytes disk) (λ b. EMPTY_JOURNAL < length b
+            → IfErr result (λ r. D.bytes r.disk ≡ Some b)) }
+        ensures any_moment_ok { IfOk result (λ j. LeavesOnly D.clock D.images_since disk j.disk
+            (OpenedFrom (D.images disk))) }
+        ensures any_moment_err { IfErr result (λ r. LeavesOnly D.clock D.images_since disk r.disk
+            (OpenedFrom (D.images disk))) }
+        ensures stood_ok { ((c : List ℕ) → D.images disk c → (entries : List Entry) × Stands c entries)
+            → IfOk result (λ j. LeavesOnly D.clock D.images_since disk j.disk (StoodFor (D.images disk))) }
+        ensures stood_err { ((c : List ℕ) → D.images disk c → (entries : List Entry) × Stands c entries)
+            → IfErr result (λ r. LeavesOnly D.clock D.images_since disk r.disk (StoodFor (D.images disk))) }
         ensures faults_ok { IfOk result (λ j. D.faults disk ≤ D.faults j.disk) }
-        ensures cause { IfErr result (λ r. HasCauseWhere (r.why ≡ JournalError.DiskFault) (D.faults disk) (D.faults r.disk)) }
+        ensures cause { IfErr result (λ r. HasCauseWhere (r.why ≡ JournalError.DiskFault) (D.faults disk)
+            (D.faults r.disk)) }
     {
         let mut disk = disk;
         match find_journal(alloc, &mut disk, limit) {
@@ -105,7 +119,7 @@ impl<D: Disk> Journal<D> {
         self.sure
     }
 
-    /// The place of the closed gate behind the acknowledged entries.
+    /// The place of the closed gate after the acknowledged entries.
     pub fn gate(&self) -> u64
         ensures { result ≡ self.now.gate }
     {
@@ -140,9 +154,13 @@ impl<D: Disk> Journal<D> {
     /// Makes room for at least so many entries with so many bytes of payloads, so that appending
     /// them takes no memory.
     pub fn reserve(&mut self, entries: usize, bytes: usize) -> Result<(), OutOfMemory>
-        ensures same { self.new ≡ record self.old { spare_entries = self.new.spare_entries; spare_bytes = self.new.spare_bytes } }
+        ensures same { self.new ≡ record self.old {
+          spare_entries = self.new.spare_entries;
+          spare_bytes = self.new.spare_bytes;
+        } }
         ensures ok { OnOk result ((entries ≤ self.new.spare_entries) × (bytes ≤ self.new.spare_bytes)) }
-        ensures more { (self.old.spare_entries ≤ self.new.spare_entries) × (self.old.spare_bytes ≤ self.new.spare_bytes) }
+        ensures more { (self.old.spare_entries ≤ self.new.spare_entries)
+            × (self.old.spare_bytes ≤ self.new.spare_bytes) }
         ensures enough { entries ≤ self.old.spare_entries → bytes ≤ self.old.spare_bytes → IsOk result }
         ensures err { OnErr result (self.new ≡ self.old) }
     {
@@ -153,7 +171,8 @@ impl<D: Disk> Journal<D> {
     pub fn refresh(&mut self) -> Result<(), DiskFault>
         ensures ok { OnOk result (Refreshed D.bytes self.old self.new) }
         ensures err { OnErr result (Unrefreshed D.bytes self.old self.new) }
-        ensures any_moment { LeavesOnly D.clock D.images_since self.old.disk self.new.disk (StandsForEither self.old.entries self.old.flight) }
+        ensures any_moment { LeavesOnly D.clock D.images_since self.old.disk self.new.disk
+            (StandsForEither self.old.entries self.old.flight) }
         ensures within { StaysWithin D.clock D.images_since self.old self.new }
         ensures cause { HasCause (D.faults self.old.disk) (D.faults self.new.disk) result }
     {
@@ -170,7 +189,7 @@ impl<D: Disk> Journal<D> {
         Ok(())
     }
 
-    /// Appends a group of 1 to 1024 entries, and answers the first new index. It begins with a
+    /// Appends a group of 1 to `MAX_GROUP` entries, and answers the first new index. It begins with a
     /// `refresh`. `DiskFault` leaves the journal unsure: the next `refresh` that answers `Ok`
     /// decides whether the whole group is kept. `Full` and `OutOfMemory` leave the list as the
     /// refresh left it.
@@ -181,7 +200,8 @@ impl<D: Disk> Journal<D> {
         ensures stands { StandsNow D.bytes D.images self.new }
         ensures within { StaysWithin D.clock D.images_since self.old self.new }
         ensures acknowledged { OnOk result ((c : List ℕ) → D.images self.new.disk c → Stands c self.new.entries) }
-        ensures cause { HasCauseWhere (IsErrOf result AppendError.DiskFault) (D.faults self.old.disk) (D.faults self.new.disk) }
+        ensures cause { HasCauseWhere (IsErrOf result AppendError.DiskFault) (D.faults self.old.disk)
+            (D.faults self.new.disk) }
     {
         if self.refresh().is_err() {
             self.stands();
@@ -194,14 +214,16 @@ impl<D: Disk> Journal<D> {
 
     /// Appends one entry, as a group of one, and answers its index.
     pub fn append(&mut self, kind: u8, payload: &[u8]) -> Result<u64, AppendError>
-        requires least { 44 ≤ length payload.now }
-        requires most { length payload.now ≤ 1048576 }
-        ensures appends { Appends D.bytes D.clock D.images_since self.old self.new ((record { kind = kind; payload = payload.now }) ∷ []) result }
+        requires least { MIN_ENTRY_PAYLOAD ≤ length payload.now }
+        requires most { length payload.now ≤ MAX_ENTRY_PAYLOAD }
+        ensures appends { Appends D.bytes D.clock D.images_since self.old self.new
+            ((record { kind = kind; payload = payload.now }) ∷ []) result }
         ensures room { UsesRoom self.old self.new ((record { kind = kind; payload = payload.now }) ∷ []) result }
         ensures stands { StandsNow D.bytes D.images self.new }
         ensures within { StaysWithin D.clock D.images_since self.old self.new }
         ensures acknowledged { OnOk result ((c : List ℕ) → D.images self.new.disk c → Stands c self.new.entries) }
-        ensures cause { HasCauseWhere (IsErrOf result AppendError.DiskFault) (D.faults self.old.disk) (D.faults self.new.disk) }
+        ensures cause { HasCauseWhere (IsErrOf result AppendError.DiskFault) (D.faults self.old.disk)
+            (D.faults self.new.disk) }
     {
         if self.refresh().is_err() {
             self.stands();
@@ -219,13 +241,14 @@ impl<D: Disk> Journal<D> {
         self.disk
     }
 
-    // Puts a group behind the gate of a sure journal.
+    /// Puts a group after the gate of a sure journal.
     fn put_group(&mut self, entries: &[Entry]) -> Result<u64, AppendError>
         requires sure { self.old.is_sure ≡ true }
         requires fits { FitsGroup entries.now }
         ensures puts { Puts D.clock D.images_since self.old self.new entries.now result }
         ensures within { StaysWithin D.clock D.images_since self.old self.new }
-        ensures cause { HasCauseWhere (IsErrOf result AppendError.DiskFault) (D.faults self.old.disk) (D.faults self.new.disk) }
+        ensures cause { HasCauseWhere (IsErrOf result AppendError.DiskFault) (D.faults self.old.disk)
+            (D.faults self.new.disk) }
     {
         let size = entries_size(entries);
         let bytes = payloads_size(entries) as usize;
@@ -243,14 +266,16 @@ impl<D: Disk> Journal<D> {
         settle(&mut self.disk, &mut self.stored, &mut self.sure)
     }
 
-    // The same for a group of one entry.
+    /// The same for a group of one entry.
     fn put_entry(&mut self, kind: u8, payload: &[u8]) -> Result<u64, AppendError>
         requires sure { self.old.is_sure ≡ true }
-        requires least { 44 ≤ length payload.now }
-        requires most { length payload.now ≤ 1048576 }
-        ensures puts { Puts D.clock D.images_since self.old self.new ((record { kind = kind; payload = payload.now }) ∷ []) result }
+        requires least { MIN_ENTRY_PAYLOAD ≤ length payload.now }
+        requires most { length payload.now ≤ MAX_ENTRY_PAYLOAD }
+        ensures puts { Puts D.clock D.images_since self.old self.new
+            ((record { kind = kind; payload = payload.now }) ∷ []) result }
         ensures within { StaysWithin D.clock D.images_since self.old self.new }
-        ensures cause { HasCauseWhere (IsErrOf result AppendError.DiskFault) (D.faults self.old.disk) (D.faults self.new.disk) }
+        ensures cause { HasCauseWhere (IsErrOf result AppendError.DiskFault) (D.faults self.old.disk)
+            (D.faults self.new.disk) }
     {
         let need = self.stored.size() as u64 + 13 + payload.len() as u64;
         if need > self.limit {
@@ -267,13 +292,14 @@ impl<D: Disk> Journal<D> {
     }
 }
 
-// Puts the staged group on the disk, and takes it in where that answers `Ok`.
+/// Puts the staged group on the disk, and takes it in where that answers `Ok`.
 fn settle<D: Disk>(disk: &mut D, stored: &mut Stored, sure: &mut bool) -> Result<u64, AppendError>
     requires sure { sure.old ≡ true }
     requires keeps { Keeps (D.images disk.old) stored.old.entries [] true stored.old.size }
     requires staged { stored.old.staged ≡ staged_bytes stored.old.flight }
     requires fits { FitsGroup stored.old.flight }
-    ensures any_moment { LeavesOnly D.clock D.images_since disk.old disk.new (StandsForEither stored.old.entries stored.old.flight) }
+    ensures any_moment { LeavesOnly D.clock D.images_since disk.old disk.new
+        (StandsForEither stored.old.entries stored.old.flight) }
     ensures within { (limit : ℕ) → size_with stored.old.size stored.old.flight ≤ limit
         → ((c : List ℕ) → D.images disk.old c → IsAtMost limit c)
         → LeavesOnly D.clock D.images_since disk.old disk.new (IsAtMost limit) }
@@ -282,7 +308,8 @@ fn settle<D: Disk>(disk: &mut D, stored: &mut Stored, sure: &mut bool) -> Result
     ensures err { IfErr result (λ e. e ≡ AppendError.DiskFault) }
     ensures err_same { OnErr result (stored.new ≡ stored.old) }
     ensures err_unsure { OnErr result (sure.new ≡ false) }
-    ensures err_keeps { OnErr result (Keeps (D.images disk.new) stored.old.entries stored.old.flight false stored.old.size) }
+    ensures err_keeps { OnErr result (Keeps (D.images disk.new) stored.old.entries stored.old.flight false
+        stored.old.size) }
     ensures cause { HasCause (D.faults disk.old) (D.faults disk.new) result }
 {
     match put_staged(disk, stored) {

@@ -10,12 +10,14 @@ ghost use Rattle.ots_journal.specs.declared.errors.JournalError.TheVariants as o
 
 /// Bytes that stand for a list are neither an old version, nor no journal, nor damaged.
 pub fn standing_is_not_refused()
-    ensures { (limit : ℕ) (bytes : List ℕ) (entries : List Entry) (e : JournalError) → Stands bytes entries → Refuses limit bytes e → IsOfBytes e → ⊥ }
+    ensures { (limit : ℕ) (bytes : List ℕ) (entries : List Entry) (e : JournalError) → Stands bytes entries
+        → Refuses limit bytes e → IsOfBytes e → ⊥ }
 {}
 
 /// Bytes within a limit are not refused with that limit as too many.
 pub fn within_is_not_full()
-    ensures { (limit : ℕ) (bytes : List ℕ) (need most : ℕ) → IsAtMost limit bytes → Refuses limit bytes (opening.Full need most) → ⊥ }
+    ensures { (limit : ℕ) (bytes : List ℕ) (need most : ℕ) → IsAtMost limit bytes
+        → Refuses limit bytes (opening.Full need most) → ⊥ }
 {}
 
 /// Bytes stand for one list at most.
@@ -30,10 +32,12 @@ pub fn one_gate()
 
 /// Bytes have one such refusal at most, and one damaged place.
 pub fn one_refusal()
-    ensures { (limit : ℕ) (bytes : List ℕ) (first second : JournalError) → Refuses limit bytes first → Refuses limit bytes second → IsOfBytes first → IsOfBytes second → first ≡ second }
+    ensures { (limit : ℕ) (bytes : List ℕ) (first second : JournalError) → Refuses limit bytes first
+        → Refuses limit bytes second → IsOfBytes first → IsOfBytes second → first ≡ second }
 {}
 
 /// Bytes stand for one list of version 1 at most.
 pub fn bytes_stand_once_1()
-    ensures { (bytes : List ℕ) (first second : List Entry) → Stands1 bytes first → Stands1 bytes second → first ≡ second }
+    ensures { (bytes : List ℕ) (first second : List Entry) → Stands1 bytes first → Stands1 bytes second
+        → first ≡ second }
 {}

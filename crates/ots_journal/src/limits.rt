@@ -10,7 +10,7 @@ pub const MAX_JOURNAL: u64 = 1_073_741_824;
 pub const MAX_GROUP: usize = 1024;
 
 /// The fewest bytes of an entry's payload.
-pub const MIN_PAYLOAD: usize = 44;
+pub const MIN_ENTRY_PAYLOAD: usize = 44;
 
 /// The most bytes of an entry's payload, 1 MiB.
-pub const MAX_PAYLOAD: usize = 1_048_576;
+pub const MAX_ENTRY_PAYLOAD: usize = 1_048_576;

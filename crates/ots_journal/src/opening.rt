@@ -1,7 +1,10 @@
-ghost use Rattle.std.specs.Prelude.{◌≡◌, ◌⊎◌, ◌<◌, ◌≤◌, ◌^◌, ℕ, List, [], length, true, Some, IfOk, IfErr, MatchResult, OnOk, IsErrOf};
+//! Opening a journal: its bytes are read once, and its file grown to a whole one where it is new.
+ghost use Rattle.std.specs.Prelude.{◌≡◌, ◌⊎◌, ◌<◌, ◌≤◌, ℕ, List, [], length, true, Some, IfOk, IfErr, MatchResult};
+ghost use Rattle.std.specs.Prelude.{OnOk, IsErrOf};
 ghost use Rattle.ots_base.specs.Cause.{HasCause, HasCauseWhere};
 ghost use Rattle.ots_base.specs.Told.{IfTold};
 ghost use Rattle.ots_disk.specs.Disk.{LeavesOnly};
+ghost use Rattle.ots_journal.specs.declared.limits.TheConstants.{MAX_JOURNAL};
 ghost use Rattle.ots_journal.specs.Image.{Stands};
 ghost use Rattle.ots_journal.specs.Journal.{IsAtMost, Keeps};
 ghost use Rattle.ots_journal.specs.Opening.{Refuses, OpenedFrom, IsFullOrCause, IsGate};
@@ -15,18 +18,18 @@ use ots_disk::Disk;
 use ots_outside::Failed;
 use std::alloc::Global;
 
-// The bytes of an empty journal: the magic and a closed gate.
+/// The bytes of an empty journal: the magic and a closed gate.
 const EMPTY: [u8; 9] = *b"OTSCAL\x02\n\0";
 
 /// What a journal holds, with a disk on which every image stands for it. It writes to a file of at
-/// most 9 bytes alone.
+/// most `EMPTY_JOURNAL` bytes alone.
 pub fn find_journal<D: Disk>(
     alloc: Global,
     disk: &mut D,
     limit: u64,
 ) -> Result<Stored, JournalError>
-    requires least { 9 ≤ limit }
-    requires most { limit ≤ 2 ^ 30 }
+    requires least { EMPTY_JOURNAL ≤ limit }
+    requires most { limit ≤ MAX_JOURNAL }
     ensures keeps { IfOk result (λ s. Keeps (D.images disk.new) s.entries s.flight true s.size) }
     ensures within { IfOk result (λ s. s.size < limit) }
     ensures at_most { OnOk result ((c : List ℕ) → D.images disk.new c → IsAtMost limit c) }
@@ -35,7 +38,7 @@ pub fn find_journal<D: Disk>(
     ensures gate { IfTold (D.bytes disk.old) (λ b. IfOk result (λ s. IsGate b s.size)) }
     ensures why { IfTold (D.bytes disk.old) (λ b. IfErr result (Refuses limit b)) }
     ensures full { IfTold (D.bytes disk.old) (λ b. limit < length b → MatchResult result (λ _. ⊥) IsFullOrCause) }
-    ensures stays { IfTold (D.bytes disk.old) (λ b. 9 < length b → D.bytes disk.new ≡ Some b) }
+    ensures stays { IfTold (D.bytes disk.old) (λ b. EMPTY_JOURNAL < length b → D.bytes disk.new ≡ Some b) }
     ensures any_moment { LeavesOnly D.clock D.images_since disk.old disk.new (OpenedFrom (D.images disk.old)) }
     ensures cause { HasCauseWhere (IsErrOf result JournalError.DiskFault) (D.faults disk.old) (D.faults disk.new) }
 {
@@ -57,7 +60,7 @@ pub fn find_journal<D: Disk>(
     Ok(Stored::of_file(bytes, found.places))
 }
 
-// The length, once all is durable.
+/// The length, once all is durable.
 fn settled_length<D: Disk>(disk: &mut D) -> Result<u64, Failed>
     ensures any_moment { LeavesOnly D.clock D.images_since disk.old disk.new (D.images disk.old) }
     ensures no_more { (c : List ℕ) → D.images disk.new c → D.images disk.old c }
@@ -70,15 +73,16 @@ fn settled_length<D: Disk>(disk: &mut D) -> Result<u64, Failed>
     Ok(disk.len()?)
 }
 
-// All the bytes of a file of this length, in one read. A disk that tells its bytes gives them all.
+/// All the bytes of a file of this length, in one read. A disk that tells its bytes gives them all.
 fn read_whole<D: Disk>(alloc: Global, disk: &mut D, count: usize) -> Result<Vec<u8>, JournalError>
-    requires { 9 < count }
+    requires { EMPTY_JOURNAL < count }
     ensures any_moment { LeavesOnly D.clock D.images_since disk.old disk.new (D.images disk.old) }
     ensures no_more { (c : List ℕ) → D.images disk.new c → D.images disk.old c }
     ensures same { D.bytes disk.new ≡ D.bytes disk.old }
     ensures size { IfOk result (λ bytes. length bytes.items ≡ count) }
     ensures bytes { IfTold (D.bytes disk.old) (λ b. length b ≡ count → IfOk result (λ bytes. bytes.items ≡ b)) }
-    ensures why { IfTold (D.bytes disk.old) (λ b. length b ≡ count → IfErr result (λ e. (e ≡ JournalError.DiskFault) ⊎ (e ≡ JournalError.OutOfMemory))) }
+    ensures why { IfTold (D.bytes disk.old) (λ b. length b ≡ count
+        → IfErr result (λ e. (e ≡ JournalError.DiskFault) ⊎ (e ≡ JournalError.OutOfMemory))) }
     ensures cause { HasCauseWhere (IsErrOf result JournalError.DiskFault) (D.faults disk.old) (D.faults disk.new) }
 {
     let mut bytes = zeros(alloc, count)?;

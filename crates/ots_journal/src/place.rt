@@ -1,3 +1,5 @@
+//! Where the payload of an entry stands.
+
 /// Where an entry lies in the bytes of a journal: its payload begins at `start`.
 #[derive(Clone, Copy)]
 pub struct Place {

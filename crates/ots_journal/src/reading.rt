@@ -1,27 +1,33 @@
-ghost use Rattle.std.specs.Prelude.{◌≡◌, ◌≤◌, ◌<◌, ◌+◌, ◌^◌, ◌++◌, List, ℕ, length, take, drop, true, false, IfOk, IfSome, IfNone, MatchOption};
+//! Reading one group, and one entry, from bytes.
+ghost use Rattle.std.specs.Prelude.{◌≡◌, ◌≤◌, ◌<◌, ◌+◌, ◌^◌, ◌++◌, List, ℕ, length, take, drop, true, false, IfOk};
+ghost use Rattle.std.specs.Prelude.{IfSome, IfNone, MatchOption};
 ghost use Rattle.std.specs.Int.{w16, w32, to_be_bytes};
 ghost use Rattle.std.specs.List.{AllByRecursion};
 ghost use Rattle.ots_journal.specs.declared.entry.Entry.{Entry};
+ghost use Rattle.ots_journal.specs.declared.limits.TheConstants.{MAX_JOURNAL};
 ghost use Rattle.ots_journal.specs.Image.{entries_bytes, FitsEntry};
 ghost use Rattle.ots_journal.specs.Opening.{HasGroup, ReadsGroup, ReadsEntries, ReadsEntry};
 ghost use Rattle.ots_journal.specs.Stored.{entries_at, EndsBy};
 
 use crate::place::Place;
-use crate::{MAX_GROUP, MAX_PAYLOAD, MIN_PAYLOAD};
+use crate::{MAX_ENTRY_PAYLOAD, MAX_GROUP, MIN_ENTRY_PAYLOAD};
 use ots_base::OutOfMemory;
 
-/// Reads a group's body from a place on, with one more byte behind it, and answers its size;
+/// Reads a group's body from a place on, with one more byte after it, and answers its size;
 /// `None` where there is none.
 pub fn read_group(
     places: &mut Vec<Place>,
     bytes: &[u8],
     from: usize,
 ) -> Result<Option<usize>, OutOfMemory>
-    requires most { length bytes.now ≤ 2 ^ 30 }
+    requires most { length bytes.now ≤ MAX_JOURNAL }
     requires there { from ≤ length bytes.now }
     requires within { AllByRecursion (EndsBy from) places.old.items }
-    ensures found { IfOk result (λ found. MatchOption found (HasGroup (drop from bytes.now) → ⊥) (ReadsGroup (drop from bytes.now) (entries_at bytes.now places.old.items) (entries_at bytes.now places.new.items))) }
-    ensures within { IfOk result (λ found. IfSome found (λ size. AllByRecursion (EndsBy (from + size)) places.new.items)) }
+    ensures found { IfOk result (λ found. MatchOption found (HasGroup (drop from bytes.now)
+        → ⊥) (ReadsGroup (drop from bytes.now) (entries_at bytes.now places.old.items)
+        (entries_at bytes.now places.new.items))) }
+    ensures within { IfOk result
+        (λ found. IfSome found (λ size. AllByRecursion (EndsBy (from + size)) places.new.items)) }
 {
     let Some((count, size, rest)) = split_head(&bytes[from..]) else {
         return Ok(None);
@@ -36,7 +42,7 @@ pub fn read_group(
     }
 }
 
-// The number of entries, the number of their bytes, and what stands behind these numbers.
+/// The number of entries, the number of their bytes, and what stands after these numbers.
 fn split_head(bytes: &[u8]) -> Option<(usize, usize, &[u8])>
     ensures count { IfSome result (λ r. r.0 < 2 ^ 16) }
     ensures size { IfSome result (λ r. r.1 < 2 ^ 32) }
@@ -51,7 +57,7 @@ fn split_head(bytes: &[u8]) -> Option<(usize, usize, &[u8])>
     Some((count, size, rest))
 }
 
-// Reads the entries that the bytes from a place on are, and says whether they are so many.
+/// Reads the entries that the bytes from a place on are, and says whether they are so many.
 fn read_entries(
     places: &mut Vec<Place>,
     bytes: &[u8],
@@ -59,11 +65,13 @@ fn read_entries(
     count: usize,
     entries: &[u8],
 ) -> Result<bool, OutOfMemory>
-    requires most { length bytes.now ≤ 2 ^ 30 }
+    requires most { length bytes.now ≤ MAX_JOURNAL }
     requires there { entries.now ≡ take (length entries.now) (drop from bytes.now) }
     requires within { AllByRecursion (EndsBy from) places.old.items }
-    ensures yes { IfOk result (λ found. found ≡ true → ReadsEntries entries.now (entries_at bytes.now places.old.items) (entries_at bytes.now places.new.items) count) }
-    ensures no { IfOk result (λ found. found ≡ false → (group : List Entry) → length group ≡ count → AllByRecursion FitsEntry group → entries.now ≡ entries_bytes group → ⊥) }
+    ensures yes { IfOk result (λ found. found ≡ true → ReadsEntries entries.now (entries_at bytes.now places.old.items)
+        (entries_at bytes.now places.new.items) count) }
+    ensures no { IfOk result (λ found. found ≡ false → (group : List Entry) → length group ≡ count
+        → AllByRecursion FitsEntry group → entries.now ≡ entries_bytes group → ⊥) }
     ensures within { IfOk result (λ found. AllByRecursion (EndsBy (from + length entries.now)) places.new.items) }
 {
     let mut rest = entries;
@@ -83,7 +91,7 @@ fn read_entries(
     Ok(rest.is_empty())
 }
 
-/// Splits an entry from the front of the bytes.
+/// Splits an entry from the start of the bytes.
 pub fn read_entry(bytes: &[u8]) -> Option<(u8, &[u8], &[u8])>
     ensures some { IfSome result (λ r. ReadsEntry bytes.now (record { kind = r.0; payload = r.1.now }) r.2.now) }
     ensures none { IfNone result ((entry : Entry) (rest : List ℕ) → ReadsEntry bytes.now entry rest → ⊥) }
@@ -92,7 +100,7 @@ pub fn read_entry(bytes: &[u8]) -> Option<(u8, &[u8], &[u8])>
         return None;
     };
     let size = u32::from_be_bytes([*s1, *s2, *s3, *s4]) as usize;
-    if size < MIN_PAYLOAD || size > MAX_PAYLOAD || size > rest.len() {
+    if size < MIN_ENTRY_PAYLOAD || size > MAX_ENTRY_PAYLOAD || size > rest.len() {
         return None;
     }
     Some((*kind, &rest[..size], &rest[size..]))

@@ -11,7 +11,7 @@ use crate::place::Place;
 /// The gate of a group that counts.
 pub const OPEN_GATE: u8 = 0xa5;
 
-/// A gate behind which nothing counts. Any byte but `a5` is one.
+/// A gate after which nothing counts. Any byte but `a5` is one.
 pub const CLOSED_GATE: u8 = 0;
 
 /// The number of bytes of a group's entries.
@@ -57,7 +57,11 @@ pub fn add_entry(file: &mut Vec<u8>, places: &mut Vec<Place>, kind: u8, payload:
     requires places_room { length places.old.items < vec_capacity places.old }
     requires fits { length file.old.items + 5 + length payload.now < 2 ^ 32 }
     ensures bytes { file.new.items ≡ file.old.items ++ entry_bytes (record { kind = kind; payload = payload.now }) }
-    ensures places { places.new.items ≡ places.old.items ++ (record { kind = kind; start = length file.old.items + 5; length = length payload.now }) ∷ [] }
+    ensures places { places.new.items ≡ places.old.items ++ (record {
+      kind = kind;
+      start = length file.old.items + 5;
+      length = length payload.now;
+    }) ∷ [] }
     ensures file_room { vec_capacity file.old ≤ vec_capacity file.new }
     ensures places_room { vec_capacity places.old ≤ vec_capacity places.new }
 {

@@ -1,4 +1,6 @@
-ghost use Rattle.std.specs.Prelude.{◌≡◌, ◌≤◌, ◌<◌, ◌+◌, ◌*◌, ◌^◌, [], ◌∷◌, ◌++◌, length, take, drop, min, slice_get, Some, IsOk, IfOk, OnOk, OnErr};
+//! What a journal keeps in memory of what its disk holds.
+ghost use Rattle.std.specs.Prelude.{◌≡◌, ◌≤◌, ◌<◌, ◌+◌, ◌*◌, ◌^◌, [], ◌∷◌, ◌++◌, length, take, drop, min, slice_get};
+ghost use Rattle.std.specs.Prelude.{Some, IsOk, IfOk, OnOk, OnErr};
 ghost use Rattle.std.specs.List.{AllByRecursion};
 ghost use Rattle.ots_journal.specs.Image.{entries_bytes, payload_bytes, group_body, FitsGroup, FitsEntry};
 ghost use Rattle.ots_journal.specs.Stored.{StoredTold, entries_at, EndsBy, staged_bytes, IsReserved, Stages};
@@ -9,7 +11,7 @@ use crate::spelling::{CLOSED_GATE, add_entries, add_entry, add_head};
 use ots_base::OutOfMemory;
 use std::marker::Model;
 
-/// The entries of a journal in memory, in bytes as the file has them, and behind them at most one
+/// The entries of a journal in memory, in bytes as the file has them, and after them at most one
 /// group that is staged.
 #[derive(Drop)]
 pub struct Stored {
@@ -86,7 +88,7 @@ impl Stored {
         (place.kind, &self.file[start..start + place.length as usize])
     }
 
-    /// What stands behind the gate of the staged group, with the next gate.
+    /// What stands after the gate of the staged group, with the next gate.
     pub fn body(&self) -> &[u8]
         requires { self.now.staged ≡ staged_bytes self.now.flight }
         ensures { result.now ≡ group_body self.now.flight ++ 0 ∷ [] }
@@ -94,11 +96,12 @@ impl Stored {
         &self.file[self.mark + 1..]
     }
 
-    /// Makes room for at least so many entries, and bytes of payloads, behind those that are there.
+    /// Makes room for at least so many entries, and bytes of payloads, after those that are there.
     pub fn reserve(&mut self, entries: usize, bytes: usize) -> Result<(), OutOfMemory>
         ensures ok { OnOk result (IsReserved self.old self.new entries bytes) }
         ensures err { OnErr result (self.new ≡ self.old) }
-        ensures enough { entries ≤ self.old.spare_entries → bytes ≤ self.old.spare_bytes → IsOk result × (self.new ≡ self.old) }
+        ensures enough { entries ≤ self.old.spare_entries → bytes ≤ self.old.spare_bytes
+            → IsOk result × (self.new ≡ self.old) }
     {
         if entries <= self.spare_entries && bytes <= self.spare_bytes {
             return Ok(());
@@ -179,8 +182,8 @@ impl Stored {
     }
 }
 
-// The bytes that so many entries with so many bytes of payloads take at most, each in a group of
-// its own: two gates, the two numbers of the group, a kind and a length beside the payload.
+/// The bytes that so many entries with so many bytes of payloads take at most, each in a group of
+/// its own: two gates, the two numbers of the group, a kind and a length beside the payload.
 fn room_in_file(entries: usize, bytes: usize) -> Result<usize, OutOfMemory>
     ensures { IfOk result (λ room. room ≡ 13 * entries + bytes) }
 {

@@ -1,9 +1,9 @@
 -- The line of one item more.
-use Rattle.std.proofs.Common.{◌≡◌, ℕ, zero, suc, ◌+◌, ◌<◌, List, [], ◌∷◌, ◌++◌, length, get_or, take, zip, Some, refl, sym, ap, ◌∙◌, append-nil, add-one, min, arith}
+use Rattle.std.proofs.Common.{◌≡◌, ℕ, zero, suc, ◌+◌, ◌<◌, List, [], ◌∷◌, ◌++◌, length, get_or, take, zip, refl, sym, ap, ◌∙◌, append-nil, add-one, min, arith}
 use Rattle.std.proofs.lemmas.Slice.Zip.{length-zip}
 use Rattle.std.proofs.Math.Seq.{take-suc}
 use Rattle.std.proofs.lemmas.List.Concat.{flat_map-append}
-use Rattle.std.specs.List.{flat_map, slice_get}
+use Rattle.std.specs.List.{flat_map}
 
 pub one_more : {A : Type 0} (f : A → List ℕ) (xs : List A) (i : ℕ) (x : A) → i < length xs → x ≡ get_or xs i x
     → flat_map f (take i xs) ++ f x ≡ flat_map f (take (i + 1) xs)
@@ -31,8 +31,3 @@ module _ {A B : Type 0} where
       → p.0 ≡ get_or xs i p.0 → p.1 ≡ get_or ys i p.1 → flat_map f (take i (zip xs ys)) ++ f p ≡ flat_map f (take (i + 1) (zip xs ys))
   one_pair_more f xs ys i p same in_range first second =
       let all = zip_length xs ys same in one_more f (zip xs ys) i p (omega (arith, all)) (zip_at xs ys i p same in_range first second)
-
-pub there : {X : Type 0} (xs : List X) (i : ℕ) → i < length xs → (x : X) × (slice_get xs i ≡ Some x)
-there [] i less = absurd (omega arith)
-there (x ∷ xs) zero less = (x, refl)
-there (x ∷ xs) (suc i) less = there xs i (omega arith)

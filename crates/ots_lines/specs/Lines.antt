@@ -1,11 +1,13 @@
 -- What is printed of conversations with calendars: a line for each, which ends in LF.
 use Rattle.std.specs.Prelude.{ℕ, List, ◌++◌, Option, None, Some, codes, decimal}
 use Rattle.ots_address.specs.Address.{AddressParts}
-use Rattle.ots_info.specs.Listing.{line, or_dash}
+use Rattle.ots_info.specs.Listing.{or_dash}
 use Rattle.ots_reader.specs.Printed.{printed}
-use Rattle.ots_upgrade.specs.Asked.{AskedAt}
+use Rattle.ots_upgrade.specs.declared.asking.AskedAt.{AskedAt}
 use Rattle.ots_upgrade.specs.declared.outcome.Outcome.{Outcome}
-use Rattle.ots_upgrade.specs.declared.outcome.Outcome.TheVariants.{Tree, Unreachable, Status, TooLong, BadHttp, BadReply}
+use Rattle.ots_upgrade.specs.declared.outcome.Outcome.TheVariants.{Tree, Unreachable, Status, TooLong, BadHttp}
+use Rattle.ots_upgrade.specs.declared.outcome.Outcome.TheVariants.{BadReply}
+use Rattle.ots_outputs.specs.Lines.{line}
 
 -- what came of asking a calendar
 abbrev pub outcome_words : Outcome → List ℕ

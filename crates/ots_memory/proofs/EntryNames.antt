@@ -37,7 +37,7 @@ bytes_at-is [] i e in_range is = absurd (omega arith)
 bytes_at-is (y ∷ es) zero e in_range is = ap (λ (e : Entry). e.bytes.items) (sym is)
 bytes_at-is (y ∷ es) (suc i) e in_range is = bytes_at-is es i e (omega arith) is
 
--- ---- a name that is sought from the front
+-- ---- a name that is sought from the start
 
 found_from : (q : List ℕ) (es : List Entry) (i : ℕ) → i < length es
     → found_in q (drop i es) ≡ cond (is_name q (name_at es i)) (Some (bytes_at es i)) (found_in q (drop (suc i) es))

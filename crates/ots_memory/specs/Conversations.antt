@@ -1,5 +1,6 @@
 -- How a dialer in memory holds its conversations.
-use Rattle.std.specs.Prelude.{◌≡◌, ◌<◌, ◌≤◌, ◌+◌, ◌^◌, ℕ, List, [], ◌∷◌, ◌++◌, All, length, map, Option, Some, None, Vec, vec_capacity, string_bytes, slice_index_or}
+use Rattle.std.specs.Prelude.{◌≡◌, ◌<◌, ◌≤◌, ◌+◌, ◌^◌, ℕ, List, [], ◌∷◌, ◌++◌, All, length, map, Option, Some, None}
+use Rattle.std.specs.Prelude.{Vec, vec_capacity, string_bytes, slice_index_or}
 use Rattle.std.specs.declared.alloc.Global.{Global}
 use Rattle.ots_memory.specs.Calls.{CallsTold}
 use Rattle.ots_outside.specs.Dialer.{Connection, ReplyTold, Sent, unconnected, connected}
@@ -13,7 +14,11 @@ use Rattle.ots_memory.specs.declared.entries.Entry.{Entry}
 
 -- What was sent in a conversation, and to whom.
 abbrev pub sent_in : Conversation → Sent
-sent_in conversation = record { host = string_bytes conversation.host; port = conversation.port; bytes = conversation.sent.items }
+sent_in conversation = record {
+  host = string_bytes conversation.host;
+  port = conversation.port;
+  bytes = conversation.sent.items;
+}
 
 -- The reply of a conversation, until it is closed.
 abbrev pub reply_in : Conversation → Option ReplyTold
@@ -47,7 +52,8 @@ pub record KeepsWithin (bytes : ℕ) (conversation : Conversation) : Type 0 wher
   pub bytes_room : bytes ≤ vec_capacity conversation.sent
 
 -- There is memory for the room that is left.
-pub record HasDialerMemory (conversations : Vec Conversation Global) (spare : Vec Entry Global) (room : DialerRoom) : Type 0 where
+pub record HasDialerMemory (conversations : Vec Conversation Global) (spare : Vec Entry Global)
+    (room : DialerRoom) : Type 0 where
   pub all_within : All (KeepsWithin room.bytes) conversations.items
   pub all_spare : All (IsSpare room.host_length room.bytes) spare.items
   pub spare_left : length spare.items ≡ room.conversations
@@ -55,7 +61,8 @@ pub record HasDialerMemory (conversations : Vec Conversation Global) (spare : Ve
   pub numbers_fit : length conversations.items + room.conversations < 2 ^ 32
 
 -- A conversation was added with this host, port and reply, in which nothing is sent yet.
-pub record AddsConversation (old new : List Conversation) (host : List ℕ) (port : ℕ) (reply : ReplyTold) (most : ℕ) : Type 0 where
+pub record AddsConversation (old new : List Conversation) (host : List ℕ) (port : ℕ) (reply : ReplyTold)
+    (most : ℕ) : Type 0 where
   pub conversation : Conversation
   pub added : new ≡ old ++ conversation ∷ []
   pub sent : sent_in conversation ≡ record { host = host; port = port; bytes = [] }

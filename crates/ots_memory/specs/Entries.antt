@@ -1,5 +1,6 @@
 -- How a shelf in memory holds its names and slots.
-use Rattle.std.specs.Prelude.{◌≡◌, ◌<◌, ◌≤◌, ◌+◌, ◌^◌, ℕ, zero, suc, List, [], ◌∷◌, ◌++◌, All, length, take, drop, map as map_list, Some, Vec, vec_capacity, string_bytes, slice_index, slice_index_or}
+use Rattle.std.specs.Prelude.{◌≡◌, ◌<◌, ◌≤◌, ◌+◌, ◌^◌, ℕ, zero, suc, List, [], ◌∷◌, ◌++◌, All, length, take, drop}
+use Rattle.std.specs.Prelude.{map as map_list, Some, Vec, vec_capacity, string_bytes, slice_index, slice_index_or}
 use Rattle.std.specs.String.{string_capacity}
 use Rattle.std.specs.FinMap as map
 use Rattle.std.specs.declared.alloc.Global.{Global}
@@ -99,7 +100,8 @@ pub record IsWithin (bytes : ℕ) (entry : Entry) : Type 0 where
   pub bytes_room : bytes ≤ vec_capacity entry.bytes
 
 -- There is memory for the room that is left.
-pub record HasMemory (entries spare : Vec Entry Global) (states : Vec SlotState Global) (opened_places : Vec ℕ Global) (room : ShelfRoom) : Type 0 where
+pub record HasMemory (entries spare : Vec Entry Global) (states : Vec SlotState Global) (opened_places : Vec ℕ Global)
+    (room : ShelfRoom) : Type 0 where
   pub all_within : All (IsWithin room.bytes) entries.items
   pub all_spare : All (IsSpare room.name_length room.bytes) spare.items
   pub names_left : length spare.items ≡ room.names

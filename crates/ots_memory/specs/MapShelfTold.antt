@@ -1,5 +1,6 @@
 -- What a shelf in memory tells, and what its calls answer.
-use Rattle.std.specs.Prelude.{ℕ, ◌+◌, ◌-◌, Bool, ◌||◌, ◌==◌, nat_lt, List, [], ◌∷◌, length, Option, Some, Result, Ok, Err, is_none, is_some, unwrap_or}
+use Rattle.std.specs.Prelude.{ℕ, ◌+◌, ◌-◌, Bool, ◌||◌, ◌==◌, nat_lt, List, [], ◌∷◌, length, Option, Some, Result, Ok}
+use Rattle.std.specs.Prelude.{Err, is_none, is_some, unwrap_or}
 use Rattle.std.specs.FinMap as map
 use Rattle.ots_base.specs.Cause.{one_more}
 use Rattle.ots_base.specs.Table.{line, first_line}
@@ -36,7 +37,8 @@ shelf_told shelf = record { names = Some shelf.names; opened = Some shelf.opened
 
 -- Whether there is no room for a new name with these bytes.
 abbrev pub is_name_refused : ShelfRoom → List ℕ → List ℕ → Bool
-is_name_refused room name bytes = room.names == 0 || nat_lt room.name_length (length name) || nat_lt room.bytes (length bytes)
+is_name_refused room name bytes = room.names == 0 || nat_lt room.name_length (length name)
+    || nat_lt room.bytes (length bytes)
 
 -- The room after a slot was taken.
 abbrev pub with_slot_less : ShelfRoom → ShelfRoom
@@ -72,7 +74,8 @@ put_refusal shelf name bytes = first_line (
 -- Whether a write of this piece to this name fails.
 abbrev pub is_append_refused : MapShelfTold → List ℕ → List ℕ → Bool
 is_append_refused shelf name piece =
-    is_next_listed shelf.calls || nat_lt shelf.room.bytes (length (unwrap_or (map.get shelf.names name) []) + length piece)
+    is_next_listed shelf.calls
+    || nat_lt shelf.room.bytes (length (unwrap_or (map.get shelf.names name) []) + length piece)
 
 -- ---- after a call
 

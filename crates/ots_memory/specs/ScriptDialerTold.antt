@@ -31,7 +31,8 @@ dialer_told dialer = record { replies = Some dialer.replies; sent = Some dialer.
 -- Why a `connect` to this host is refused, where it is.
 abbrev pub connect_refusal : ScriptDialerTold → List ℕ → Option DialError
 connect_refusal dialer host =
-    line (is_next_listed dialer.calls || dialer.room.conversations == 0 || nat_lt dialer.room.host_length (length host)) dialing.Failed
+    line (is_next_listed dialer.calls || dialer.room.conversations == 0 || nat_lt dialer.room.host_length (length host))
+    dialing.Failed
 
 -- Whether a write of this piece to the entry at this place fails.
 abbrev pub is_send_refused : ScriptDialerTold → ℕ → List ℕ → Bool

@@ -1,6 +1,6 @@
 ghost use Rattle.std.specs.Prelude.{◌≡◌, ◌≤◌, ◌+◌, ◌||◌, false, nat_lt};
 
-/// Whether a write of so many bytes more fails, behind so many that are held: its number is listed
+/// Whether a write of so many bytes more fails, after so many that are held: its number is listed
 /// to fail, or it passes the capacity.
 pub fn is_append_refused(listed: bool, capacity: usize, held: usize, more: usize) -> bool
     requires { held ≤ capacity }

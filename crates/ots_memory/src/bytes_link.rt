@@ -125,7 +125,8 @@ impl Link for BytesLink {
         ensures bytes { LinkWrites (Some self.old.link) (Some self.new.link) result piece.now }
         ensures cause { HasCause self.old.faults self.new.faults result }
         ensures same { Unit {0} }
-        ensures failed { is_err result ≡ (is_next_listed self.old.calls || is_past self.old.link.taken self.old.capacity piece.now) }
+        ensures failed { is_err result ≡ (is_next_listed self.old.calls
+            || is_past self.old.link.taken self.old.capacity piece.now) }
         ensures count { IfOk result (λ count. count ≡ length piece.now) }
         ensures pieces { self.new.pieces ≡ self.old.pieces }
         ensures capacity { self.new.capacity ≡ self.old.capacity }

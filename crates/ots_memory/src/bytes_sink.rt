@@ -75,7 +75,8 @@ impl Sink for BytesSink {
         ensures bytes { Writes (Some self.old.taken) (Some self.new.taken) result piece.now }
         ensures cause { HasCause self.old.faults self.new.faults result }
         ensures same { Unit {0} }
-        ensures failed { is_err result ≡ (is_next_listed self.old.calls || is_past self.old.taken self.old.capacity piece.now) }
+        ensures failed { is_err result ≡ (is_next_listed self.old.calls
+            || is_past self.old.taken self.old.capacity piece.now) }
         ensures count { IfOk result (λ count. count ≡ length piece.now) }
         ensures capacity { self.new.capacity ≡ self.old.capacity }
         ensures calls { self.new.calls ≡ after_call self.old.calls }

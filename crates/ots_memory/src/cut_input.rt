@@ -4,7 +4,7 @@ ghost use Rattle.ots_memory.specs.Cut.{read_count};
 use crate::input::Input;
 use std::marker::Model;
 
-/// Bytes that are read once, from their front, in pieces. The read of number i gives at most
+/// Bytes that are read once, from their start, in pieces. The read of number i gives at most
 /// `pieces[i]` bytes, and at least one if it can; once the list has ended, a read gives all that
 /// its buffer holds.
 #[derive(Drop)]
@@ -49,7 +49,7 @@ impl CutInput {
         self.input.given()
     }
 
-    /// Puts the next bytes at the front of `buf`, and answers how many.
+    /// Puts the next bytes at the start of `buf`, and answers how many.
     pub fn read(&mut self, buf: &mut [u8]) -> usize
         ensures count { result ≡ read_count self.old.left self.old.pieces (length buf.old) }
         ensures left { self.old.left ≡ take result buf.new ++ self.new.left }

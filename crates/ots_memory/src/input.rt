@@ -3,7 +3,7 @@ ghost use Rattle.ots_outside.specs.Dialer.{ReplyTold, ReplyGives};
 
 use std::marker::Model;
 
-/// Bytes that are read once, from their front, as a reply is.
+/// Bytes that are read once, from their start, as a reply is.
 #[derive(Drop)]
 pub struct Input {
     bytes: Vec<u8>,
@@ -43,7 +43,7 @@ impl Input {
         &self.bytes[..self.place]
     }
 
-    /// Puts the next bytes at the front of `buf`, as many as there are and fit, and answers how
+    /// Puts the next bytes at the start of `buf`, as many as there are and fit, and answers how
     /// many.
     pub fn read(&mut self, buf: &mut [u8]) -> usize
         ensures count { result ≡ min (length self.old.left) (length buf.old) }

@@ -1,4 +1,5 @@
-ghost use Rattle.std.specs.Prelude.{◌≡◌, ◌++◌, ◌∷◌, ◌-◌, ◌&&◌, List, [], true, nat_lt, length, All, Some, IfOk, is_err, if◌then◌else◌};
+ghost use Rattle.std.specs.Prelude.{◌≡◌, ◌++◌, ◌∷◌, ◌-◌, ◌&&◌, List, [], true, nat_lt, length, All, Some, IfOk, is_err};
+ghost use Rattle.std.specs.Prelude.{if◌then◌else◌};
 ghost use Rattle.std.specs.declared.option.Option.{Option};
 ghost use Rattle.ots_base.specs.Cause.{HasCause};
 ghost use Rattle.ots_memory.specs.Calls.{is_next_listed, after_call, faults_after};
@@ -46,7 +47,8 @@ impl<L: Link + Drop> Model for ListAccepter<L> {
       faults = s.faults;
     } };
 
-    ghost invariant = { λ s. All (λ link. IsFresh (L.told link) (L.faults link)) s.coming.items × (length s.kept.items + s.room ≤ vec_capacity s.kept) };
+    ghost invariant = { λ s. All (λ link. IsFresh (L.told link) (L.faults link)) s.coming.items
+        × (length s.kept.items + s.room ≤ vec_capacity s.kept) };
 }
 
 impl<L: Link + Drop> ListAccepter<L> {

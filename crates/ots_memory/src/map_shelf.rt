@@ -1,4 +1,5 @@
-ghost use Rattle.std.specs.Prelude.{◌≡◌, ◌<◌, ℕ, [], length, min, Option, Some, None, IsTrue, is_err, IsErrOf, IfOk, OnErr, MatchOption, is_ok, if◌then◌else◌, unwrap_or};
+ghost use Rattle.std.specs.Prelude.{◌≡◌, ◌<◌, ℕ, [], length, min, Option, Some, None, IsTrue, is_err, IsErrOf, IfOk};
+ghost use Rattle.std.specs.Prelude.{OnErr, MatchOption, is_ok, if◌then◌else◌, unwrap_or};
 ghost use Rattle.std.specs.FinMap as map;
 ghost use Rattle.std.specs.Io.{ReadsAtMost, WritesAtMost};
 ghost use Rattle.std.specs.Result.{result_err};
@@ -7,7 +8,9 @@ ghost use Rattle.ots_memory.specs.Calls.{is_next_listed, after_call, faults_afte
 ghost use Rattle.ots_memory.specs.Entries.{IsConsistent, HasMemory};
 ghost use Rattle.ots_memory.specs.MapShelfTold.{is_name_refused as refused_name};
 ghost use Rattle.ots_outside.specs.Streams.{Reads};
-ghost use Rattle.ots_outside.specs.Shelf.{closed, OnlyOpening, OnlyReading, OnlyWriting, is_reading, is_writing, left_of, name_of, SameButSlot, SameButNames, Stays, Opens, OpensWhere, Creates, CreatesWhere, WritesTo};
+ghost use Rattle.ots_outside.specs.Shelf.{closed, OnlyOpening, OnlyReading, OnlyWriting, is_reading, is_writing};
+ghost use Rattle.ots_outside.specs.Shelf.{left_of, name_of, SameButSlot, SameButNames, Stays, Opens, OpensWhere};
+ghost use Rattle.ots_outside.specs.Shelf.{Creates, CreatesWhere, WritesTo};
 
 use crate::append::is_append_refused;
 use crate::calls::Calls;
@@ -49,7 +52,8 @@ impl MapShelf {
         ensures slots { IfOk result (λ shelf. (k : ℕ) → (tells shelf).slots k ≡ closed) }
         ensures room { IfOk result (λ shelf. (tells shelf).room ≡ room) }
         ensures calls { IfOk result (λ shelf. (tells shelf).calls ≡ record { failing = failing.now; made = 0 }) }
-        ensures faults { IfOk result (λ shelf. (tells shelf).faults ≡ record { opening = 0; reading = 0; writing = 0 }) }
+        ensures faults { IfOk result (λ shelf. (tells shelf).faults
+            ≡ record { opening = 0; reading = 0; writing = 0 }) }
     {
         Ok(MapShelf {
             entries: Vec::with_capacity(alloc, room.names)?,
@@ -68,10 +72,12 @@ impl MapShelf {
     /// counted, and takes no slot.
     pub fn put(&mut self, name: &str, bytes: &[u8]) -> Result<(), PutError>
         ensures refusal { result_err result ≡ put_refusal (tells self.old) name.now bytes.now }
-        ensures names { (tells self.new).names ≡ (if is_ok result then map.insert (tells self.old).names name.now bytes.now else (tells self.old).names) }
+        ensures names { (tells self.new).names ≡ (if is_ok result
+            then map.insert (tells self.old).names name.now bytes.now else (tells self.old).names) }
         ensures opened { (tells self.new).opened ≡ (tells self.old).opened }
         ensures slots { (k : ℕ) → (tells self.new).slots k ≡ (tells self.old).slots k }
-        ensures room { (tells self.new).room ≡ (if is_ok result then with_name_less (tells self.old).room else (tells self.old).room) }
+        ensures room { (tells self.new).room ≡ (if is_ok result then with_name_less (tells self.old).room
+            else (tells self.old).room) }
         ensures calls { (tells self.new).calls ≡ (tells self.old).calls }
         ensures faults { (tells self.new).faults ≡ (tells self.old).faults }
     {
@@ -88,7 +94,8 @@ impl MapShelf {
 
     /// The bytes that a name holds, where it is there.
     pub fn bytes_of(&self, name: &str) -> Option<&[u8]>
-        ensures { MatchOption result (map.get (tells self.now).names name.now ≡ None) (λ bytes. map.get (tells self.now).names name.now ≡ Some bytes.now) }
+        ensures { MatchOption result (map.get (tells self.now).names name.now ≡ None)
+            (λ bytes. map.get (tells self.now).names name.now ≡ Some bytes.now) }
     {
         let entry = find_entry(&self.entries, name)?;
         Some(&self.entries[entry].bytes)
@@ -97,21 +104,27 @@ impl MapShelf {
 
 impl Shelf for MapShelf {
     ghost use Rattle.ots_memory.specs.MapShelf.{tells};
-    ghost use Rattle.ots_memory.specs.MapShelfTold.{shelf_told, open_refusal, create_refusal, is_append_refused, with_slot_less, with_name_less, faults_after_open, faults_after_create};
+    ghost use Rattle.ots_memory.specs.MapShelfTold.{shelf_told, open_refusal, create_refusal, is_append_refused};
+    ghost use Rattle.ots_memory.specs.MapShelfTold.{with_slot_less, with_name_less, faults_after_open};
+    ghost use Rattle.ots_memory.specs.MapShelfTold.{faults_after_create};
 
     ghost told = { λ s. shelf_told (tells s) };
 
     ghost faults = { λ s. (tells s).faults };
 
     fn open(&mut self, name: &str) -> Result<Slot, OpenError>
-        ensures ok { IfOk result (λ slot. Opens name.now slot.0 (shelf_told (tells self.old)) (shelf_told (tells self.new))) }
+        ensures ok { IfOk result (λ slot. Opens name.now slot.0 (shelf_told (tells self.old))
+            (shelf_told (tells self.new))) }
         ensures err { OnErr result (Stays (shelf_told (tells self.old)) (shelf_told (tells self.new))) }
         ensures not_there { OpensWhere (map.get (tells self.old).names name.now) result }
-        ensures cause { HasCauseWhere (IsErrOf result OpenError.Failed) (tells self.old).faults.opening (tells self.new).faults.opening }
+        ensures cause { HasCauseWhere (IsErrOf result OpenError.Failed) (tells self.old).faults.opening
+            (tells self.new).faults.opening }
         ensures counts { OnlyOpening (tells self.old).faults (tells self.new).faults }
-        ensures short { CountsWhere (IsErrOf result OpenError.OutOfMemory) (shelf_told (tells self.old)).short (shelf_told (tells self.new)).short }
+        ensures short { CountsWhere (IsErrOf result OpenError.OutOfMemory) (shelf_told (tells self.old)).short
+            (shelf_told (tells self.new)).short }
         ensures refusal { result_err result ≡ open_refusal (tells self.old) name.now }
-        ensures room { (tells self.new).room ≡ (if is_ok result then with_slot_less (tells self.old).room else (tells self.old).room) }
+        ensures room { (tells self.new).room ≡ (if is_ok result then with_slot_less (tells self.old).room
+            else (tells self.old).room) }
         ensures calls { (tells self.new).calls ≡ after_call (tells self.old).calls }
         ensures faults { (tells self.new).faults.opening ≡ faults_after_open (tells self.old).faults.opening result }
     {
@@ -136,13 +149,15 @@ impl Shelf for MapShelf {
     fn read(&mut self, slot: Slot, buf: &mut [u8]) -> Result<usize, Failed>
         requires { IsTrue (is_reading ((tells self.old).slots slot.0)) }
         ensures bound { ReadsAtMost result buf.new }
-        ensures bytes { Reads (left_of ((tells self.old).slots slot.0)) (left_of ((tells self.new).slots slot.0)) result buf.new }
+        ensures bytes { Reads (left_of ((tells self.old).slots slot.0)) (left_of ((tells self.new).slots slot.0)) result
+            buf.new }
         ensures cause { HasCause (tells self.old).faults.reading (tells self.new).faults.reading result }
         ensures counts { OnlyReading (tells self.old).faults (tells self.new).faults }
         ensures open { IsTrue (is_reading ((tells self.new).slots slot.0)) }
         ensures others { SameButSlot slot.0 (shelf_told (tells self.old)) (shelf_told (tells self.new)) }
         ensures failed { is_err result ≡ is_next_listed (tells self.old).calls }
-        ensures count { IfOk result (λ count. count ≡ min (length (unwrap_or (left_of ((tells self.old).slots slot.0)) [])) (length buf.old)) }
+        ensures count { IfOk result
+            (λ count. count ≡ min (length (unwrap_or (left_of ((tells self.old).slots slot.0)) [])) (length buf.old)) }
         ensures room { (tells self.new).room ≡ (tells self.old).room }
         ensures calls { (tells self.new).calls ≡ after_call (tells self.old).calls }
         ensures faults { (tells self.new).faults.reading ≡ faults_after (tells self.old).faults.reading result }
@@ -165,14 +180,18 @@ impl Shelf for MapShelf {
     }
 
     fn create(&mut self, name: &str) -> Result<Slot, CreateError>
-        ensures ok { IfOk result (λ slot. Creates name.now slot.0 (shelf_told (tells self.old)) (shelf_told (tells self.new))) }
+        ensures ok { IfOk result (λ slot. Creates name.now slot.0 (shelf_told (tells self.old))
+            (shelf_told (tells self.new))) }
         ensures err { OnErr result (Stays (shelf_told (tells self.old)) (shelf_told (tells self.new))) }
         ensures exists { CreatesWhere (map.get (tells self.old).names name.now) result }
-        ensures cause { HasCauseWhere (IsErrOf result CreateError.Failed) (tells self.old).faults.writing (tells self.new).faults.writing }
+        ensures cause { HasCauseWhere (IsErrOf result CreateError.Failed) (tells self.old).faults.writing
+            (tells self.new).faults.writing }
         ensures counts { OnlyWriting (tells self.old).faults (tells self.new).faults }
-        ensures short { CountsWhere (IsErrOf result CreateError.OutOfMemory) (shelf_told (tells self.old)).short (shelf_told (tells self.new)).short }
+        ensures short { CountsWhere (IsErrOf result CreateError.OutOfMemory) (shelf_told (tells self.old)).short
+            (shelf_told (tells self.new)).short }
         ensures refusal { result_err result ≡ create_refusal (tells self.old) name.now }
-        ensures room { (tells self.new).room ≡ (if is_ok result then with_slot_less (with_name_less (tells self.old).room) else (tells self.old).room) }
+        ensures room { (tells self.new).room ≡ (if is_ok result
+            then with_slot_less (with_name_less (tells self.old).room) else (tells self.old).room) }
         ensures calls { (tells self.new).calls ≡ after_call (tells self.old).calls }
         ensures faults { (tells self.new).faults.writing ≡ faults_after_create (tells self.old).faults.writing result }
     {
@@ -196,11 +215,13 @@ impl Shelf for MapShelf {
         requires { IsTrue (is_writing ((tells self.old).slots slot.0)) }
         ensures bound { WritesAtMost result piece.now }
         ensures some { 0 < length piece.now → IfOk result (λ count. 0 < count) }
-        ensures bytes { WritesTo (name_of ((tells self.old).slots slot.0)) (shelf_told (tells self.old)) (shelf_told (tells self.new)) result piece.now }
+        ensures bytes { WritesTo (name_of ((tells self.old).slots slot.0)) (shelf_told (tells self.old))
+            (shelf_told (tells self.new)) result piece.now }
         ensures cause { HasCause (tells self.old).faults.writing (tells self.new).faults.writing result }
         ensures counts { OnlyWriting (tells self.old).faults (tells self.new).faults }
         ensures others { SameButNames (shelf_told (tells self.old)) (shelf_told (tells self.new)) }
-        ensures failed { is_err result ≡ is_append_refused (tells self.old) (name_of ((tells self.old).slots slot.0)) piece.now }
+        ensures failed { is_err result ≡ is_append_refused (tells self.old) (name_of ((tells self.old).slots slot.0))
+            piece.now }
         ensures count { IfOk result (λ count. count ≡ length piece.now) }
         ensures room { (tells self.new).room ≡ (tells self.old).room }
         ensures calls { (tells self.new).calls ≡ after_call (tells self.old).calls }
@@ -233,7 +254,7 @@ impl Shelf for MapShelf {
     }
 }
 
-// Whether there is no room for a new name with these bytes.
+/// Whether there is no room for a new name with these bytes.
 fn is_name_refused(room: ShelfRoom, name: &str, bytes: &[u8]) -> bool
     ensures { result ≡ refused_name room name.now bytes.now }
 {

@@ -1,10 +1,13 @@
-ghost use Rattle.std.specs.Prelude.{◌≡◌, ◌<◌, ℕ, [], length, map, min, Some, None, IsTrue, is_err, is_ok, IfOk, OnErr, IsErrOf, MatchOption, if◌then◌else◌, slice_get};
+ghost use Rattle.std.specs.Prelude.{◌≡◌, ◌<◌, ℕ, [], length, map, min, Some, None, IsTrue, is_err, is_ok, IfOk, OnErr};
+ghost use Rattle.std.specs.Prelude.{IsErrOf, MatchOption, if◌then◌else◌, slice_get};
 ghost use Rattle.std.specs.Io.{ReadsAtMost, WritesAtMost};
 ghost use Rattle.std.specs.Result.{result_err};
 ghost use Rattle.ots_base.specs.Cause.{HasCause, HasCauseWhere};
 ghost use Rattle.ots_memory.specs.Calls.{is_next_listed, after_call, faults_after};
 ghost use Rattle.ots_memory.specs.Conversations.{HasDialerMemory};
-ghost use Rattle.ots_outside.specs.Dialer.{unconnected, is_connected, reply_of, place_sent, ReplyReads, SameButConnection, SameButSent, KeepsConversations, Connects, SendsTo, replies_after};
+ghost use Rattle.ots_outside.specs.Dialer.{unconnected, is_connected, reply_of, place_sent, ReplyReads};
+ghost use Rattle.ots_outside.specs.Dialer.{SameButConnection, SameButSent, KeepsConversations, Connects, SendsTo};
+ghost use Rattle.ots_outside.specs.Dialer.{replies_after};
 
 use crate::append::is_append_refused;
 use crate::calls::Calls;
@@ -84,7 +87,8 @@ impl ScriptDialer {
     /// whom.
     pub fn sent(&self, place: usize) -> Option<SentTo<'_>>
         ensures { MatchOption result (slice_get (tells self.now).sent place ≡ None)
-            (λ sent. slice_get (tells self.now).sent place ≡ Some (record { host = sent.host.now; port = sent.port; bytes = sent.bytes.now })) }
+            (λ sent. slice_get (tells self.now).sent place ≡ Some
+            (record { host = sent.host.now; port = sent.port; bytes = sent.bytes.now })) }
     {
         let conversation = self.conversations.get(place)?;
         Some(SentTo {
@@ -97,19 +101,24 @@ impl ScriptDialer {
 
 impl Dialer for ScriptDialer {
     ghost use Rattle.ots_memory.specs.ScriptDialer.{tells};
-    ghost use Rattle.ots_memory.specs.ScriptDialerTold.{dialer_told, connect_refusal, is_send_refused, reply_bytes, with_conversation_less};
+    ghost use Rattle.ots_memory.specs.ScriptDialerTold.{dialer_told, connect_refusal, is_send_refused, reply_bytes};
+    ghost use Rattle.ots_memory.specs.ScriptDialerTold.{with_conversation_less};
 
     ghost told = { λ s. dialer_told (tells s) };
 
     ghost faults = { λ s. (tells s).faults };
 
     fn connect(&mut self, host: &str, port: u16) -> Result<Slot, DialError>
-        ensures ok { IfOk result (λ slot. Connects host.now port slot.0 (dialer_told (tells self.old)) (dialer_told (tells self.new))) }
+        ensures ok { IfOk result (λ slot. Connects host.now port slot.0 (dialer_told (tells self.old))
+            (dialer_told (tells self.new))) }
         ensures err { OnErr result (KeepsConversations (dialer_told (tells self.old)) (dialer_told (tells self.new))) }
-        ensures replies { (dialer_told (tells self.new)).replies ≡ replies_after (dialer_told (tells self.old)).replies result }
-        ensures cause { HasCauseWhere (IsErrOf result DialError.Failed) (tells self.old).faults (tells self.new).faults }
+        ensures replies { (dialer_told (tells self.new)).replies
+            ≡ replies_after (dialer_told (tells self.old)).replies result }
+        ensures cause { HasCauseWhere (IsErrOf result DialError.Failed) (tells self.old).faults
+            (tells self.new).faults }
         ensures refusal { result_err result ≡ connect_refusal (tells self.old) host.now }
-        ensures room { (tells self.new).room ≡ (if is_ok result then with_conversation_less (tells self.old).room else (tells self.old).room) }
+        ensures room { (tells self.new).room ≡ (if is_ok result then with_conversation_less (tells self.old).room
+            else (tells self.old).room) }
         ensures calls { (tells self.new).calls ≡ after_call (tells self.old).calls }
         ensures faults { (tells self.new).faults ≡ faults_after (tells self.old).faults result }
     {
@@ -137,13 +146,15 @@ impl Dialer for ScriptDialer {
     fn read(&mut self, slot: Slot, buf: &mut [u8]) -> Result<usize, Failed>
         requires { IsTrue (is_connected ((tells self.old).slots slot.0)) }
         ensures bound { ReadsAtMost result buf.new }
-        ensures bytes { ReplyReads (reply_of ((tells self.old).slots slot.0)) (reply_of ((tells self.new).slots slot.0)) result buf.new }
+        ensures bytes { ReplyReads (reply_of ((tells self.old).slots slot.0)) (reply_of ((tells self.new).slots slot.0))
+            result buf.new }
         ensures cause { HasCause (tells self.old).faults (tells self.new).faults result }
         ensures open { IsTrue (is_connected ((tells self.new).slots slot.0)) }
         ensures entry { place_sent ((tells self.new).slots slot.0) ≡ place_sent ((tells self.old).slots slot.0) }
         ensures others { SameButConnection slot.0 (dialer_told (tells self.old)) (dialer_told (tells self.new)) }
         ensures failed { is_err result ≡ is_next_listed (tells self.old).calls }
-        ensures count { IfOk result (λ count. count ≡ min (length (reply_bytes ((tells self.old).slots slot.0))) (length buf.old)) }
+        ensures count { IfOk result (λ count. count ≡ min (length (reply_bytes ((tells self.old).slots slot.0)))
+            (length buf.old)) }
         ensures room { (tells self.new).room ≡ (tells self.old).room }
         ensures calls { (tells self.new).calls ≡ after_call (tells self.old).calls }
         ensures faults { (tells self.new).faults ≡ faults_after (tells self.old).faults result }
@@ -162,10 +173,12 @@ impl Dialer for ScriptDialer {
         requires { IsTrue (is_connected ((tells self.old).slots slot.0)) }
         ensures bound { WritesAtMost result piece.now }
         ensures some { 0 < length piece.now → IfOk result (λ count. 0 < count) }
-        ensures bytes { SendsTo (place_sent ((tells self.old).slots slot.0)) (dialer_told (tells self.old)) (dialer_told (tells self.new)) result piece.now }
+        ensures bytes { SendsTo (place_sent ((tells self.old).slots slot.0)) (dialer_told (tells self.old))
+            (dialer_told (tells self.new)) result piece.now }
         ensures cause { HasCause (tells self.old).faults (tells self.new).faults result }
         ensures others { SameButSent (dialer_told (tells self.old)) (dialer_told (tells self.new)) }
-        ensures failed { is_err result ≡ is_send_refused (tells self.old) (place_sent ((tells self.old).slots slot.0)) piece.now }
+        ensures failed { is_err result ≡ is_send_refused (tells self.old) (place_sent ((tells self.old).slots slot.0))
+            piece.now }
         ensures count { IfOk result (λ count. count ≡ length piece.now) }
         ensures room { (tells self.new).room ≡ (tells self.old).room }
         ensures calls { (tells self.new).calls ≡ after_call (tells self.old).calls }

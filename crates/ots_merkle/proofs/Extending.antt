@@ -15,7 +15,7 @@ pub nothing_added : (first count : ℕ) (more : ℕ → List Op) (old : List (Li
 nothing_added first count more old none = record {
   before = λ k l. refl;
   within = λ j l. sym (append-nil (get_or old (first + j) [])) ∙ ap (λ x. get_or old (first + j) [] ++ x) (sym (none j));
-  behind = λ k l. refl;
+  after = λ k l. refl;
 }
 
 -- the same operations, written otherwise
@@ -24,7 +24,7 @@ pub same_added : (first count : ℕ) (more more′ : ℕ → List Op) (old new :
 same_added first count more more′ old new same e = record {
   before = e.before;
   within = λ j l. e.within j l ∙ ap (λ x. get_or old (first + j) [] ++ x) (same j);
-  behind = e.behind;
+  after = e.after;
 }
 
 -- the same count, written otherwise
@@ -52,7 +52,7 @@ within_by first half others count l r whole sl sr p0 p1 p2 p3 p4 sum a b c d wl 
     let index : half + m ≡ j = omega arith in
     let made : get_or p4 k [] ≡ get_or p0 k [] ++ whole (half + m) =
     d.within m few
-    ∙ ap (λ x. x ++ sl) (c.behind k (omega arith) ∙ b.within m few ∙ ap (λ x. x ++ r m) (a.behind k (omega arith)))
+    ∙ ap (λ x. x ++ sl) (c.after k (omega arith) ∙ b.within m few ∙ ap (λ x. x ++ r m) (a.after k (omega arith)))
     ∙ append_assoc (get_or p0 k []) (r m) sl
     ∙ ap (λ x. get_or p0 k [] ++ x) (sym (wr m few)) in
     ap (λ x. get_or p4 x []) (sym place) ∙ made ∙ (λ s. get_or p0 (place s) [] ++ whole (index s))
@@ -65,7 +65,7 @@ pub both_parts : (first half others count : ℕ) (l r whole : ℕ → List Op) (
 both_parts first half others count l r whole sl sr p0 p1 p2 p3 p4 sum a b c d wl wr = record {
   before = λ k h. d.before k (omega arith) ∙ c.before k h ∙ b.before k (omega arith) ∙ a.before k h;
   within = λ j h. within_by first half others count l r whole sl sr p0 p1 p2 p3 p4 sum a b c d wl wr j (nat_lt j half) refl h;
-  behind = λ k h. d.behind k (omega arith) ∙ c.behind k (omega arith) ∙ b.behind k (omega arith) ∙ a.behind k (omega arith);
+  after = λ k h. d.after k (omega arith) ∙ c.after k (omega arith) ∙ b.after k (omega arith) ∙ a.after k (omega arith);
 }
 
 -- the parts as the code cuts them

@@ -1,4 +1,3 @@
-mod NoSize
 pub mod Trees
 pub mod Rows
 pub mod PathLaws

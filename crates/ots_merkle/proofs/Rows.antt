@@ -16,7 +16,7 @@ abbrev pub Stands : ℕ → List (Option (List ℕ)) → List (List ℕ) → Typ
 Stands h [] leaves = leaves ≡ []
 Stands h (None ∷ row) leaves = Stands (suc h) row leaves
 Stands h (Some hash ∷ row) leaves =
-    (before : List (List ℕ)) × (behind : List (List ℕ)) × (leaves ≡ before ++ behind) × (length behind ≡ 2 ^ h) × (hash ≡ root behind)
+    (before : List (List ℕ)) × (after : List (List ℕ)) × (leaves ≡ before ++ after) × (length after ≡ 2 ^ h) × (hash ≡ root after)
     × Stands (suc h) row before
 
 -- a row without a hash stands for no leaf
@@ -29,20 +29,20 @@ joined : (h : ℕ) (left right : List (List ℕ)) (l r : List ℕ) → length le
     → l ≡ root left → r ≡ root right → node l r ≡ root (left ++ right)
 joined h left right l r full some few el er = (λ i. node (el i) (er i)) ∙ sym (root_of_two h left right full some few)
 
-regrouped : (leaves before behind more : List (List ℕ)) → leaves ≡ before ++ behind → before ++ (behind ++ more) ≡ leaves ++ more
-regrouped leaves before behind more e = sym (append_assoc before behind more) ∙ ap (λ l. l ++ more) (sym e)
+regrouped : (leaves before after more : List (List ℕ)) → leaves ≡ before ++ after → before ++ (after ++ more) ≡ leaves ++ more
+regrouped leaves before after more e = sym (append_assoc before after more) ∙ ap (λ l. l ++ more) (sym e)
 
 -- the root of 2 ^ h leaves is added at the place h
-pub add_stands : (h : ℕ) (row : List (Option (List ℕ))) (leaves behind : List (List ℕ)) (hash : List ℕ)
-    → Stands h row leaves → hash ≡ root behind → length behind ≡ 2 ^ h → Stands h (added row hash) (leaves ++ behind)
-add_stands h [] leaves behind hash s is count = ([], behind, ap (λ l. l ++ behind) s, count, is, refl)
-add_stands h (None ∷ row) leaves behind hash s is count = (leaves, behind, refl, count, is, s)
-add_stands h (Some before ∷ row) leaves behind hash s is count =
-    let one : node before hash ≡ root (s.1 ++ behind) =
-    joined h s.1 behind before hash s.3 (omega (arith, pow_pos h)) (omega arith) s.4 is in
-    let two : length (s.1 ++ behind) ≡ 2 ^ suc h = omega (arith, length-append s.1 behind, s.3, pow-suc 2 h) in
-    subst (λ (l : List (List ℕ)). Stands (suc h) (added row (node before hash)) l) (regrouped leaves s.0 s.1 behind s.2)
-    (add_stands (suc h) row s.0 (s.1 ++ behind) (node before hash) s.5 one two)
+pub add_stands : (h : ℕ) (row : List (Option (List ℕ))) (leaves after : List (List ℕ)) (hash : List ℕ)
+    → Stands h row leaves → hash ≡ root after → length after ≡ 2 ^ h → Stands h (added row hash) (leaves ++ after)
+add_stands h [] leaves after hash s is count = ([], after, ap (λ l. l ++ after) s, count, is, refl)
+add_stands h (None ∷ row) leaves after hash s is count = (leaves, after, refl, count, is, s)
+add_stands h (Some before ∷ row) leaves after hash s is count =
+    let one : node before hash ≡ root (s.1 ++ after) =
+    joined h s.1 after before hash s.3 (omega (arith, pow_pos h)) (omega arith) s.4 is in
+    let two : length (s.1 ++ after) ≡ 2 ^ suc h = omega (arith, length-append s.1 after, s.3, pow-suc 2 h) in
+    subst (λ (l : List (List ℕ)). Stands (suc h) (added row (node before hash)) l) (regrouped leaves s.0 s.1 after s.2)
+    (add_stands (suc h) row s.0 (s.1 ++ after) (node before hash) s.5 one two)
 
 -- leaves added one after another
 pub all_stand : (row : List (Option (List ℕ))) (leaves more : List (List ℕ)) → Stands 0 row leaves → Stands 0 (all_added row more) (leaves ++ more)
@@ -55,15 +55,15 @@ pub one_more : (row : List (Option (List ℕ))) (leaves : List (List ℕ)) (leaf
 one_more row [] leaf = refl
 one_more row (first ∷ leaves) leaf = one_more (added row first) leaves leaf
 
--- the fold over a row with some leaves behind it
-fold_some : (h : ℕ) (row : List (Option (List ℕ))) (leaves behind : List (List ℕ)) (hash : List ℕ)
-    → Stands h row leaves → hash ≡ root behind → 0 < length behind → length behind ≤ 2 ^ h → folded row (Some hash) ≡ Some (root (leaves ++ behind))
-fold_some h [] leaves behind hash s is some few = (λ i. Some (is i)) ∙ ap (λ l. Some (root (l ++ behind))) (sym s)
-fold_some h (None ∷ row) leaves behind hash s is some few = fold_some (suc h) row leaves behind hash s is some (omega (arith, pow-suc 2 h))
-fold_some h (Some before ∷ row) leaves behind hash s is some few =
-    fold_some (suc h) row s.0 (s.1 ++ behind) (node before hash) s.5 (joined h s.1 behind before hash s.3 some few s.4 is)
-    (omega (arith, length-append s.1 behind)) (omega (arith, length-append s.1 behind, s.3, pow-suc 2 h))
-    ∙ ap (λ l. Some (root l)) (regrouped leaves s.0 s.1 behind s.2)
+-- the fold over a row with some leaves it
+fold_some : (h : ℕ) (row : List (Option (List ℕ))) (leaves after : List (List ℕ)) (hash : List ℕ)
+    → Stands h row leaves → hash ≡ root after → 0 < length after → length after ≤ 2 ^ h → folded row (Some hash) ≡ Some (root (leaves ++ after))
+fold_some h [] leaves after hash s is some few = (λ i. Some (is i)) ∙ ap (λ l. Some (root (l ++ after))) (sym s)
+fold_some h (None ∷ row) leaves after hash s is some few = fold_some (suc h) row leaves after hash s is some (omega (arith, pow-suc 2 h))
+fold_some h (Some before ∷ row) leaves after hash s is some few =
+    fold_some (suc h) row s.0 (s.1 ++ after) (node before hash) s.5 (joined h s.1 after before hash s.3 some few s.4 is)
+    (omega (arith, length-append s.1 after)) (omega (arith, length-append s.1 after, s.3, pow-suc 2 h))
+    ∙ ap (λ l. Some (root l)) (regrouped leaves s.0 s.1 after s.2)
 
 some_root : (leaves : List (List ℕ)) → 0 < length leaves → root_if_any leaves ≡ Some (root leaves)
 some_root [] some = absurd (omega arith)
@@ -101,10 +101,10 @@ added_full [] hash full = refl
 added_full (None ∷ row) hash full = cc
 added_full (Some before ∷ row) hash full = ap (λ r. None ∷ r) (added_full row (node before hash) full)
 
-pub room_behind : (row : List (Option (List ℕ))) → list_any is_none (row ++ None ∷ []) ≡ true
-room_behind [] = refl
-room_behind (None ∷ row) = refl
-room_behind (Some before ∷ row) = room_behind row
+pub room_after : (row : List (Option (List ℕ))) → list_any is_none (row ++ None ∷ []) ≡ true
+room_after [] = refl
+room_after (None ∷ row) = refl
+room_after (Some before ∷ row) = room_after row
 
 room_or_not : (row : List (Option (List ℕ))) (leaves : List (List ℕ)) (room : Bool) → list_any is_none row ≡ room
     → Stands 0 row leaves → length leaves + 1 < 2 ^ length row → list_any is_none row ≡ true
@@ -148,7 +148,7 @@ root_of_all row n leaves i e past some =
 room_made_by : (row : List (Option (List ℕ))) (room : Bool) → list_any is_none row ≡ room
     → list_any is_none (if room then row else row ++ None ∷ []) ≡ true
 room_made_by row true e = e
-room_made_by row false e = room_behind row
+room_made_by row false e = room_after row
 
 pub room_made : (row : List (Option (List ℕ))) → list_any is_none (with_room row) ≡ true
 room_made row = room_made_by row (list_any is_none row) refl

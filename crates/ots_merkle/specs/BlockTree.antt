@@ -1,6 +1,7 @@
 -- The Merkle tree of a block's transactions (Bitcoin Core, src/consensus/merkle.cpp): level by level,
 -- neighbours are hashed together, and an odd last hash with itself, until one hash is left.
-use Rattle.std.specs.Prelude.{ℕ, zero, suc, ◌+◌, ◌-◌, ◌/◌, ◌%◌, List, [], ◌∷◌, length, nat_eq, nat_lt, if◌then◌else◌, slice_index_or}
+use Rattle.std.specs.Prelude.{ℕ, zero, suc, ◌+◌, ◌-◌, ◌/◌, ◌%◌, List, [], ◌∷◌, length, nat_eq, nat_lt, if◌then◌else◌}
+use Rattle.std.specs.Prelude.{slice_index_or}
 use Rattle.ots_merkle.specs.Hashes.{block_node}
 use Rattle.ots_merkle.specs.declared.branch.Side.{Side}
 use Rattle.ots_merkle.specs.declared.branch.Side.TheVariants.{Left, Right}
@@ -25,7 +26,8 @@ block_root hashes = block_root_within (length hashes) hashes
 -- odd level has itself on its right.
 abbrev pub neighbour : List (List ℕ) → ℕ → Side × List ℕ
 neighbour hashes i =
-    if nat_eq (i % 2) 0 then (Right, slice_index_or hashes (i + 1) (slice_index_or hashes i [])) else (Left, slice_index_or hashes (i - 1) [])
+    if nat_eq (i % 2) 0 then (Right, slice_index_or hashes (i + 1) (slice_index_or hashes i []))
+    else (Left, slice_index_or hashes (i - 1) [])
 
 -- The neighbours on the way from the hash at a place to the root, the lowest first.
 unfoldable pub branch_within : ℕ → List (List ℕ) → ℕ → List (Side × List ℕ)

@@ -15,4 +15,4 @@ step Right other = Append other ∷ Sha256 ∷ []
 pub record Extended (first count : ℕ) (more : ℕ → List Op) (old new : List (List Op)) : Type 0 where
   pub before : (k : ℕ) → k < first → slice_index_or new k [] ≡ slice_index_or old k []
   pub within : (j : ℕ) → j < count → slice_index_or new (first + j) [] ≡ slice_index_or old (first + j) [] ++ more j
-  pub behind : (k : ℕ) → first + count ≤ k → slice_index_or new k [] ≡ slice_index_or old k []
+  pub after : (k : ℕ) → first + count ≤ k → slice_index_or new k [] ≡ slice_index_or old k []

@@ -13,7 +13,7 @@ added [] hash = Some hash ∷ []
 added (None ∷ row) hash = Some hash ∷ row
 added (Some before ∷ row) hash = None ∷ added row (node before hash)
 
--- The row with a free place, which is behind the others where none of them is free.
+-- The row with a free place, which is after the others where none of them is free.
 abbrev pub with_room : List (Option (List ℕ)) → List (Option (List ℕ))
 with_room row = if list_any is_none row then row else row ++ None ∷ []
 
@@ -22,9 +22,9 @@ abbrev pub all_added : List (Option (List ℕ)) → List (List ℕ) → List (Op
 all_added row [] = row
 all_added row (leaf ∷ leaves) = all_added (added row leaf) leaves
 
--- The hash over all that stands in the row and behind it, where anything does.
+-- The hash over all that stands in the row and after it, where anything does.
 abbrev pub folded : List (Option (List ℕ)) → Option (List ℕ) → Option (List ℕ)
-folded [] behind = behind
-folded (None ∷ row) behind = folded row behind
+folded [] after = after
+folded (None ∷ row) after = folded row after
 folded (Some before ∷ row) None = folded row (Some before)
-folded (Some before ∷ row) (Some behind) = folded row (Some (node before behind))
+folded (Some before ∷ row) (Some after) = folded row (Some (node before after))

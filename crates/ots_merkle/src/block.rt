@@ -57,7 +57,7 @@ fn paired(alloc: Global, hashes: &[[u8; 32]]) -> Result<Vec<[u8; 32]>, OutOfMemo
     Ok(above)
 }
 
-/// The hash behind this place, or the one at it where it is the last.
+/// The hash after this place, or the one at it where it is the last.
 fn next_or_same(hashes: &[[u8; 32]], place: usize) -> [u8; 32]
     requires within { place < length hashes.now }
     requires most { length hashes.now < 2 ^ 32 }

@@ -31,7 +31,11 @@ impl Model for Peaks {
 
     ghost Value = { Grown };
 
-    ghost view = { λ p. record { leaves = p.pushed.leaves; spare = 2 ^ vec_capacity p.row - 1 - length p.pushed.leaves } };
+    ghost view = { λ p. record {
+      leaves = p.pushed.leaves;
+      spare = 2 ^ vec_capacity p.row - 1 - length
+          p.pushed.leaves;
+    } };
 
     ghost invariant = { λ p. p.row.items ≡ all_added [] p.pushed.leaves };
 }
@@ -47,7 +51,7 @@ impl Peaks {
         }
     }
 
-    /// Adds a leaf behind the others, which takes one hash on average. Where memory ran out, the
+    /// Adds a leaf after the others, which takes one hash on average. Where memory ran out, the
     /// leaves are as before. It takes memory only where no spare push is left.
     pub fn push(&mut self, leaf: [u8; 32]) -> Result<(), OutOfMemory>
         ensures leaves { self.new.leaves ≡ (if is_ok result then self.old.leaves ++ leaf ∷ [] else self.old.leaves) }

@@ -67,14 +67,14 @@ fn make_room(row: &mut Vec<Level>) -> Result<(), OutOfMemory>
 pub(crate) fn fold(row: &[Level]) -> Level
     ensures { result ≡ folded row.now None }
 {
-    let mut behind: Level = None;
+    let mut after: Level = None;
     for level in row {
         if let Some(before) = level {
-            behind = Some(match behind {
+            after = Some(match after {
                 None => *before,
                 Some(hash) => node(before, &hash),
             });
         }
     }
-    behind
+    after
 }

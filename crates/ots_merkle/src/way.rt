@@ -12,7 +12,7 @@ use std::alloc::Global;
 pub(crate) const HEIGHT: u32 = 32;
 
 /// The operations that lead from the leaf of index `i` to the root of the calendar's tree of these
-/// leaves, in memory of `alloc`: at each node the root of the other part is put behind or before,
+/// leaves, in memory of `alloc`: at each node the root of the other part is put after or before,
 /// and then comes SHA-256. There are fewer than 2^32 leaves.
 ///
 /// It takes fewer hashes than there are leaves. The paths of all n leaves, one call each, take n

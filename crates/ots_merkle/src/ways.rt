@@ -1,5 +1,6 @@
 //! The paths of all leaves in a calendar's tree.
-ghost use Rattle.std.specs.Prelude.{◌≡◌, ◌+◌, ◌^◌, ◌≤◌, ◌<◌, ℕ, ◌++◌, [], IfOk, OnOk, length, slice_index_or, replicate};
+ghost use Rattle.std.specs.Prelude.{◌≡◌, ◌+◌, ◌^◌, ◌≤◌, ◌<◌, ℕ, ◌++◌, [], IfOk, OnOk, length, slice_index_or};
+ghost use Rattle.std.specs.Prelude.{replicate};
 ghost use Rattle.ots_merkle.specs.CalendarTree.{root_within, path, path_within};
 ghost use Rattle.ots_merkle.specs.Extended.{Extended, step};
 
@@ -18,7 +19,8 @@ pub fn paths(alloc: Global, leaves: &[[u8; 32]]) -> Result<Vec<Ops>, OutOfMemory
     requires least { 1 ≤ length leaves.now }
     requires most { length leaves.now < 2 ^ 32 }
     ensures count { IfOk result (λ all. length all.items ≡ length leaves.now) }
-    ensures paths { IfOk result (λ all. (i : ℕ) → i < length leaves.now → slice_index_or all.items i [] ≡ path leaves.now i) }
+    ensures paths { IfOk result (λ all. (i : ℕ) → i < length leaves.now
+        → slice_index_or all.items i [] ≡ path leaves.now i) }
 {
     let mut all = no_steps(alloc, leaves.len())?;
     let _ = extend_paths(alloc, all.as_mut_slice(), 0, leaves, HEIGHT)?;
@@ -50,7 +52,8 @@ fn extend_paths(
     requires fits { length leaves.now ≤ 2 ^ height }
     requires height { height ≤ 32 }
     ensures root { IfOk result (λ root. root ≡ root_within height leaves.now) }
-    ensures paths { OnOk result (Extended first (length leaves.now) (λ j. path_within height leaves.now j) paths.old paths.new) }
+    ensures paths { OnOk result (Extended first (length leaves.now) (λ j. path_within height leaves.now j) paths.old
+        paths.new) }
 {
     if height == 0 {
         return Ok(leaves[0]);

@@ -23,5 +23,6 @@ again (Twenty bytes) h = rw h refl
 again (ThirtyTwo bytes) h = rw h refl
 
 -- What is kept is determined by its bytes.
-pub kept_again : (d : Inside) → HasLength d.kept → (let i : Inside = record { kept = kept_of (bytes_of d.kept) } in i) ≡ d
+pub kept_again : (d : Inside) → HasLength d.kept → (let i : Inside = record { kept = kept_of (bytes_of d.kept) } in i)
+    ≡ d
 kept_again d h = let e = again d.kept h in λ i. record { kept = e i }

@@ -27,15 +27,15 @@ tag (Prepend bytes) = 0xf1
 tag Reverse = 0xf2
 tag Hexlify = 0xf3
 
--- What follows the tag: the argument behind its length, where there is an argument.
-abbrev pub behind_tag : Op → List ℕ
-behind_tag (Append bytes) = varbytes bytes
-behind_tag (Prepend bytes) = varbytes bytes
-behind_tag o = []
+-- What follows the tag: the argument after its length, where there is an argument.
+abbrev pub after_tag : Op → List ℕ
+after_tag (Append bytes) = varbytes bytes
+after_tag (Prepend bytes) = varbytes bytes
+after_tag o = []
 
 -- How an operation is spelled.
 abbrev pub spell : Op → List ℕ
-spell o = tag o ∷ behind_tag o
+spell o = tag o ∷ after_tag o
 
 -- The bytes of the argument, none where there is no argument.
 abbrev pub argument : Op → List ℕ

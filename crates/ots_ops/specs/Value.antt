@@ -16,4 +16,5 @@ value (o ∷ ops) message = option_and_then (value ops) (apply o message)
 -- where each has one.
 abbrev pub value_refusal : List Op → List ℕ → Option OpError
 value_refusal [] message = None
-value_refusal (o ∷ ops) message = option_or (refusal o (length message)) (option_and_then (value_refusal ops) (apply o message))
+value_refusal (o ∷ ops) message = option_or (refusal o (length message))
+    (option_and_then (value_refusal ops) (apply o message))

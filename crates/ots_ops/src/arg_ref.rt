@@ -10,7 +10,7 @@ use std::alloc::Global;
 
 /// An argument whose bytes stand elsewhere, as in those that it was read from: 1 to `MAX_ARGUMENT`
 /// of them, 4096.
-#[derive(Clone, Copy, Debug)]
+#[derive(Clone, Copy)]
 pub struct ArgRef<'a> {
     /// The bytes, 1 to 4096 of them.
     pub bytes: &'a [u8],

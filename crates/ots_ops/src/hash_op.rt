@@ -2,6 +2,8 @@
 ghost use Rattle.std.specs.Prelude.{◌≡◌};
 ghost use Rattle.ots_ops.specs.HashOp.{tag, digest_length};
 
+use crate::tags::{RIPEMD160_TAG, SHA1_TAG, SHA256_TAG};
+
 /// A hash that makes the digest of a file, and that a proof may apply to a message.
 #[derive(Clone, Copy, Debug, PartialEq, Eq)]
 pub enum HashOp {
@@ -19,9 +21,9 @@ impl HashOp {
         ensures { result ≡ tag self }
     {
         match self {
-            HashOp::Sha1 => 0x02,
-            HashOp::Ripemd160 => 0x03,
-            HashOp::Sha256 => 0x08,
+            HashOp::Sha1 => SHA1_TAG,
+            HashOp::Ripemd160 => RIPEMD160_TAG,
+            HashOp::Sha256 => SHA256_TAG,
         }
     }
 

@@ -16,7 +16,7 @@ use sha1::Sha1;
 use sha2::{Digest, Sha256};
 
 /// Puts the result of an operation in the place of the message, which is the first `length` bytes
-/// of the buffer, and answers how long it is. The bytes behind the result stay.
+/// of the buffer, and answers how long it is. The bytes after the result stay.
 ///
 /// It refuses exactly what `result_length` refuses, for the same reason, and the buffer is then as
 /// before. It takes no memory, and never answers `OutOfMemory`.
@@ -30,7 +30,7 @@ pub fn apply_in_place(
     ensures refusal { result_err result ≡ refusal op.now length }
     ensures limit { IfOk result (λ answered. answered ≤ MAX_MESSAGE) }
     ensures value { IfOk result (λ answered. apply op.now (take length buffer.old) ≡ Some (take answered buffer.new)) }
-    ensures behind { IfOk result (λ answered. drop answered buffer.new ≡ drop answered buffer.old) }
+    ensures after { IfOk result (λ answered. drop answered buffer.new ≡ drop answered buffer.old) }
     ensures as_before { OnErr result (buffer.new ≡ buffer.old) }
 {
     op.borrowed().apply_in_place(buffer, length)
@@ -49,8 +49,9 @@ impl<'a> OpRef<'a> {
         ensures length { result_ok result ≡ len (op_of self.entry) length }
         ensures refusal { result_err result ≡ refusal (op_of self.entry) length }
         ensures limit { IfOk result (λ answered. answered ≤ MAX_MESSAGE) }
-        ensures value { IfOk result (λ answered. apply (op_of self.entry) (take length buffer.old) ≡ Some (take answered buffer.new)) }
-        ensures behind { IfOk result (λ answered. drop answered buffer.new ≡ drop answered buffer.old) }
+        ensures value { IfOk result (λ answered. apply (op_of self.entry) (take length buffer.old)
+            ≡ Some (take answered buffer.new)) }
+        ensures after { IfOk result (λ answered. drop answered buffer.new ≡ drop answered buffer.old) }
         ensures as_before { OnErr result (buffer.new ≡ buffer.old) }
     {
         let answered = self.result_length(length)?;
@@ -63,20 +64,21 @@ impl<'a> OpRef<'a> {
         requires room { length buffer.old ≡ MAX_MESSAGE }
         requires message_fits { filled ≤ most (op_of self) }
         requires result_fits { made (op_of self) filled ≤ MAX_MESSAGE }
-        ensures { buffer.new ≡ applied (op_of self.entry) (take filled buffer.old) ++ drop (made (op_of self.entry) filled) buffer.old }
+        ensures { buffer.new ≡ applied (op_of self.entry) (take filled buffer.old)
+            ++ drop (made (op_of self.entry) filled) buffer.old }
     {
         match self {
             OpRef::Sha1 => {
                 let digest = Sha1::digest(&buffer[..filled]);
-                put_front(buffer, &digest);
+                put_prefix(buffer, &digest);
             }
             OpRef::Ripemd160 => {
                 let digest = ripemd160(&buffer[..filled]);
-                put_front(buffer, &digest);
+                put_prefix(buffer, &digest);
             }
             OpRef::Sha256 => {
                 let digest = sha256(&buffer[..filled]);
-                put_front(buffer, &digest);
+                put_prefix(buffer, &digest);
             }
             OpRef::Append(argument) => append(buffer, filled, argument.bytes()),
             OpRef::Prepend(argument) => prepend(buffer, filled, argument.bytes()),
@@ -93,15 +95,15 @@ fn sha256(bytes: &[u8]) -> [u8; 32]
     Sha256::digest(bytes)
 }
 
-/// Puts a digest at the front.
-fn put_front(buffer: &mut [u8], digest: &[u8])
+/// Puts a digest at the start.
+fn put_prefix(buffer: &mut [u8], digest: &[u8])
     requires { length digest.now ≤ length buffer.old }
     ensures { buffer.new ≡ digest.now ++ drop (length digest.now) buffer.old }
 {
     buffer[..digest.len()].copy_from_slice(digest);
 }
 
-/// Puts the argument behind the first `filled` bytes.
+/// Puts the argument after the first `filled` bytes.
 fn append(buffer: &mut [u8], filled: usize, argument: &[u8])
     requires { filled + length argument.now ≤ length buffer.old }
     ensures { buffer.new ≡ take filled buffer.old ++ argument.now ++ drop (filled + length argument.now) buffer.old }

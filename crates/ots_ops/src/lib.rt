@@ -17,6 +17,7 @@ mod ops;
 mod order;
 mod results;
 mod spell;
+mod tags;
 
 pub use arg::{Arg, ArgError};
 pub use arg_ref::ArgRef;
@@ -35,3 +36,7 @@ pub use op_ref::OpRef;
 pub use ops::Ops;
 pub use results::apply;
 pub use spell::{MAX_SPELLED_OP, spell_op};
+pub use tags::{
+    APPEND_TAG, HEXLIFY_TAG, KECCAK256_TAG, PREPEND_TAG, REVERSE_TAG, RIPEMD160_TAG, SHA1_TAG,
+    SHA256_TAG,
+};

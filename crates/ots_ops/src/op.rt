@@ -4,6 +4,7 @@ ghost use Rattle.ots_ops.specs.Operation.{tag, argument, IsOp};
 
 use crate::arg::Arg;
 use crate::hash_op::HashOp;
+use crate::tags::{APPEND_TAG, HEXLIFY_TAG, PREPEND_TAG, REVERSE_TAG};
 use ots_base::OutOfMemory;
 
 /// One step of a proof, from a message to the next.
@@ -51,10 +52,10 @@ impl Op {
             Op::Sha1 => HashOp::Sha1.tag(),
             Op::Ripemd160 => HashOp::Ripemd160.tag(),
             Op::Sha256 => HashOp::Sha256.tag(),
-            Op::Append(_) => 0xf0,
-            Op::Prepend(_) => 0xf1,
-            Op::Reverse => 0xf2,
-            Op::Hexlify => 0xf3,
+            Op::Append(_) => APPEND_TAG,
+            Op::Prepend(_) => PREPEND_TAG,
+            Op::Reverse => REVERSE_TAG,
+            Op::Hexlify => HEXLIFY_TAG,
         }
     }
 

@@ -11,7 +11,7 @@ use std::alloc::Global;
 /// An operation whose argument stands elsewhere, as in the bytes that it was read from.
 ///
 /// Contracts see the operation that it is, `op_of`.
-#[derive(Clone, Copy, Debug)]
+#[derive(Clone, Copy)]
 pub enum OpRef<'a> {
     /// The SHA-1 digest of the message (FIPS 180-4).
     Sha1,

@@ -33,7 +33,7 @@ impl Ops {
         }
     }
 
-    /// Adds an operation behind the others. Where memory ran out they are as before.
+    /// Adds an operation after the others. Where memory ran out they are as before.
     pub fn push(&mut self, item: Op) -> Result<(), OutOfMemory>
         ensures { self.new ≡ (if is_ok result then self.old ++ item ∷ [] else self.old) }
     {

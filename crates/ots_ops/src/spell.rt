@@ -6,11 +6,11 @@ use crate::op::Op;
 use ots_base::MAX_ARGUMENT;
 use ots_varint::put_varbytes;
 
-/// The most bytes of an operation's spelling, 4099: the tag, and the longest argument behind its
+/// The most bytes of an operation's spelling, 4099: the tag, and the longest argument after its
 /// length, which two bytes spell.
 pub const MAX_SPELLED_OP: usize = 3 + MAX_ARGUMENT;
 
-/// Writes the spelling of an operation at the front, leaves the bytes behind it as they are, and
+/// Writes the spelling of an operation at the start, leaves the bytes after it as they are, and
 /// answers how many bytes it has: 1 without an argument, and at most `MAX_SPELLED_OP`. It takes no
 /// memory.
 #[tactic(auto, using(crate::proofs::Spelling::argument_fits))]

@@ -5,7 +5,7 @@ ghost use Rattle.ots_ripemd.specs.Ripemd160.{ripemd160};
 use ots_ripemd::{Ripemd160, ripemd160};
 use std::test::Fail;
 
-// The digest of `message` when it is fed in pieces of `size` bytes, the last of them shorter.
+/// The digest of `message` when it is fed in pieces of `size` bytes, the last of them shorter.
 fn in_pieces(message: &[u8], size: usize) -> [u8; 20]
     requires short { length message.now < 2 ^ 61 }
     requires moves { 0 < size }
@@ -22,7 +22,7 @@ fn in_pieces(message: &[u8], size: usize) -> [u8; 20]
     hasher.finalize()
 }
 
-// The test vectors of the authors, in "RIPEMD-160: A Strengthened Version of RIPEMD" (1996).
+/// The test vectors of the authors, in "RIPEMD-160: A Strengthened Version of RIPEMD" (1996).
 #[test]
 fn gives_the_digests_that_the_authors_published(rt: HostRuntime) -> Result<(), Fail> {
     let rows = [
@@ -54,8 +54,8 @@ fn gives_the_digests_that_the_authors_published(rt: HostRuntime) -> Result<(), F
     Ok(())
 }
 
-// The digests come from OpenSSL 3.0: `head -c LENGTH /dev/zero | tr '\0' a | openssl dgst -ripemd160`.
-// The last is also the authors'.
+/// The digests come from OpenSSL 3.0: `head -c LENGTH /dev/zero | tr '\0' a | openssl dgst -ripemd160`.
+/// The last is also the authors'.
 #[test]
 fn gives_one_digest_for_every_way_of_cutting(rt: HostRuntime) -> Result<(), Fail> {
     let rows = [

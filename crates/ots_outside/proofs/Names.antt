@@ -7,9 +7,9 @@ use Rattle.std.specs.Ordering.{nat_cmp, eq_by_cmp}
 use Rattle.std.specs.FinMap as map
 use Rattle.std.proofs.lemmas.Bool.{false≢true}
 use Rattle.std.proofs.lemmas.Bool.Decides.{nat_tests}
-use Rattle.ots_outside.specs.Streams.{Takes, TakesFront, Writes}
+use Rattle.ots_outside.specs.Streams.{Takes, TakesPrefix, Writes}
 use Rattle.ots_outside.specs.Shelf.{Names, ShelfTold, closed, name_of, with_more, Creates, SameButNames, SameButSlot, WritesTo}
-use Rattle.ots_outside.specs.Written.{SameButName, SameButSlotBytes, WritesName, WritesNameFront, bytes_under, slot_bytes, with_name}
+use Rattle.ots_outside.specs.Written.{SameButName, SameButSlotBytes, WritesName, WritesNamePrefix, bytes_under, slot_bytes, with_name}
 
 -- ---- a name that was put
 
@@ -131,8 +131,8 @@ writes_name name bytes slot old created written new creates same wrote closes no
   at k false e = let other : k ≢ slot = grind (arith, nat_tests) in closes.others k other ∙ same.slots k ∙ creates.others k other
 
 -- The same where a write may have failed.
-pub writes_front : (name bytes : List ℕ) (slot : ℕ) (old created written new : ShelfTold) → Creates name slot old created
-    → SameButSlotBytes slot created written → TakesFront (slot_bytes created slot) (slot_bytes written slot) bytes
-    → SameButSlot slot written new → new.slots slot ≡ closed → WritesNameFront name bytes old new
-writes_front name bytes slot old created written new creates same wrote closes now_closed =
+pub writes_prefix : (name bytes : List ℕ) (slot : ℕ) (old created written new : ShelfTold) → Creates name slot old created
+    → SameButSlotBytes slot created written → TakesPrefix (slot_bytes created slot) (slot_bytes written slot) bytes
+    → SameButSlot slot written new → new.slots slot ≡ closed → WritesNamePrefix name bytes old new
+writes_prefix name bytes slot old created written new creates same wrote closes now_closed =
     (wrote.0, wrote.1, writes_name name _ slot old created written new creates same wrote.2 closes now_closed)

@@ -3,7 +3,8 @@ use Rattle.std.specs.Prelude.{◌≡◌, ℕ, List, [], ◌∷◌, ◌++◌, Opt
 use Rattle.std.specs.Option.{option_map}
 use Rattle.ots_base.specs.Cause.{one_more}
 
--- `accept` answered the first of the links to come, which then lack it; `None` exactly where there are none; and after a
+-- `accept` answered the first of the links to come, which then lack it; `None` exactly where there are none; and after
+-- a
 -- fault they stay. One that tells no links never answers `None`.
 abbrev pub Accepts : {L E : Type 0} → Option (List L) → Option (List L) → Result (Option L) E → Type 0
 Accepts old new (Ok (Some link)) = old ≡ option_map (λ links. link ∷ links) new

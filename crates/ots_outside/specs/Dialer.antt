@@ -1,5 +1,6 @@
 -- What a dialer tells of its conversations, and what each of its calls does to that.
-use Rattle.std.specs.Prelude.{◌≡◌, ◌≢◌, ◌<◌, ℕ, zero, suc, Bool, true, false, List, [], ◌∷◌, ◌++◌, length, map, take, drop, Option, None, Result, Ok, Err, IsTrue, MatchResult, slice_index_or, refl}
+use Rattle.std.specs.Prelude.{◌≡◌, ◌≢◌, ◌<◌, ℕ, zero, suc, Bool, true, false, List, [], ◌∷◌, ◌++◌, length, map, take}
+use Rattle.std.specs.Prelude.{drop, Option, None, Result, Ok, Err, IsTrue, MatchResult, slice_index_or, refl}
 use Rattle.std.specs.Option.{option_map, option_and_then, ForSome}
 use Rattle.std.proofs.Common.{◌∙◌, ap, sym, subst}
 use Rattle.ots_base.specs.Told.{IfTold, BothTold}
@@ -75,7 +76,7 @@ pub record ReplyGives (bytes : List ℕ) (old new : ReplyTold) : Type 0 where
   pub left : old.left ≡ bytes ++ new.left
   pub given : new.given ≡ old.given ++ bytes
 
--- `read(buf)` gave the n bytes at the front of `buf` at `Ok(n)`, none only at the reply's end or with no room, and
+-- `read(buf)` gave the n bytes at the start of `buf` at `Ok(n)`, none only at the reply's end or with no room, and
 -- nothing at `Err`.
 abbrev pub ReplyReads : {E : Type 0} → Option ReplyTold → Option ReplyTold → Result ℕ E → List ℕ → Type 0
 ReplyReads old new result buf =
@@ -95,7 +96,8 @@ next_reply (reply ∷ replies) = reply
 pub record Connects (host : List ℕ) (port slot : ℕ) (old new : DialerTold) : Type 0 where
   pub was_unconnected : old.slots slot ≡ unconnected
   pub is_open : IsTrue (is_connected (new.slots slot))
-  pub reply : reply_of (new.slots slot) ≡ option_map (λ replies. record { left = next_reply replies; given = [] }) old.replies
+  pub reply : reply_of (new.slots slot) ≡ option_map (λ replies. record { left = next_reply replies; given = [] })
+      old.replies
   pub entry : IfTold old.sent (λ sent. place_sent (new.slots slot) ≡ length sent)
   pub sent : new.sent ≡ option_map (λ sent. sent ++ record { host = host; port = port; bytes = [] } ∷ []) old.sent
   pub others : (k : ℕ) → k ≢ slot → new.slots k ≡ old.slots k
@@ -154,7 +156,8 @@ but_bytes (suc place) (entry ∷ sent) = entry ∷ but_bytes place sent
 -- All that is told stays, but for the reply of this slot and the bytes sent in its conversation.
 pub record SameButConversation (slot : ℕ) (old new : DialerTold) : Type 0 where
   pub replies : new.replies ≡ old.replies
-  pub sent : option_map (but_bytes (place_sent (old.slots slot))) new.sent ≡ option_map (but_bytes (place_sent (old.slots slot))) old.sent
+  pub sent : option_map (but_bytes (place_sent (old.slots slot))) new.sent
+      ≡ option_map (but_bytes (place_sent (old.slots slot))) old.sent
   pub entry : place_sent (new.slots slot) ≡ place_sent (old.slots slot)
   pub others : (k : ℕ) → k ≢ slot → new.slots k ≡ old.slots k
 
@@ -164,10 +167,12 @@ SameButConversation-refl slot t = record { replies = refl; sent = refl; entry = 
 pub SameButConversation-trans : (first second : ℕ) (t u v : DialerTold) → second ≡ first
     → SameButConversation first t u → SameButConversation second u v → SameButConversation first t v
 SameButConversation-trans first second t u v one p q =
-    let entry : place_sent (u.slots second) ≡ place_sent (t.slots first) = ap (λ k. place_sent (u.slots k)) one ∙ p.entry in
+    let entry : place_sent (u.slots second) ≡ place_sent (t.slots first) = ap (λ k. place_sent (u.slots k)) one
+    ∙ p.entry in
     record {
       replies = q.replies ∙ p.replies;
-      sent = subst (λ place. option_map (but_bytes place) v.sent ≡ option_map (but_bytes place) u.sent) entry q.sent ∙ p.sent;
+      sent = subst (λ place. option_map (but_bytes place) v.sent ≡ option_map (but_bytes place) u.sent) entry q.sent
+          ∙ p.sent;
       entry = ap (λ k. place_sent (v.slots k)) (sym one) ∙ q.entry ∙ entry;
       others = λ k other. q.others k (λ e. other (e ∙ one)) ∙ p.others k other;
     }

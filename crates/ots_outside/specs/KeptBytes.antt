@@ -19,6 +19,8 @@ kept_of bytes = record { bytes = bytes ++ replicate (MAX_DIGEST - length bytes) 
 -- What is kept is determined by its bytes.
 pub kept_again : (s : Inside) → IsKept s.bytes s.length → kept_of (take s.length s.bytes) ≡ s
 kept_again s h =
-    let len : length (take s.length s.bytes) ≡ s.length = length-take-le s.length s.bytes (omega (arith, h.greatest, h.room)) in
-    let whole : take s.length s.bytes ++ replicate (MAX_DIGEST - length (take s.length s.bytes)) 0 ≡ s.bytes = rw len (sym h.filled) in
+    let len : length (take s.length s.bytes) ≡ s.length = length-take-le s.length s.bytes
+    (omega (arith, h.greatest, h.room)) in
+    let whole : take s.length s.bytes ++ replicate (MAX_DIGEST - length (take s.length s.bytes)) 0
+    ≡ s.bytes = rw len (sym h.filled) in
     λ i. record { bytes = whole i; length = len i }

@@ -27,7 +27,7 @@ pub record LinkTakes (bytes : List ℕ) (old new : LinkTold) : Type 0 where
   pub given : new.given ≡ old.given
   pub taken : new.taken ≡ old.taken ++ bytes
 
--- `read(buf)` gave the n bytes at the front of `buf` at `Ok(n)`, none only at the end or with no room, and nothing at
+-- `read(buf)` gave the n bytes at the start of `buf` at `Ok(n)`, none only at the end or with no room, and nothing at
 -- `Err`.
 abbrev pub LinkReads : {E : Type 0} → Option LinkTold → Option LinkTold → Result ℕ E → List ℕ → Type 0
 LinkReads old new result buf =
@@ -39,9 +39,9 @@ LinkReads old new result buf =
 abbrev pub LinkWrites : {E : Type 0} → Option LinkTold → Option LinkTold → Result ℕ E → List ℕ → Type 0
 LinkWrites old new result piece = MatchResult result (λ n. BothTold (LinkTakes (take n piece)) old new) (λ _. new ≡ old)
 
--- A front of these bytes was written.
-abbrev pub LinkTakesFront : Option LinkTold → Option LinkTold → List ℕ → Type 0
-LinkTakesFront old new bytes = (n : ℕ) × (n ≤ length bytes) × BothTold (LinkTakes (take n bytes)) old new
+-- A prefix of these bytes was written.
+abbrev pub LinkTakesPrefix : Option LinkTold → Option LinkTold → List ℕ → Type 0
+LinkTakesPrefix old new bytes = (n : ℕ) × (n ≤ length bytes) × BothTold (LinkTakes (take n bytes)) old new
 
 -- A link that has given and taken nothing, and counted no fault.
 pub record IsFresh (told : Option LinkTold) (count : ℕ) : Type 0 where

@@ -1,5 +1,6 @@
 -- What a shelf tells of its names and slots, and what each of its calls does to that.
-use Rattle.std.specs.Prelude.{◌≡◌, ◌≢◌, ◌≤◌, ℕ, Bool, true, false, List, [], ◌∷◌, ◌++◌, take, Option, None, Result, Ok, Err, IsTrue, IsSome, IsNone, IsSomeAnd, MatchResult, unwrap_or, refl}
+use Rattle.std.specs.Prelude.{◌≡◌, ◌≢◌, ◌≤◌, ℕ, Bool, true, false, List, [], ◌∷◌, ◌++◌, take, Option, None, Result, Ok}
+use Rattle.std.specs.Prelude.{Err, IsTrue, IsSome, IsNone, IsSomeAnd, MatchResult, unwrap_or, refl}
 use Rattle.std.specs.Ordering.{nat_cmp}
 use Rattle.std.specs.Cmp.Lexicographic.{slice_cmp}
 use Rattle.std.specs.Option.{option_map, option_and_then}
@@ -142,7 +143,7 @@ pub record Stays (old new : ShelfTold) : Type 0 where
 
 -- ---- opening and creating
 
--- A slot was opened for reading this name from its front.
+-- A slot was opened for reading this name from its start.
 pub record Opens (name : List ℕ) (slot : ℕ) (old new : ShelfTold) : Type 0 where
   pub was_closed : old.slots slot ≡ closed
   pub is_open : IsTrue (is_reading (new.slots slot))
@@ -184,4 +185,5 @@ with_more name more names = map.insert names name (unwrap_or (map.get names name
 -- `write` of a piece appended to the name the n bytes that it took at `Ok(n)`, and nothing at `Err`.
 abbrev pub WritesTo : {E : Type 0} → List ℕ → ShelfTold → ShelfTold → Result ℕ E → List ℕ → Type 0
 WritesTo name old new result piece =
-    MatchResult result (λ n. new.names ≡ option_map (with_more name (take n piece)) old.names) (λ _. new.names ≡ old.names)
+    MatchResult result (λ n. new.names ≡ option_map (with_more name (take n piece)) old.names)
+    (λ _. new.names ≡ old.names)

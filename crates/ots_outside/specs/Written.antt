@@ -31,7 +31,14 @@ abbrev pub SameButSlotBytes : ℕ → ShelfTold → ShelfTold → Type 0
 SameButSlotBytes slot old new = SameButName (name_of (old.slots slot)) old new
 
 pub SameButSlotBytes-refl : (slot : ℕ) (t : ShelfTold) → SameButSlotBytes slot t t
-SameButSlotBytes-refl slot t = record { told = refl; names = λ other differs. refl; there = λ is. is; opened = refl; short = refl; slots = λ k. refl }
+SameButSlotBytes-refl slot t = record {
+  told = refl;
+  names = λ other differs. refl;
+  there = λ is. is;
+  opened = refl;
+  short = refl;
+  slots = λ k. refl;
+}
 
 pub SameButSlotBytes-trans : (first second : ℕ) (t u v : ShelfTold) → second ≡ first
     → SameButSlotBytes first t u → SameButSlotBytes second u v → SameButSlotBytes first t v
@@ -40,7 +47,8 @@ SameButSlotBytes-trans first second t u v one p q =
     record {
       told = q.told ∙ p.told;
       names = λ other differs. q.names other (λ e. differs (e ∙ same)) ∙ p.names other differs;
-      there = λ is. subst (λ name. IsSome (told_bytes v name)) same (q.there (subst (λ name. IsSome (told_bytes u name)) (sym same) (p.there is)));
+      there = λ is. subst (λ name. IsSome (told_bytes v name)) same
+          (q.there (subst (λ name. IsSome (told_bytes u name)) (sym same) (p.there is)));
       opened = q.opened ∙ p.opened;
       short = q.short ∙ p.short;
       slots = λ k. q.slots k ∙ p.slots k;
@@ -59,6 +67,6 @@ pub record WritesName (name bytes : List ℕ) (old new : ShelfTold) : Type 0 whe
   pub opened : new.opened ≡ old.opened
   pub slots : (k : ℕ) → new.slots k ≡ old.slots k
 
--- The same of a front of the bytes, as after a fault.
-abbrev pub WritesNameFront : List ℕ → List ℕ → ShelfTold → ShelfTold → Type 0
-WritesNameFront name bytes old new = (n : ℕ) × (n ≤ length bytes) × WritesName name (take n bytes) old new
+-- The same of a prefix of the bytes, as after a fault.
+abbrev pub WritesNamePrefix : List ℕ → List ℕ → ShelfTold → ShelfTold → Type 0
+WritesNamePrefix name bytes old new = (n : ℕ) × (n ≤ length bytes) × WritesName name (take n bytes) old new

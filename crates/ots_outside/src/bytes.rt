@@ -44,7 +44,7 @@ impl Bytes {
         self.items
     }
 
-    /// Adds a byte behind the others. Where memory ran out they are as before.
+    /// Adds a byte after the others. Where memory ran out they are as before.
     pub fn push(&mut self, item: u8) -> Result<(), OutOfMemory>
         ensures { self.new ≡ (if is_ok result then self.old ++ item ∷ [] else self.old) }
     {

@@ -1,6 +1,7 @@
 ghost use Rattle.std.specs.Prelude.{◌≡◌};
 ghost use Rattle.std.proofs.Common.{◌∙◌, refl};
-ghost use Rattle.ots_outside.specs.Dialer.{conversation_told, IsConversation, SameButConversation, SameButConversation-refl, SameButConversation-trans};
+ghost use Rattle.ots_outside.specs.Dialer.{conversation_told, IsConversation, SameButConversation};
+ghost use Rattle.ots_outside.specs.Dialer.{SameButConversation-refl, SameButConversation-trans};
 
 use crate::{Dialer, Failed, Link, Slot};
 
@@ -44,7 +45,8 @@ impl<D: Dialer> Link for DialedLink<'_, D> {
     ghost same_trans = { λ s t u p q. (
       q.0 ∙ p.0,
       q.1 ∙ p.1,
-      SameButConversation-trans s.slot.0 t.slot.0 (D.told s.dialer.now) (D.told t.dialer.now) (D.told u.dialer.now) p.1 p.2 q.2,
+      SameButConversation-trans s.slot.0 t.slot.0 (D.told s.dialer.now) (D.told t.dialer.now) (D.told u.dialer.now) p.1
+          p.2 q.2,
     ) };
 
     fn read(&mut self, buf: &mut [u8]) -> Result<usize, Failed> {

@@ -1,7 +1,9 @@
 ghost use Rattle.std.specs.Prelude.{◌≡◌, ◌<◌, ℕ, length, IsTrue, IfOk, OnErr, IsErrOf};
 ghost use Rattle.std.specs.Io.{ReadsAtMost, WritesAtMost};
 ghost use Rattle.ots_base.specs.Cause.{HasCause, HasCauseWhere};
-ghost use Rattle.ots_outside.specs.Dialer.{DialerTold, unconnected, is_connected, reply_of, place_sent, ReplyReads, SameButConnection, SameButSent, KeepsConversations, Connects, SendsTo, replies_after};
+ghost use Rattle.ots_outside.specs.Dialer.{DialerTold, unconnected, is_connected, reply_of, place_sent, ReplyReads};
+ghost use Rattle.ots_outside.specs.Dialer.{SameButConnection, SameButSent, KeepsConversations, Connects, SendsTo};
+ghost use Rattle.ots_outside.specs.Dialer.{replies_after};
 
 use crate::{Failed, Slot};
 
@@ -17,7 +19,7 @@ pub enum DialError {
 /// Conversations with hosts, as over sockets.
 ///
 /// A conversation is begun with a host and a port. What is sent in it is written at its end, and
-/// its reply is read once from its front, through a slot of its own until that is closed. A call on
+/// its reply is read once from its start, through a slot of its own until that is closed. A call on
 /// one slot leaves what is told of the others.
 pub trait Dialer {
     /// What it tells: the replies to come, what was sent, and what each slot is connected to.
@@ -40,7 +42,8 @@ pub trait Dialer {
     fn read(&mut self, slot: Slot, buf: &mut [u8]) -> Result<usize, Failed>
         requires { IsTrue (is_connected ((told self.old).slots slot.0)) }
         ensures bound { ReadsAtMost result buf.new }
-        ensures bytes { ReplyReads (reply_of ((told self.old).slots slot.0)) (reply_of ((told self.new).slots slot.0)) result buf.new }
+        ensures bytes { ReplyReads (reply_of ((told self.old).slots slot.0)) (reply_of ((told self.new).slots slot.0))
+            result buf.new }
         ensures cause { HasCause (faults self.old) (faults self.new) result }
         ensures open { IsTrue (is_connected ((told self.new).slots slot.0)) }
         ensures entry { place_sent ((told self.new).slots slot.0) ≡ place_sent ((told self.old).slots slot.0) }
@@ -51,7 +54,8 @@ pub trait Dialer {
         requires { IsTrue (is_connected ((told self.old).slots slot.0)) }
         ensures bound { WritesAtMost result piece.now }
         ensures some { 0 < length piece.now → IfOk result (λ count. 0 < count) }
-        ensures bytes { SendsTo (place_sent ((told self.old).slots slot.0)) (told self.old) (told self.new) result piece.now }
+        ensures bytes { SendsTo (place_sent ((told self.old).slots slot.0)) (told self.old) (told self.new) result
+            piece.now }
         ensures cause { HasCause (faults self.old) (faults self.new) result }
         ensures others { SameButSent (told self.old) (told self.new) };
 

@@ -1,6 +1,6 @@
 //! The outside: what the programs read, write, open, dial, accept and draw, each as a trait.
 //!
-//! A [`Source`] is read once from its front, a [`Sink`] is written at its end, a [`Shelf`] holds
+//! A [`Source`] is read once from its start, a [`Sink`] is written at its end, a [`Shelf`] holds
 //! bytes by name, as a folder holds files. A [`Link`] is a connection, a [`Dialer`] holds
 //! conversations with hosts, and an [`Accepter`] takes connections in. [`Nonces`] gives nonces, and
 //! a [`Clock`] the second. Each but the clock counts its faults, and a call answers [`Failed`] only

@@ -6,7 +6,7 @@ ghost use Rattle.ots_outside.specs.Link.{LinkTold, LinkReads, LinkWrites};
 
 use crate::Failed;
 
-/// A connection: bytes that come, read once from their front, and bytes that are sent, each piece
+/// A connection: bytes that come, read once from their start, and bytes that are sent, each piece
 /// after the one before.
 ///
 /// The input of a link is what its reads have given and what is left. A link that tells nothing

@@ -7,7 +7,7 @@ ghost use Rattle.ots_outside.specs.declared.reading.ReadAllError.TheVariants.{Ou
 use crate::{Failed, Source};
 use std::alloc::{AllocError, Global};
 
-// The room of the first read. After that the room doubles.
+/// The room of the first read. After that the room doubles.
 const FIRST_ROOM: usize = 65_536;
 
 /// Why a whole input was not read.
@@ -65,15 +65,15 @@ pub fn read_all<S: Source>(
     Err(ReadAllError::TooBig)
 }
 
-// Leaves room after the first `filled` bytes, and none past the limit and one byte more. The room
-// grows by doubling, so that each byte is moved a few times at most.
+/// Leaves room after the first `filled` bytes, and none past the limit and one byte more. The room
+/// grows by doubling, so that each byte is moved a few times at most.
 fn make_room(bytes: &mut Vec<u8>, filled: usize, limit: u64) -> Result<(), AllocError>
     requires in_range { filled ≤ length bytes.old.items }
     requires within { filled ≤ limit }
     requires fits { length bytes.old.items ≤ limit + 1 }
     ensures room { OnOk result (filled < length bytes.new.items) }
     ensures fits { length bytes.new.items ≤ limit + 1 }
-    ensures front { take filled bytes.new.items ≡ take filled bytes.old.items }
+    ensures prefix { take filled bytes.new.items ≡ take filled bytes.old.items }
 {
     if filled == bytes.len() {
         let more = (limit - filled as u64).min(filled.max(FIRST_ROOM) as u64) as usize;
@@ -82,11 +82,11 @@ fn make_room(bytes: &mut Vec<u8>, filled: usize, limit: u64) -> Result<(), Alloc
     Ok(())
 }
 
-// Reads into the bytes after the first `filled`.
+/// Reads into the bytes after the first `filled`.
 fn read_after<S: Source>(source: &mut S, bytes: &mut [u8], filled: usize) -> Result<usize, Failed>
     requires { filled < length bytes.old }
     ensures bound { IfOk result (λ count. filled + count ≤ length bytes.new) }
-    ensures front { take filled bytes.new ≡ take filled bytes.old }
+    ensures prefix { take filled bytes.new ≡ take filled bytes.old }
     ensures room { 0 < length (drop filled bytes.new) }
     ensures bytes { Reads (S.left source.old) (S.left source.new) result (drop filled bytes.new) }
     ensures cause { HasCause (S.faults source.old) (S.faults source.new) result }

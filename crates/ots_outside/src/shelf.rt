@@ -2,7 +2,9 @@ ghost use Rattle.std.specs.Prelude.{◌≡◌, ◌<◌, ℕ, length, IsTrue, IfO
 ghost use Rattle.std.specs.Io.{ReadsAtMost, WritesAtMost};
 ghost use Rattle.std.specs.FinMap as map;
 ghost use Rattle.ots_base.specs.Cause.{HasCause, HasCauseWhere, CountsWhere};
-ghost use Rattle.ots_outside.specs.Shelf.{ShelfTold, ShelfFaults, OnlyOpening, OnlyReading, OnlyWriting, closed, is_reading, is_writing, left_of, name_of, SameButSlot, SameButNames, Stays, Opens, OpensWhere, Creates, CreatesWhere, WritesTo};
+ghost use Rattle.ots_outside.specs.Shelf.{ShelfTold, ShelfFaults, OnlyOpening, OnlyReading, OnlyWriting, closed};
+ghost use Rattle.ots_outside.specs.Shelf.{is_reading, is_writing, left_of, name_of, SameButSlot, SameButNames, Stays};
+ghost use Rattle.ots_outside.specs.Shelf.{Opens, OpensWhere, Creates, CreatesWhere, WritesTo};
 ghost use Rattle.ots_base.specs.Told.{IfTold};
 ghost use Rattle.ots_outside.specs.Streams.{Reads};
 
@@ -37,7 +39,7 @@ pub enum CreateError {
 
 /// Bytes by name, as the files of a folder.
 ///
-/// A name is opened to be read once from its front, or created to be written at its end, each
+/// A name is opened to be read once from its start, or created to be written at its end, each
 /// through a slot of its own until that is closed. A refusal leaves all that is told of names and
 /// slots as it was, and a call on one slot or name leaves what is told of the others.
 pub trait Shelf {
@@ -54,15 +56,18 @@ pub trait Shelf {
         ensures ok { IfOk result (λ slot. Opens name.now slot.0 (told self.old) (told self.new)) }
         ensures err { OnErr result (Stays (told self.old) (told self.new)) }
         ensures not_there { IfTold (told self.old).names (λ names. OpensWhere (map.get names name.now) result) }
-        ensures cause { HasCauseWhere (IsErrOf result OpenError.Failed) (faults self.old).opening (faults self.new).opening }
+        ensures cause { HasCauseWhere (IsErrOf result OpenError.Failed) (faults self.old).opening
+            (faults self.new).opening }
         ensures counts { OnlyOpening (faults self.old) (faults self.new) }
-        ensures short { CountsWhere (IsErrOf result OpenError.OutOfMemory) (told self.old).short (told self.new).short };
+        ensures short { CountsWhere (IsErrOf result OpenError.OutOfMemory) (told self.old).short
+            (told self.new).short };
 
     /// Reads what an opened slot has left, as `Source::read` does.
     fn read(&mut self, slot: Slot, buf: &mut [u8]) -> Result<usize, Failed>
         requires { IsTrue (is_reading ((told self.old).slots slot.0)) }
         ensures bound { ReadsAtMost result buf.new }
-        ensures bytes { Reads (left_of ((told self.old).slots slot.0)) (left_of ((told self.new).slots slot.0)) result buf.new }
+        ensures bytes { Reads (left_of ((told self.old).slots slot.0)) (left_of ((told self.new).slots slot.0)) result
+            buf.new }
         ensures cause { HasCause (faults self.old).reading (faults self.new).reading result }
         ensures counts { OnlyReading (faults self.old) (faults self.new) }
         ensures open { IsTrue (is_reading ((told self.new).slots slot.0)) }
@@ -74,16 +79,19 @@ pub trait Shelf {
         ensures ok { IfOk result (λ slot. Creates name.now slot.0 (told self.old) (told self.new)) }
         ensures err { OnErr result (Stays (told self.old) (told self.new)) }
         ensures exists { IfTold (told self.old).names (λ names. CreatesWhere (map.get names name.now) result) }
-        ensures cause { HasCauseWhere (IsErrOf result CreateError.Failed) (faults self.old).writing (faults self.new).writing }
+        ensures cause { HasCauseWhere (IsErrOf result CreateError.Failed) (faults self.old).writing
+            (faults self.new).writing }
         ensures counts { OnlyWriting (faults self.old) (faults self.new) }
-        ensures short { CountsWhere (IsErrOf result CreateError.OutOfMemory) (told self.old).short (told self.new).short };
+        ensures short { CountsWhere (IsErrOf result CreateError.OutOfMemory) (told self.old).short
+            (told self.new).short };
 
     /// Writes to the name of a created slot, as `Sink::write` does.
     fn write(&mut self, slot: Slot, piece: &[u8]) -> Result<usize, Failed>
         requires { IsTrue (is_writing ((told self.old).slots slot.0)) }
         ensures bound { WritesAtMost result piece.now }
         ensures some { 0 < length piece.now → IfOk result (λ count. 0 < count) }
-        ensures bytes { WritesTo (name_of ((told self.old).slots slot.0)) (told self.old) (told self.new) result piece.now }
+        ensures bytes { WritesTo (name_of ((told self.old).slots slot.0)) (told self.old) (told self.new) result
+            piece.now }
         ensures cause { HasCause (faults self.old).writing (faults self.new).writing result }
         ensures counts { OnlyWriting (faults self.old) (faults self.new) }
         ensures others { SameButNames (told self.old) (told self.new) };

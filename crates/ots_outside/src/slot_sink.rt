@@ -1,7 +1,8 @@
 ghost use Rattle.std.specs.Prelude.{◌≡◌, IsTrue};
 ghost use Rattle.std.proofs.Common.{◌∙◌, refl};
 ghost use Rattle.ots_outside.specs.Shelf.{is_writing, OnlyWriting, OnlyWriting-refl, OnlyWriting-trans};
-ghost use Rattle.ots_outside.specs.Written.{slot_bytes, SameButSlotBytes, SameButSlotBytes-refl, SameButSlotBytes-trans};
+ghost use Rattle.ots_outside.specs.Written.{slot_bytes, SameButSlotBytes, SameButSlotBytes-refl};
+ghost use Rattle.ots_outside.specs.Written.{SameButSlotBytes-trans};
 
 use crate::{Failed, Shelf, Sink, Slot};
 
@@ -41,13 +42,20 @@ impl<S: Shelf> Sink for SlotSink<'_, S> {
         × OnlyWriting (S.faults s.shelf.now) (S.faults t.shelf.now)
         × SameButSlotBytes s.slot.0 (S.told s.shelf.now) (S.told t.shelf.now) };
 
-    ghost same_refl = { λ s. (refl, refl, OnlyWriting-refl (S.faults s.shelf.now), SameButSlotBytes-refl s.slot.0 (S.told s.shelf.now)) };
+    ghost same_refl = { λ s. (
+      refl,
+      refl,
+      OnlyWriting-refl (S.faults s.shelf.now),
+      SameButSlotBytes-refl s.slot.0
+          (S.told s.shelf.now),
+    ) };
 
     ghost same_trans = { λ s t u p q. (
       q.0 ∙ p.0,
       q.1 ∙ p.1,
       OnlyWriting-trans (S.faults s.shelf.now) (S.faults t.shelf.now) (S.faults u.shelf.now) p.2 q.2,
-      SameButSlotBytes-trans s.slot.0 t.slot.0 (S.told s.shelf.now) (S.told t.shelf.now) (S.told u.shelf.now) p.1 p.3 q.3,
+      SameButSlotBytes-trans s.slot.0 t.slot.0 (S.told s.shelf.now) (S.told t.shelf.now) (S.told u.shelf.now) p.1 p.3
+          q.3,
     ) };
 
     fn write(&mut self, piece: &[u8]) -> Result<usize, Failed> {

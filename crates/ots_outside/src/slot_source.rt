@@ -1,6 +1,7 @@
 ghost use Rattle.std.specs.Prelude.{◌≡◌, IsTrue};
 ghost use Rattle.std.proofs.Common.{◌∙◌, refl};
-ghost use Rattle.ots_outside.specs.Shelf.{is_reading, left_of, OnlyReading, OnlyReading-refl, OnlyReading-trans, SameButSlot, SameButSlot-refl, SameButSlot-trans};
+ghost use Rattle.ots_outside.specs.Shelf.{is_reading, left_of, OnlyReading, OnlyReading-refl, OnlyReading-trans};
+ghost use Rattle.ots_outside.specs.Shelf.{SameButSlot, SameButSlot-refl, SameButSlot-trans};
 
 use crate::{Failed, Shelf, Slot, Source};
 
@@ -40,7 +41,13 @@ impl<S: Shelf> Source for SlotSource<'_, S> {
         × OnlyReading (S.faults s.shelf.now) (S.faults t.shelf.now)
         × SameButSlot s.slot.0 (S.told s.shelf.now) (S.told t.shelf.now) };
 
-    ghost same_refl = { λ s. (refl, refl, OnlyReading-refl (S.faults s.shelf.now), SameButSlot-refl s.slot.0 (S.told s.shelf.now)) };
+    ghost same_refl = { λ s. (
+      refl,
+      refl,
+      OnlyReading-refl (S.faults s.shelf.now),
+      SameButSlot-refl s.slot.0
+          (S.told s.shelf.now),
+    ) };
 
     ghost same_trans = { λ s t u p q. (
       q.0 ∙ p.0,

@@ -6,7 +6,7 @@ ghost use Rattle.ots_outside.specs.Streams.{Reads};
 
 use crate::Failed;
 
-/// Bytes that are read once, from their front.
+/// Bytes that are read once, from their start.
 ///
 /// The input of a source is what its reads give up to the first 0, however they are cut. A source
 /// that tells nothing never begins to tell, and one that tells never stops.
@@ -20,7 +20,7 @@ pub trait Source {
     /// What stays of an earlier value in a later one. Every read keeps it.
     ghost same: { Self → Self → Type 0 };
 
-    /// `Ok(n)` puts the next n bytes at the front of `buf`. For a `buf` that isn't empty, 0 is the
+    /// `Ok(n)` puts the next n bytes at the start of `buf`. For a `buf` that isn't empty, 0 is the
     /// end of input, after which a caller asks no further. `Failed` comes only where the count of
     /// faults rose, and leaves the bytes left as they were.
     fn read(&mut self, buf: &mut [u8]) -> Result<usize, Failed>

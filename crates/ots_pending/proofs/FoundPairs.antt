@@ -19,8 +19,8 @@ use Rattle.ots_pending.proofs.Lists.{some_same, none_some, get_map, get_mapped, 
 use Rattle.ots_pending.proofs.Raising.{same_of, same_key, key_at, key_same, key_numbers}
 use Rattle.ots_pending.proofs.Walking.{numbered}
 
-pub keeps_noted : (all : List (List ℕ)) (old new : Path) (depth n : ℕ) (m : List ℕ) → AreDistinct all → AreNumbers all old → slice_get all n ≡ Some m → slice_get old.messages.items depth ≡ Some m
-    → new.messages.items ≡ old.messages.items → new.numbers.items ≡ kept_at old.numbers.items depth n → KeepsPath all old new
+pub keeps_noted : (all : List (List ℕ)) (old new : Path) (depth n : ℕ) (m : List ℕ) → AreDistinct all → AreNumbers all old → slice_get all n ≡ Some m → slice_get old.messages depth ≡ Some m
+    → new.messages ≡ old.messages → new.numbers.items ≡ kept_at old.numbers.items depth n → KeepsPath all old new
 keeps_noted all old new depth n m distinct numbers there here same kept =
     let h = numbered all all old new depth m n numbers (record { place = there; grown = inl (in_range all m n there, refl) }) distinct here same kept in
     record { same = same; numbers = h.numbers }

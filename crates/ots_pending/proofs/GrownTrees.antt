@@ -11,7 +11,7 @@ use Rattle.ots_tree.specs.declared.token.Token.{Token}
 use Rattle.ots_tree.specs.declared.token.Token.TheVariants as token
 use Rattle.ots_tree.specs.declared.token.TokenAt.{TokenAt}
 use Rattle.ots_tree.specs.Listed.{listed, listed_item}
-use Rattle.ots_tree.specs.Made.{joined, behind}
+use Rattle.ots_tree.specs.Made.{joined, after}
 use Rattle.ots_tree.specs.PendingWalk.{followed, result_at}
 use Rattle.ots_tree.specs.Sound.{IsSoundPath, IsSound}
 use Rattle.ots_tree.specs.Wire.{Node, Item, last, more, attested, step, pre, pre_item, Path, paths, paths_of_item, below}
@@ -20,7 +20,7 @@ use Rattle.ots_tree.proofs.MadePaths.{paths-joined}
 use Rattle.ots_canon.specs.Order.{Has}
 use Rattle.ots_canon.proofs.Among.{onward, has_append, has_below, is_below}
 use Rattle.ots_pending.specs.Pairs.{PairAt}
-use Rattle.ots_pending.specs.Completed.{answer_to, paths_behind, gained}
+use Rattle.ots_pending.specs.Completed.{answer_to, paths_after, gained}
 use Rattle.ots_pending.specs.Grown.{forked, put, grown}
 use Rattle.ots_pending.proofs.Putting.{joined_pre}
 
@@ -33,11 +33,11 @@ first_of : (x : Option (List ℕ)) → slice_get (option_to_list x) 0 ≡ x
 first_of None = refl
 first_of (Some m) = refl
 
-behind_depth : (f : List ℕ → Option (List ℕ)) (ms : Messages) (d : ℕ)
+after_depth : (f : List ℕ → Option (List ℕ)) (ms : Messages) (d : ℕ)
     → slice_get (take (suc d) ms ++ option_to_list (option_and_then f (slice_get ms d))) (suc d) ≡ option_and_then f (slice_get ms d)
-behind_depth f [] d = refl
-behind_depth f (m ∷ ms) zero = first_of (f m)
-behind_depth f (m ∷ ms) (suc d) = behind_depth f ms d
+after_depth f [] d = refl
+after_depth f (m ∷ ms) zero = first_of (f m)
+after_depth f (m ∷ ms) (suc d) = after_depth f ms d
 
 up_to_depth : (f : List ℕ → Option (List ℕ)) (ms : Messages) (d : ℕ)
     → take (suc d) (take (suc d) ms ++ option_to_list (option_and_then f (slice_get ms d))) ≡ take (suc d) ms
@@ -86,7 +86,7 @@ abbrev joined_with : Option Node → Node → Node
 joined_with None u = u
 joined_with (Some t) u = joined t u
 
--- its tokens, behind a fork or not
+-- its tokens, after a fork or not
 abbrev item_tokens : Bool → Option Node → Item → List Token
 item_tokens b None i = pre_item i
 item_tokens false (Some t) i = forked t ++ pre_item i
@@ -132,11 +132,11 @@ module _ (pairs : List PairAt) (given : List (Option Node)) where
 
   -- ---- the tokens
 
-  -- what is left of a walk behind a part that becomes these tokens
+  -- what is left of a walk after a part that becomes these tokens
   record Becomes (b : Bool) (d : ℕ) (messages : Messages) (part : List TokenAt) (tokens : List Token) (rest : List TokenAt) : Type 0 where
-    behind : Messages
-    same : Same d messages behind
-    walk : grown pairs given b messages (part ++ rest) ≡ tokens ++ grown pairs given false behind rest
+    after : Messages
+    same : Same d messages after
+    walk : grown pairs given b messages (part ++ rest) ≡ tokens ++ grown pairs given false after rest
 
   mutual
     node_becomes : (t : Node) (d k : ℕ) (m : Option (List ℕ)) (messages : Messages) (rest : List TokenAt) → IsSound k d t → slice_get messages d ≡ m
@@ -144,23 +144,23 @@ module _ (pairs : List PairAt) (given : List (Option Node)) where
     node_becomes (last i) d k m messages rest h here =
         let p = item_becomes i false d k m messages rest h here in
         record {
-          behind = p.behind;
+          after = p.after;
           same = p.same;
-          walk = p.walk ∙ ap (λ (z : List Token). z ++ grown pairs given false p.behind rest) (last_tokens (answer m i) (woven_item m i));
+          walk = p.walk ∙ ap (λ (z : List Token). z ++ grown pairs given false p.after rest) (last_tokens (answer m i) (woven_item m i));
         }
     node_becomes (more i t) d k m messages rest h here =
         let p = item_becomes i true d k m messages (listed d t ++ rest) (all-left (IsSoundPath k d) (paths_of_item i) (paths t) h) here in
-        let q = node_becomes t d k m p.behind rest (all-right (IsSoundPath k d) (paths_of_item i) (paths t) h) (here_still d messages p.behind m here p.same) in
+        let q = node_becomes t d k m p.after rest (all-right (IsSoundPath k d) (paths_of_item i) (paths t) h) (here_still d messages p.after m here p.same) in
         let tokens = item_tokens true (answer m i) (woven_item m i) in
         record {
-          behind = q.behind;
+          after = q.after;
           same = record { is = q.same.is ∙ p.same.is };
           walk =
               ap (λ (z : List TokenAt). token.Fork ∷ grown pairs given true messages z) (append_assoc (listed_item d i) (listed d t) rest)
               ∙ ap (λ (z : List Token). token.Fork ∷ z) p.walk
               ∙ ap (λ (z : List Token). token.Fork ∷ (tokens ++ z)) q.walk
-              ∙ ap (λ (z : List Token). token.Fork ∷ z) (sym (append_assoc tokens (pre (woven m t)) (grown pairs given false q.behind rest)))
-              ∙ ap (λ (z : List Token). token.Fork ∷ (z ++ grown pairs given false q.behind rest)) (more_tokens (answer m i) (woven_item m i) (woven m t));
+              ∙ ap (λ (z : List Token). token.Fork ∷ z) (sym (append_assoc tokens (pre (woven m t)) (grown pairs given false q.after rest)))
+              ∙ ap (λ (z : List Token). token.Fork ∷ (z ++ grown pairs given false q.after rest)) (more_tokens (answer m i) (woven_item m i) (woven m t));
         }
 
     item_becomes : (i : Item) (b : Bool) (d k : ℕ) (m : Option (List ℕ)) (messages : Messages) (rest : List TokenAt) → AllByRecursion (IsSoundPath k d) (paths_of_item i)
@@ -168,7 +168,7 @@ module _ (pairs : List PairAt) (given : List (Option Node)) where
     item_becomes (attested a) b d k m messages rest h here =
         let low : min d (2 ^ 32 - 1) ≡ d = let short = h.0.short in cap-low d (omega arith) in
         record {
-          behind = messages;
+          after = messages;
           same = record { is = refl };
           walk =
               ap (λ (z : ℕ). put b (token.Attestation a) (answer_to pairs given a (slice_get messages z)) ++ grown pairs given false messages rest) low
@@ -181,17 +181,17 @@ module _ (pairs : List PairAt) (given : List (Option Node)) where
         let low : min d (2 ^ 32 - 1) ≡ d = cap-low d (omega arith) in
         let deeper = take (suc d) messages ++ option_to_list (option_and_then (apply o) (slice_get messages d)) in
         let sound : IsSound l.result (suc d) t = subst (λ (z : ℕ). IsSound l.result z t) (add-one d) (down o k d l.result l.is (paths t) h) in
-        let there : slice_get deeper (suc d) ≡ option_and_then (apply o) m = behind_depth (apply o) messages d ∙ ap (option_and_then (apply o)) here in
+        let there : slice_get deeper (suc d) ≡ option_and_then (apply o) m = after_depth (apply o) messages d ∙ ap (option_and_then (apply o)) here in
         let p = node_becomes t (suc d) l.result (option_and_then (apply o) m) deeper rest sound there in
         record {
-          behind = p.behind;
-          same = record { is = (same_above d deeper p.behind p.same).is ∙ up_to_depth (apply o) messages d };
+          after = p.after;
+          same = record { is = (same_above d deeper p.after p.same).is ∙ up_to_depth (apply o) messages d };
           walk =
               ap (λ (z : List Token). z ++ grown pairs given false (followed (token.Op o) (min d (2 ^ 32 - 1)) messages) (listed (suc d) t ++ rest)) (put_none b (token.Op o))
               ∙ ap (λ (z : ℕ). token.Op o ∷ grown pairs given false (followed (token.Op o) z messages) (listed (suc d) t ++ rest)) low
               ∙ ap (λ (z : ℕ). token.Op o ∷ grown pairs given false (take z messages ++ option_to_list (result_at o d messages)) (listed (suc d) t ++ rest)) (add-one d)
               ∙ ap (λ (z : List Token). token.Op o ∷ z) p.walk
-              ∙ ap (λ (z : List Token). z ++ grown pairs given false p.behind rest) (sym (no_answer b (woven_item m (step o t))));
+              ∙ ap (λ (z : List Token). z ++ grown pairs given false p.after rest) (sym (no_answer b (woven_item m (step o t))));
         }
 
   pub root_becomes : (t : Node) (k : ℕ) (m : List ℕ) → IsSound k 0 t → grown pairs given false (m ∷ []) (listed 0 t) ≡ pre (woven (Some m) t)
@@ -234,21 +234,21 @@ module _ (pairs : List PairAt) (given : List (Option Node)) where
     ],
   )
 
-  none_before : (ps : List Path) → map (behind []) ps ≡ ps
+  none_before : (ps : List Path) → map (after []) ps ≡ ps
   none_before [] = refl
   none_before (p ∷ ps) = ap (λ (z : List Path). p ∷ z) (none_before ps)
 
-  one_before : (o : Op) (ops : List Op) (ps : List Path) → map (behind (o ∷ ops)) ps ≡ map (below o) (map (behind ops) ps)
+  one_before : (o : Op) (ops : List Op) (ps : List Path) → map (after (o ∷ ops)) ps ≡ map (below o) (map (after ops) ps)
   one_before o ops [] = refl
-  one_before o ops (p ∷ ps) = ap (λ (z : List Path). below o (behind ops p) ∷ z) (one_before o ops ps)
+  one_before o ops (p ∷ ps) = ap (λ (z : List Path). below o (after ops p) ∷ z) (one_before o ops ps)
 
-  answer_before : (o : Op) (ops : List Op) (t : Option Node) → paths_behind (o ∷ ops) t ≡ map (below o) (paths_behind ops t)
+  answer_before : (o : Op) (ops : List Op) (t : Option Node) → paths_after (o ∷ ops) t ≡ map (below o) (paths_after ops t)
   answer_before o ops None = refl
   answer_before o ops (Some t) = one_before o ops (paths t)
 
   gain_below : (o : Op) (m : Option (List ℕ)) (q : Path) → gained pairs given m (below o q) ≡ map (below o) (gained pairs given (option_and_then (apply o) m) q)
   gain_below o m q =
-      ap (λ (z : Option (List ℕ)). paths_behind (o ∷ q.ops) (answer_to pairs given q.end z)) (first_operation o q.ops m)
+      ap (λ (z : Option (List ℕ)). paths_after (o ∷ q.ops) (answer_to pairs given q.end z)) (first_operation o q.ops m)
       ∙ answer_before o q.ops (answer_to pairs given q.end (option_and_then (value q.ops) (option_and_then (apply o) m)))
 
   gains_below : (o : Op) (m : Option (List ℕ)) (ps : List Path) (p : Path) → Gains (option_and_then (apply o) m) ps p → Gains m (map (below o) ps) (below o p)
@@ -273,15 +273,15 @@ module _ (pairs : List PairAt) (given : List (Option Node)) where
       record { inner = c.inner; gains = inr (record { from = b.inner; among = b.has; gain = c.has }); is = c.is }
 
   end_gain : (a : Attestation) (m : Option (List ℕ)) (t : Option Node) (p : Path) → t ≡ answer_to pairs given a m
-      → HasAnswer t p ↔ Has (paths_behind [] t) p
+      → HasAnswer t p ↔ Has (paths_after [] t) p
   end_gain a m None p e = ((λ h. absurd h), (λ h. absurd h))
   end_gain a m (Some t) p e = (
     (λ h. subst (λ (z : List Path). Has z p) (sym (none_before (paths t))) h),
     (λ h. subst (λ (z : List Path). Has z p) (none_before (paths t)) h),
   )
 
-  end_gained : (a : Attestation) (m : Option (List ℕ)) → gained pairs given m (record { ops = []; end = a }) ≡ paths_behind [] (answer_to pairs given a m)
-  end_gained a m = ap (λ (z : Option (List ℕ)). paths_behind [] (answer_to pairs given a z)) (no_operation m)
+  end_gained : (a : Attestation) (m : Option (List ℕ)) → gained pairs given m (record { ops = []; end = a }) ≡ paths_after [] (answer_to pairs given a m)
+  end_gained a m = ap (λ (z : Option (List ℕ)). paths_after [] (answer_to pairs given a z)) (no_operation m)
 
   end_of : (a : Attestation) (m : Option (List ℕ)) (p q : Path) → Has (paths_of_item (attested a)) q → Has (gained pairs given m q) p → Has (gained pairs given m (record { ops = []; end = a })) p
   end_of a m p q (inl is) h = subst (λ (z : Path). Has (gained pairs given m z) p) (sym is) h

@@ -9,7 +9,7 @@ use Rattle.std.proofs.lemmas.Slice.Eq.{bytes_eq-Decides}
 use Rattle.sha2.specs.Sha256.{sha256}
 use Rattle.ots_pending.specs.Distinct.{number_at, AreDistinct, IsIndexed, IsNotedIn, IsNumbered, IsPlaceOf}
 
--- what a map has behind an insertion
+-- what a map has after an insertion
 abbrev Inserted : List (List ℕ × ℕ) → List ℕ → ℕ → List (List ℕ × ℕ) → Type 0
 Inserted old digest n new = (k : List ℕ) → number_at new k ≡ cond (is_at (slice_cmp nat_cmp digest) k) (Some n) (number_at old k)
 

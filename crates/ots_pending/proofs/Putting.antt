@@ -109,13 +109,13 @@ all_ready pairs trees ready i h over long = record { long = long; each = λ give
 
 -- ---- the last token first
 
-pub last_first_is : (front xs : List Token) (x : Token) → last_first front (xs ++ x ∷ []) ≡ x ∷ (front ++ xs)
-last_first_is front [] x = ap (λ (z : List Token). x ∷ z) (sym (append-nil front))
-last_first_is front (y ∷ []) x = refl
-last_first_is front (y ∷ z ∷ xs) x = last_first_is (front ++ y ∷ []) (z ∷ xs) x ∙ ap (λ (w : List Token). x ∷ w) (append_assoc front (y ∷ []) (z ∷ xs))
+pub last_first_is : (prefix xs : List Token) (x : Token) → last_first prefix (xs ++ x ∷ []) ≡ x ∷ (prefix ++ xs)
+last_first_is prefix [] x = ap (λ (z : List Token). x ∷ z) (sym (append-nil prefix))
+last_first_is prefix (y ∷ []) x = refl
+last_first_is prefix (y ∷ z ∷ xs) x = last_first_is (prefix ++ y ∷ []) (z ∷ xs) x ∙ ap (λ (w : List Token). x ∷ w) (append_assoc prefix (y ∷ []) (z ∷ xs))
 
-pub turned_behind : (b : Bool) (xs front : List Token) (x : Token) → b ≡ true → xs ≡ front ++ x ∷ [] → x ∷ front ≡ turned b xs
-turned_behind b xs front x h is = sym (ap (λ (z : Bool). turned z xs) h ∙ ap (last_first []) is ∙ last_first_is [] front x)
+pub turned_after : (b : Bool) (xs prefix : List Token) (x : Token) → b ≡ true → xs ≡ prefix ++ x ∷ [] → x ∷ prefix ≡ turned b xs
+turned_after b xs prefix x h is = sym (ap (λ (z : Bool). turned z xs) h ∙ ap (last_first []) is ∙ last_first_is [] prefix x)
 
 -- ---- what is put for a token
 

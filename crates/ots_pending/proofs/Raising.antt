@@ -8,7 +8,7 @@ use Rattle.std.proofs.lemmas.List.{map-append, length-map, append_cancel_left}
 use Rattle.std.proofs.lemmas.Nat.{from_le_bytes-to_le_bytes_8}
 use Rattle.std.proofs.Math.Seq.{take-append_seam}
 use Rattle.std.proofs.lemmas.Slice.Eq.{bytes_eq-Decides}
-use Rattle.ots_pending.specs.declared.asked.Asked.{Asked}
+use Rattle.ots_pending.specs.declared.kept_pair.KeptPair.{KeptPair}
 use Rattle.ots_pending.specs.declared.listing.Listing.{Listing}
 use Rattle.ots_pending.specs.Distinct.{AreDistinct, IsNumbered}
 use Rattle.ots_pending.specs.Pairs.{Pair, PairAt, is_same}
@@ -58,19 +58,19 @@ other : (b : Bool) (qs rs : List PairAt) → b ≡ false → cond b qs rs ≡ rs
 other true qs rs h = absurd cc
 other false qs rs h = refl
 
-module _ (f : Asked → PairAt) (q : PairAt) where
-  unraised : (xs : List Asked) → ((j : ℕ) (b : Asked) → slice_get xs j ≡ Some b → is_same q.pair (f b).pair ≡ true → ⊥) → map f xs ≡ map (raised q) (map f xs)
+module _ (f : KeptPair → PairAt) (q : PairAt) where
+  unraised : (xs : List KeptPair) → ((j : ℕ) (b : KeptPair) → slice_get xs j ≡ Some b → is_same q.pair (f b).pair ≡ true → ⊥) → map f xs ≡ map (raised q) (map f xs)
   unraised [] none = refl
   unraised (a ∷ xs) none =
       ap (λ (z : PairAt). z ∷ map f xs) (sym (not_raised _ _ (f a) (not_true (is_same q.pair (f a).pair) (none 0 a refl))))
       ∙ ap (λ (z : List PairAt). raised q (f a) ∷ z) (unraised xs (λ j b h. none (suc j) b h))
 
-  pub raised_one : (xs : List Asked) (i depth : ℕ) (a : Asked) → slice_get xs i ≡ Some a → f (deepened depth a) ≡ raised q (f a)
-      → ((j : ℕ) (b : Asked) → slice_get xs j ≡ Some b → is_same q.pair (f b).pair ≡ true → j ≡ i) → map f (raised_at xs i depth) ≡ map (raised q) (map f xs)
+  pub raised_one : (xs : List KeptPair) (i depth : ℕ) (a : KeptPair) → slice_get xs i ≡ Some a → f (deepened depth a) ≡ raised q (f a)
+      → ((j : ℕ) (b : KeptPair) → slice_get xs j ≡ Some b → is_same q.pair (f b).pair ≡ true → j ≡ i) → map f (raised_at xs i depth) ≡ map (raised q) (map f xs)
   raised_one [] i depth a h is only = refl
   raised_one (x ∷ xs) zero depth a h is only =
       let here : x ≡ a = some_same x a h in
-      let first : f (deepened depth x) ≡ raised q (f x) = subst (λ (z : Asked). f (deepened depth z) ≡ raised q (f z)) (sym here) is in
+      let first : f (deepened depth x) ≡ raised q (f x) = subst (λ (z : KeptPair). f (deepened depth z) ≡ raised q (f z)) (sym here) is in
       ap (λ (z : PairAt). z ∷ map f xs) first
       ∙ ap (λ (z : List PairAt). raised q (f x) ∷ z) (unraised xs (λ j b k e. let no : suc j ≡ 0 = only (suc j) b k e in absurd (omega arith)))
   raised_one (x ∷ xs) (suc i) depth a h is only =
@@ -86,17 +86,17 @@ key_numbers m n u v low high e =
       append_cancel_left (to_le_bytes w64 n) u v (ap (λ (z : List ℕ). z ++ u) (sym heads) ∙ e),
     )
 
-same_keys : (xs : List Asked) (i depth : ℕ) → map key (raised_at xs i depth) ≡ map key xs
+same_keys : (xs : List KeptPair) (i depth : ℕ) → map key (raised_at xs i depth) ≡ map key xs
 same_keys [] i depth = refl
 same_keys (a ∷ xs) zero depth = refl
 same_keys (a ∷ xs) (suc i) depth = ap (λ (z : List (List ℕ)). key a ∷ z) (same_keys xs i depth)
 
 -- an element of a list in which one is raised has the message of one of the list
-raised_from : (xs : List Asked) (i depth j : ℕ) (b : Asked) → slice_get (raised_at xs i depth) j ≡ Some b → (a : Asked) × (slice_get xs j ≡ Some a) × (b.message ≡ a.message)
-raised_from [] i depth j b h = absurd (let no : (let o : Option Asked = None in o) ≡ Some b = h in cc)
-raised_from (a ∷ xs) zero depth zero b h = (a, refl, sym (ap (λ (z : Asked). z.message) (some_same (deepened depth a) b h)))
+raised_from : (xs : List KeptPair) (i depth j : ℕ) (b : KeptPair) → slice_get (raised_at xs i depth) j ≡ Some b → (a : KeptPair) × (slice_get xs j ≡ Some a) × (b.message ≡ a.message)
+raised_from [] i depth j b h = absurd (let no : (let o : Option KeptPair = None in o) ≡ Some b = h in cc)
+raised_from (a ∷ xs) zero depth zero b h = (a, refl, sym (ap (λ (z : KeptPair). z.message) (some_same (deepened depth a) b h)))
 raised_from (a ∷ xs) zero depth (suc j) b h = (b, h, refl)
-raised_from (a ∷ xs) (suc i) depth zero b h = (a, refl, sym (ap (λ (z : Asked). z.message) (some_same a b h)))
+raised_from (a ∷ xs) (suc i) depth zero b h = (a, refl, sym (ap (λ (z : KeptPair). z.message) (some_same a b h)))
 raised_from (a ∷ xs) (suc i) depth (suc j) b h = raised_from xs i depth j b h
 
 -- ---- one more pair
@@ -106,17 +106,17 @@ module _ (l : Listing) (kept : IsKept l) (uri : List ℕ) (number : ℕ) (m : Li
   wanted = record { pair = record { uri = uri; message = m }; depth = depth }
 
   -- a pair that is the same has the same key
-  pub same_key : (j : ℕ) (a : Asked) → slice_get l.asked.items j ≡ Some a → is_same wanted.pair (pair_in l.messages a).pair ≡ true → key a ≡ key_of number uri
+  pub same_key : (j : ℕ) (a : KeptPair) → slice_get l.asked.items j ≡ Some a → is_same wanted.pair (pair_in l.messages a).pair ≡ true → key a ≡ key_of number uri
   same_key j a h e =
       let s = same_of wanted.pair (pair_in l.messages a).pair e in
       let here : slice_get l.messages a.message ≡ Some m = get_of_or l.messages a.message [] (kept.in_range j a h) ∙ ap Some (sym s.message) in
       let numbers : a.message ≡ number = kept.messages a.message number m here there in
       ap (λ (z : ℕ). key_of z a.uri) numbers ∙ ap (key_of number) (sym s.uri)
 
-  pub key_at : (j : ℕ) (a : Asked) → slice_get l.asked.items j ≡ Some a → slice_get l.keys j ≡ Some (key a)
+  pub key_at : (j : ℕ) (a : KeptPair) → slice_get l.asked.items j ≡ Some a → slice_get l.keys j ≡ Some (key a)
   key_at j a h = ap (λ (z : List (List ℕ)). slice_get z j) kept.keys_are ∙ get_map key l.asked.items j ∙ ap (option_map key) h
 
-  pub key_same : (a : Asked) (j : ℕ) → slice_get l.asked.items j ≡ Some a → key a ≡ key_of number uri → is_same wanted.pair (pair_in l.messages a).pair ≡ true
+  pub key_same : (a : KeptPair) (j : ℕ) → slice_get l.asked.items j ≡ Some a → key a ≡ key_of number uri → is_same wanted.pair (pair_in l.messages a).pair ≡ true
   key_same a j h e =
       let k = key_numbers a.message number a.uri uri (kept.fits j a h) fits e in
       of_same wanted.pair (pair_in l.messages a).pair (record {
@@ -127,10 +127,10 @@ module _ (l : Listing) (kept : IsKept l) (uri : List ℕ) (number : ℕ) (m : Li
   -- ---- it is there
 
   module _ (place : ℕ) (at : slice_get l.keys place ≡ Some (key_of number uri)) where
-    pub standing : (a : Asked) × (slice_get l.asked.items place ≡ Some a) × (key a ≡ key_of number uri)
+    pub standing : (a : KeptPair) × (slice_get l.asked.items place ≡ Some a) × (key a ≡ key_of number uri)
     standing = get_mapped key l.asked.items place (key_of number uri) (ap (λ (z : List (List ℕ)). slice_get z place) (sym kept.keys_are) ∙ at)
 
-    pub only : (j : ℕ) (b : Asked) → slice_get l.asked.items j ≡ Some b → is_same wanted.pair (pair_in l.messages b).pair ≡ true → j ≡ place
+    pub only : (j : ℕ) (b : KeptPair) → slice_get l.asked.items j ≡ Some b → is_same wanted.pair (pair_in l.messages b).pair ≡ true → j ≡ place
     only j b h e = kept.keys j place (key_of number uri) (key_at j b h ∙ ap Some (same_key j b h e)) at
 
     deeper : pair_in l.messages (deepened depth standing.0) ≡ raised wanted (pair_in l.messages standing.0)
@@ -148,7 +148,7 @@ module _ (l : Listing) (kept : IsKept l) (uri : List ℕ) (number : ℕ) (m : Li
   -- ---- it is new
 
   module _ (keys : List (List ℕ)) (keys_are : keys ≡ l.keys ++ key_of number uri ∷ []) (distinct : AreDistinct keys) where
-    pub nowhere : (j : ℕ) (b : Asked) → slice_get l.asked.items j ≡ Some b → is_same wanted.pair (pair_in l.messages b).pair ≡ true → ⊥
+    pub nowhere : (j : ℕ) (b : KeptPair) → slice_get l.asked.items j ≡ Some b → is_same wanted.pair (pair_in l.messages b).pair ≡ true → ⊥
     nowhere j b h e =
         let before : slice_get l.keys j ≡ Some (key_of number uri) = key_at j b h ∙ ap Some (same_key j b h e) in
         let still : slice_get keys j ≡ Some (key_of number uri) = ap (λ (z : List (List ℕ)). slice_get z j) keys_are ∙ get_before l.keys (key_of number uri) (key_of number uri) j before in
@@ -162,7 +162,7 @@ module _ (l : Listing) (kept : IsKept l) (uri : List ℕ) (number : ℕ) (m : Li
         let x = get_mapped (pair_in l.messages) l.asked.items j q h in
         nowhere j x.0 x.1 (ap (λ (z : PairAt). is_same wanted.pair z.pair) x.2 ∙ e)
 
-    pub put_last : (a : Asked) → a.uri ≡ uri → a.message ≡ number → a.depth ≡ depth → map (pair_in l.messages) (l.asked.items ++ a ∷ []) ≡ with_pair wanted (pairs_in l)
+    pub put_last : (a : KeptPair) → a.uri ≡ uri → a.message ≡ number → a.depth ≡ depth → map (pair_in l.messages) (l.asked.items ++ a ∷ []) ≡ with_pair wanted (pairs_in l)
     put_last a u n d =
         let message : get_or l.messages a.message [] ≡ m = ap (λ (z : ℕ). get_or l.messages z []) n ∙ or_of_get l.messages number m [] there in
         let one : pair_in l.messages a ≡ wanted = λ i. record { pair = record { uri = u i; message = message i }; depth = d i } in
@@ -180,53 +180,53 @@ test_false : (b : Bool) (i n : ℕ) → nat_lt i n ≡ b → n ≤ i → b ≡ f
 test_false false i n e h = refl
 test_false true i n e h = let less : i < n = ltb-true i n e in absurd (omega arith)
 
-if_true : (b : Bool) (xs ys : List Asked) → b ≡ true → cond b xs ys ≡ xs
+if_true : (b : Bool) (xs ys : List KeptPair) → b ≡ true → cond b xs ys ≡ xs
 if_true true xs ys h = refl
 if_true false xs ys h = absurd cc
 
-if_false : (b : Bool) (xs ys : List Asked) → b ≡ false → cond b xs ys ≡ ys
+if_false : (b : Bool) (xs ys : List KeptPair) → b ≡ false → cond b xs ys ≡ ys
 if_false true xs ys h = absurd cc
 if_false false xs ys h = refl
 
-put_low : (xs : List Asked) (i : ℕ) (a : Asked) → i < length xs → put_at xs i a ≡ raised_at xs i a.depth
+put_low : (xs : List KeptPair) (i : ℕ) (a : KeptPair) → i < length xs → put_at xs i a ≡ raised_at xs i a.depth
 put_low xs i a h = if_true (nat_lt i (length xs)) _ _ (test_true (nat_lt i (length xs)) i (length xs) refl h)
 
-put_high : (xs : List Asked) (i : ℕ) (a : Asked) → length xs ≤ i → put_at xs i a ≡ xs ++ a ∷ []
+put_high : (xs : List KeptPair) (i : ℕ) (a : KeptPair) → length xs ≤ i → put_at xs i a ≡ xs ++ a ∷ []
 put_high xs i a h = if_false (nat_lt i (length xs)) _ _ (test_false (nat_lt i (length xs)) i (length xs) refl h)
 
 -- a pair that is raised where it is
-pub raised_set : (xs : List Asked) (i depth : ℕ) (d : Asked) → i < length xs → (get_or xs i d).depth ≤ depth
+pub raised_set : (xs : List KeptPair) (i depth : ℕ) (d : KeptPair) → i < length xs → (get_or xs i d).depth ≤ depth
     → slice_set xs i (record { uri = (get_or xs i d).uri; message = (get_or xs i d).message; depth = depth }) ≡ raised_at xs i depth
 raised_set [] i depth d h low = absurd (omega arith)
 raised_set (y ∷ xs) zero depth d h low = let same : depth ≡ max y.depth depth = omega arith in λ i. record { uri = y.uri; message = y.message; depth = same i } ∷ xs
-raised_set (y ∷ xs) (suc i) depth d h low = ap (λ (z : List Asked). y ∷ z) (raised_set xs i depth d (omega arith) low)
+raised_set (y ∷ xs) (suc i) depth d h low = ap (λ (z : List KeptPair). y ∷ z) (raised_set xs i depth d (omega arith) low)
 
-pub raised_same : (xs : List Asked) (i depth : ℕ) (d : Asked) → i < length xs → depth ≤ (get_or xs i d).depth → xs ≡ raised_at xs i depth
+pub raised_same : (xs : List KeptPair) (i depth : ℕ) (d : KeptPair) → i < length xs → depth ≤ (get_or xs i d).depth → xs ≡ raised_at xs i depth
 raised_same [] i depth d h low = absurd (omega arith)
 raised_same (y ∷ xs) zero depth d h low = let same : y.depth ≡ max y.depth depth = omega arith in λ i. record { uri = y.uri; message = y.message; depth = same i } ∷ xs
-raised_same (y ∷ xs) (suc i) depth d h low = ap (λ (z : List Asked). y ∷ z) (raised_same xs i depth d (omega arith) low)
+raised_same (y ∷ xs) (suc i) depth d h low = ap (λ (z : List KeptPair). y ∷ z) (raised_same xs i depth d (omega arith) low)
 
-pub get_any : (xs : List Asked) (i : ℕ) (d e : Asked) → i < length xs → get_or xs i d ≡ get_or xs i e
+pub get_any : (xs : List KeptPair) (i : ℕ) (d e : KeptPair) → i < length xs → get_or xs i d ≡ get_or xs i e
 get_any [] i d e h = absurd (omega arith)
 get_any (y ∷ xs) zero d e h = refl
 get_any (y ∷ xs) (suc i) d e h = get_any xs i d e (omega arith)
 
 -- ---- together
 
-module _ (l new : Listing) (kept : IsKept l) (place number depth : ℕ) (uri m : List ℕ) (a : Asked) (there : slice_get l.messages number ≡ Some m) (fits : number < 2 ^ 64)
+module _ (l new : Listing) (kept : IsKept l) (place number depth : ℕ) (uri m : List ℕ) (a : KeptPair) (there : slice_get l.messages number ≡ Some m) (fits : number < 2 ^ 64)
     (messages : new.messages ≡ l.messages) (distinct : AreDistinct new.keys) (asked : new.asked.items ≡ put_at l.asked.items place a)
     (a_uri : a.uri ≡ uri) (a_number : a.message ≡ number) (a_depth : a.depth ≡ depth) where
   kept_count : length l.keys ≡ length l.asked.items
   kept_count = ap (λ (z : List (List ℕ)). length z) kept.keys_are ∙ length-map l.asked.items key
 
-  range_new : (xs : List Asked) → new.asked.items ≡ xs → ((i : ℕ) (b : Asked) → slice_get xs i ≡ Some b → b.message < length l.messages)
-      → (i : ℕ) (b : Asked) → slice_get new.asked.items i ≡ Some b → b.message < length new.messages
+  range_new : (xs : List KeptPair) → new.asked.items ≡ xs → ((i : ℕ) (b : KeptPair) → slice_get xs i ≡ Some b → b.message < length l.messages)
+      → (i : ℕ) (b : KeptPair) → slice_get new.asked.items i ≡ Some b → b.message < length new.messages
   range_new xs is all i b h =
-      subst (λ (z : List (List ℕ)). b.message < length z) (sym messages) (all i b (ap (λ (z : List Asked). slice_get z i) (sym is) ∙ h))
+      subst (λ (z : List (List ℕ)). b.message < length z) (sym messages) (all i b (ap (λ (z : List KeptPair). slice_get z i) (sym is) ∙ h))
 
-  fits_new : (xs : List Asked) → new.asked.items ≡ xs → ((i : ℕ) (b : Asked) → slice_get xs i ≡ Some b → b.message < 2 ^ 64)
-      → (i : ℕ) (b : Asked) → slice_get new.asked.items i ≡ Some b → b.message < 2 ^ 64
-  fits_new xs is all i b h = all i b (ap (λ (z : List Asked). slice_get z i) (sym is) ∙ h)
+  fits_new : (xs : List KeptPair) → new.asked.items ≡ xs → ((i : ℕ) (b : KeptPair) → slice_get xs i ≡ Some b → b.message < 2 ^ 64)
+      → (i : ℕ) (b : KeptPair) → slice_get new.asked.items i ≡ Some b → b.message < 2 ^ 64
+  fits_new xs is all i b h = all i b (ap (λ (z : List KeptPair). slice_get z i) (sym is) ∙ h)
 
   module _ (less : place < length l.keys) (same : new.keys ≡ l.keys) (at : slice_get new.keys place ≡ Some (key_of number uri)) where
     is_raised_list : new.asked.items ≡ raised_at l.asked.items place depth
@@ -264,8 +264,8 @@ module _ (l new : Listing) (kept : IsKept l) (place number depth : ℕ) (uri m :
     low_number : number < length l.messages
     low_number = in_range l.messages m number there
 
-    pub put_behind : Adds l new (record { pair = record { uri = uri; message = m }; depth = depth })
-    put_behind = record {
+    pub put_after : Adds l new (record { pair = record { uri = uri; message = m }; depth = depth })
+    put_after = record {
       kept = record {
         messages = subst AreDistinct (sym messages) kept.messages;
         keys = distinct;
@@ -277,11 +277,11 @@ module _ (l new : Listing) (kept : IsKept l) (place number depth : ℕ) (uri m :
             ∙ ap (map key) (sym is_longer);
         in_range = range_new (l.asked.items ++ a ∷ []) is_longer (λ i b h. elim (get_of_more l.asked.items a b i h) [
           | inl k ↦ kept.in_range i b k
-          | inr k ↦ subst (λ (z : Asked). z.message < length l.messages) (sym k.is) (subst (λ (z : ℕ). z < length l.messages) (sym a_number) low_number)
+          | inr k ↦ subst (λ (z : KeptPair). z.message < length l.messages) (sym k.is) (subst (λ (z : ℕ). z < length l.messages) (sym a_number) low_number)
         ]);
         fits = fits_new (l.asked.items ++ a ∷ []) is_longer (λ i b h. elim (get_of_more l.asked.items a b i h) [
           | inl k ↦ kept.fits i b k
-          | inr k ↦ subst (λ (z : Asked). z.message < 2 ^ 64) (sym k.is) (subst (λ (z : ℕ). z < 2 ^ 64) (sym a_number) fits)
+          | inr k ↦ subst (λ (z : KeptPair). z.message < 2 ^ 64) (sym k.is) (subst (λ (z : ℕ). z < 2 ^ 64) (sym a_number) fits)
         ]);
       };
       messages = messages;
@@ -294,7 +294,7 @@ module _ (l new : Listing) (kept : IsKept l) (place number depth : ℕ) (uri m :
   pub put_one : IsNumbered l.keys new.keys (key_of number uri) place → Adds l new (record { pair = record { uri = uri; message = m }; depth = depth })
   put_one n = elim n.grown [
     | inl h ↦ put_there h.0 h.1 n.place
-    | inr h ↦ put_behind h.0 h.1
+    | inr h ↦ put_after h.0 h.1
   ]
 
 pub on_ok : {T E : Type 0} {A B : Type 0} (r : Result T E) → (A → B) → OnOk r A → OnOk r B

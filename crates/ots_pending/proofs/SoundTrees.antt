@@ -10,7 +10,7 @@ use Rattle.ots_attest.specs.declared.attestation.Attestation.TheVariants as atte
 use Rattle.ots_tree.specs.declared.token.Token.{Token}
 use Rattle.ots_tree.specs.declared.detached.Detached.{Detached}
 use Rattle.ots_tree.specs.declared.pending.PendingAt.{PendingAt}
-use Rattle.ots_tree.specs.Made.{behind}
+use Rattle.ots_tree.specs.Made.{after}
 use Rattle.ots_tree.specs.Pending.{asked, pending_from}
 use Rattle.ots_tree.specs.Sound.{length_after, IsSoundPath, IsSoundPre}
 use Rattle.ots_tree.specs.Wire.{Node, Path, paths, pre}
@@ -19,7 +19,7 @@ use Rattle.ots_tree.proofs.Determined.{same_pre}
 use Rattle.ots_canon.specs.Order.{Has}
 use Rattle.ots_canon.proofs.Joins.{sound_paths, sound_tree}
 use Rattle.ots_pending.specs.Pairs.{Pair, PairAt, asked_by, is_same, once, deepest, at_depth, ArePairs}
-use Rattle.ots_pending.specs.Completed.{tree_for, answer_to, paths_behind, gained, AreSoundFor, IsCompleted}
+use Rattle.ots_pending.specs.Completed.{tree_for, answer_to, paths_after, gained, AreSoundFor, IsCompleted}
 use Rattle.ots_pending.proofs.Askable.{value_length}
 use Rattle.ots_pending.proofs.Lists.{some_same, none_some, get_mapped}
 use Rattle.ots_pending.proofs.Putting.{given_at}
@@ -80,7 +80,7 @@ gave p [] given t h = absurd (none_some t h)
 gave p (q ∷ qs) [] t h = absurd (none_some t h)
 gave p (q ∷ qs) (u ∷ given) t h = by_test p q qs u given t (is_same p q.pair) refl (gave p qs given t) h
 
--- ---- paths behind others
+-- ---- paths after others
 
 step_append : (ops more : List Op) (x : Option ℕ) (r : ℕ) → option_and_then (length_after ops) x ≡ Some r
     → ((n : ℕ) → length_after ops n ≡ Some r → length_after (ops ++ more) n ≡ length_after more r) → option_and_then (length_after (ops ++ more)) x ≡ length_after more r
@@ -91,16 +91,16 @@ after_append : (ops more : List Op) (n r : ℕ) → length_after ops n ≡ Some 
 after_append [] more n r h = ap (length_after more) (some_same n r h)
 after_append (o ∷ ops) more n r h = step_append ops more (len o n) r h (λ k. after_append ops more k r)
 
-one_behind : (n k r : ℕ) (ops : List Op) (q : Path) → length ops ≤ k → length_after ops n ≡ Some r → IsSoundPath r k q → IsSoundPath n 0 (behind ops q)
-one_behind n k r ops q low after h = record {
+one_after : (n k r : ℕ) (ops : List Op) (q : Path) → length ops ≤ k → length_after ops n ≡ Some r → IsSoundPath r k q → IsSoundPath n 0 (after ops q)
+one_after n k r ops q low after h = record {
   short = (let short = h.short in omega (arith, length-append ops q.ops));
   has_result = subst IsSome (sym (after_append ops q.ops n r after)) h.has_result;
 }
 
-all_behind : (n k r : ℕ) (ops : List Op) (qs : List Path) → length ops ≤ k → length_after ops n ≡ Some r → AllByRecursion (IsSoundPath r k) qs
-    → AllByRecursion (IsSoundPath n 0) (map (behind ops) qs)
-all_behind n k r ops [] low after h = tt
-all_behind n k r ops (q ∷ qs) low after h = (one_behind n k r ops q low after h.0, all_behind n k r ops qs low after h.1)
+all_after : (n k r : ℕ) (ops : List Op) (qs : List Path) → length ops ≤ k → length_after ops n ≡ Some r → AllByRecursion (IsSoundPath r k) qs
+    → AllByRecursion (IsSoundPath n 0) (map (after ops) qs)
+all_after n k r ops [] low after h = tt
+all_after n k r ops (q ∷ qs) low after h = (one_after n k r ops q low after h.0, all_after n k r ops qs low after h.1)
 
 all_flat : (Q : Path → Type 0) (f : Path → List Path) (ps : List Path) → ((p : Path) → Has ps p → AllByRecursion Q (f p)) → AllByRecursion Q (flat_map f ps)
 all_flat Q f [] h = tt
@@ -116,7 +116,7 @@ module _ (proof : Detached) (pairs : List PairAt) (trees : List (Option (List To
       sym (ap (λ (z : PairAt). z.depth) r.2) ∙ ap (λ (z : PairAt). deepest z.pair pairs_are.found) r.2
 
   tree_sound : (p : Path) (uri m : List ℕ) (t : Node) → Has (paths pairs_are.pending.node) p → p.end ≡ attestation.Pending uri → value p.ops proof.digest ≡ Some m
-      → tree_for (record { uri = uri; message = m }) pairs given ≡ Some t → AllByRecursion (IsSoundPath (length proof.digest) 0) (map (behind p.ops) (paths t))
+      → tree_for (record { uri = uri; message = m }) pairs given ≡ Some t → AllByRecursion (IsSoundPath (length proof.digest) 0) (map (after p.ops) (paths t))
   tree_sound p uri m t has end reached h =
       let g = gave (record { uri = uri; message = m }) pairs given t h in
       let s = same_of (record { uri = uri; message = m }) g.pair.pair g.same in
@@ -128,15 +128,15 @@ module _ (proof : Detached) (pairs : List PairAt) (trees : List (Option (List To
       (stands_deep proof.digest 0 (paths pairs_are.pending.node) p uri m has end reached) in
       let low : length p.ops ≤ g.pair.depth =
       subst (λ (z : ℕ). length p.ops ≤ z) (sym (depth_is g.place g.pair g.there)) (subst (λ (z : Pair). length p.ops ≤ deepest z pairs_are.found) pair_is deep) in
-      all_behind (length proof.digest) g.pair.depth (length m) p.ops (paths t) low (value_length p.ops proof.digest m reached) (sound_paths (length m) g.pair.depth (pre t) t refl tree)
+      all_after (length proof.digest) g.pair.depth (length m) p.ops (paths t) low (value_length p.ops proof.digest m reached) (sound_paths (length m) g.pair.depth (pre t) t refl tree)
 
   by_tree : (p : Path) (uri m : List ℕ) (t : Option Node) → Has (paths pairs_are.pending.node) p → p.end ≡ attestation.Pending uri → value p.ops proof.digest ≡ Some m
-      → tree_for (record { uri = uri; message = m }) pairs given ≡ t → AllByRecursion (IsSoundPath (length proof.digest) 0) (paths_behind p.ops t)
+      → tree_for (record { uri = uri; message = m }) pairs given ≡ t → AllByRecursion (IsSoundPath (length proof.digest) 0) (paths_after p.ops t)
   by_tree p uri m None has end reached h = tt
   by_tree p uri m (Some t) has end reached h = tree_sound p uri m t has end reached h
 
   by_end : (p : Path) (a : Attestation) (v : Option (List ℕ)) → Has (paths pairs_are.pending.node) p → p.end ≡ a → value p.ops proof.digest ≡ v
-      → AllByRecursion (IsSoundPath (length proof.digest) 0) (paths_behind p.ops (answer_to pairs given a v))
+      → AllByRecursion (IsSoundPath (length proof.digest) 0) (paths_after p.ops (answer_to pairs given a v))
   by_end p (attestation.Pending uri) (Some m) has end reached = by_tree p uri m (tree_for (record { uri = uri; message = m }) pairs given) has end reached refl
   by_end p (attestation.Pending uri) None has end reached = tt
   by_end p (attestation.Bitcoin height) v has end reached = tt

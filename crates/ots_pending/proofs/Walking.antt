@@ -1,14 +1,15 @@
 -- The numbers of the messages on the path of a walk.
-use Rattle.std.proofs.Common.{◌≡◌, ℕ, zero, suc, ◌<◌, ◌≤◌, inl, inr, List, [], ◌∷◌, ◌++◌, map, length, get_or, take, Option, Some, None, refl, sym, ap, subst, ◌∙◌, arith}
-use Rattle.std.specs.Prelude.{◌⊎◌, slice_set}
+use Rattle.std.proofs.Common.{◌≡◌, ℕ, zero, suc, ◌+◌, ◌<◌, ◌≤◌, inl, inr, List, [], ◌∷◌, ◌++◌, map, length, get_or, take, Option, Some, None, refl, sym, ap, subst, ◌∙◌, arith}
+use Rattle.std.specs.Prelude.{◌⊎◌, option_to_list, slice_set}
 use Rattle.std.specs.List.{slice_get}
+use Rattle.ots_ops.specs.declared.op.Op.{Op}
 use Rattle.ots_attest.specs.declared.attestation.Attestation.TheVariants as attestation
 use Rattle.ots_tree.specs.declared.pending.PendingAt.{PendingAt}
 use Rattle.ots_tree.specs.declared.token.Token.{Token}
 use Rattle.ots_tree.specs.declared.token.Token.TheVariants as token
 use Rattle.ots_tree.specs.Pending.{asked}
-use Rattle.ots_tree.specs.PendingWalk.{added}
-use Rattle.ots_pending.specs.declared.asked.Asked.{Asked}
+use Rattle.ots_tree.specs.PendingWalk.{added, followed, result_at}
+use Rattle.ots_pending.specs.declared.kept_pair.KeptPair.{KeptPair}
 use Rattle.ots_pending.specs.declared.listing.Listing.{Listing}
 use Rattle.ots_pending.specs.declared.path.Path.{Path}
 use Rattle.ots_pending.specs.Distinct.{AreDistinct, IsNumbered}
@@ -52,23 +53,23 @@ get_kept (x ∷ xs) (suc depth) number zero n h = inl h
 get_kept (x ∷ xs) (suc depth) number (suc d) n h = elim (get_kept xs depth number d n h) [ inl k ↦ inl k | inr k ↦ inr (ap suc k.0, k.1) ]
 
 module _ (old_all all : List (List ℕ)) (old new : Path) (depth : ℕ) (m : List ℕ) (n : ℕ) where
-  pub numbered : AreNumbers old_all old → IsNumbered old_all all m n → AreDistinct all → slice_get old.messages.items depth ≡ Some m
-      → new.messages.items ≡ old.messages.items → new.numbers.items ≡ kept_at old.numbers.items depth n → Numbers old_all all old new depth (Some n)
+  pub numbered : AreNumbers old_all old → IsNumbered old_all all m n → AreDistinct all → slice_get old.messages depth ≡ Some m
+      → new.messages ≡ old.messages → new.numbers.items ≡ kept_at old.numbers.items depth n → Numbers old_all all old new depth (Some n)
   numbered numbers is distinct here same kept =
       let still : AreStill old_all all = still_of old_all all m n is in
-      let one : HasNumber all new.messages.items depth n = record { message = m; here = ap (λ (z : List (List ℕ)). slice_get z depth) same ∙ here; there = is.place } in
+      let one : HasNumber all new.messages depth n = record { message = m; here = ap (λ (z : List (List ℕ)). slice_get z depth) same ∙ here; there = is.place } in
       record {
         distinct = distinct;
         still = still;
         path = same;
         numbers = λ d k h. elim (get_kept old.numbers.items depth n d k (ap (λ (z : List (Option ℕ)). slice_get z d) (sym kept) ∙ h)) [
-          | inl g ↦ subst (λ (z : List (List ℕ)). HasNumber all z d k) (sym same) (has_still old_all all old.messages.items d k still (numbers d k g))
-          | inr g ↦ subst (λ (z : ℕ). HasNumber all new.messages.items z k) (sym g.0) (subst (λ (z : ℕ). HasNumber all new.messages.items depth z) (sym g.1) one)
+          | inl g ↦ subst (λ (z : List (List ℕ)). HasNumber all z d k) (sym same) (has_still old_all all old.messages d k still (numbers d k g))
+          | inr g ↦ subst (λ (z : ℕ). HasNumber all new.messages z k) (sym g.0) (subst (λ (z : ℕ). HasNumber all new.messages depth z) (sym g.1) one)
         ];
         is = one;
       }
 
-pub no_number : (all : List (List ℕ)) (path : Path) (depth : ℕ) → AreDistinct all → AreNumbers all path → slice_get path.messages.items depth ≡ None
+pub no_number : (all : List (List ℕ)) (path : Path) (depth : ℕ) → AreDistinct all → AreNumbers all path → slice_get path.messages depth ≡ None
     → Numbers all all path path depth None
 no_number all path depth distinct numbers none = record { distinct = distinct; still = λ i m h. h; path = refl; numbers = numbers; is = none }
 
@@ -93,11 +94,14 @@ still_before (x ∷ xs) ys (suc k) zero m h low = h
 still_before (x ∷ xs) ys (suc k) (suc d) m h low = still_before xs ys k d m h (omega arith)
 
 pub numbers_follow : (all : List (List ℕ)) (old new : Path) (k : ℕ) (ms : List (List ℕ)) (ns : List (Option ℕ)) → ((e n : ℕ) → slice_get ns e ≡ Some (Some n) → ⊥)
-    → new.messages.items ≡ take k old.messages.items ++ ms → new.numbers.items ≡ take k old.numbers.items ++ ns → AreNumbers all old → AreNumbers all new
+    → new.messages ≡ take k old.messages ++ ms → new.numbers.items ≡ take k old.numbers.items ++ ns → AreNumbers all old → AreNumbers all new
 numbers_follow all old new k ms ns none messages numbers h d n e =
     let r = before_end old.numbers.items ns k d n (λ i. none i n) (ap (λ (z : List (Option ℕ)). slice_get z d) (sym numbers) ∙ e) in
     let x = h d n r.0 in
-    record { message = x.message; here = ap (λ (z : List (List ℕ)). slice_get z d) messages ∙ still_before old.messages.items ms k d x.message x.here r.1; there = x.there }
+    record { message = x.message; here = ap (λ (z : List (List ℕ)). slice_get z d) messages ∙ still_before old.messages ms k d x.message x.here r.1; there = x.there }
+
+pub op_followed : (x : Token) (o : Op) (d : ℕ) (ms : List (List ℕ)) → x ≡ token.Op o → followed x d ms ≡ take (d + 1) ms ++ option_to_list (result_at o d ms)
+op_followed x o d ms is = ap (λ (z : Token). followed z d ms) is
 
 pub none_noted : (e n : ℕ) → slice_get (let one : List (Option ℕ) = None ∷ [] in one) e ≡ Some (Some n) → ⊥
 none_noted zero n h = absurd (let no : (let o : Option (Option ℕ) = Some None in o) ≡ Some (Some n) = h in cc)
@@ -112,8 +116,8 @@ module _ (l new : Listing) (kept : IsKept l) (keys : new.keys ≡ l.keys) (asked
   more_range : (i : ℕ) → i < length l.messages → i < length new.messages
   more_range i h = in_range new.messages (get_or l.messages i []) i (still i (get_or l.messages i []) (get_of_or l.messages i [] h))
 
-  asked_at : (i : ℕ) (a : Asked) → slice_get new.asked.items i ≡ Some a → slice_get l.asked.items i ≡ Some a
-  asked_at i a h = ap (λ (z : List Asked). slice_get z i) (sym asked) ∙ h
+  asked_at : (i : ℕ) (a : KeptPair) → slice_get new.asked.items i ≡ Some a → slice_get l.asked.items i ≡ Some a
+  asked_at i a h = ap (λ (z : List KeptPair). slice_get z i) (sym asked) ∙ h
 
   pub kept_more : IsKept new
   kept_more = record {
@@ -127,7 +131,7 @@ module _ (l new : Listing) (kept : IsKept l) (keys : new.keys ≡ l.keys) (asked
   same_message : (i : ℕ) → i < length l.messages → get_or new.messages i [] ≡ get_or l.messages i []
   same_message i h = or_of_get new.messages i (get_or l.messages i []) [] (still i (get_or l.messages i []) (get_of_or l.messages i [] h))
 
-  same_pairs : (xs : List Asked) → ((i : ℕ) (a : Asked) → slice_get xs i ≡ Some a → a.message < length l.messages) → map (pair_in new.messages) xs ≡ map (pair_in l.messages) xs
+  same_pairs : (xs : List KeptPair) → ((i : ℕ) (a : KeptPair) → slice_get xs i ≡ Some a → a.message < length l.messages) → map (pair_in new.messages) xs ≡ map (pair_in l.messages) xs
   same_pairs [] low = refl
   same_pairs (a ∷ xs) low =
       let here : pair_in new.messages a ≡ pair_in l.messages a =
@@ -150,13 +154,13 @@ module _ (l mid : Listing) (old path : Path) (x : Token) (uri : List ℕ) (depth
 
   pub none_notes : Numbers l.messages mid.messages old path depth None → Notes l mid old path x depth
   none_notes h =
-      let none : slice_get old.messages.items depth ≡ None = ap (λ (z : List (List ℕ)). slice_get z depth) (sym h.path) ∙ h.is in
+      let none : slice_get old.messages depth ≡ None = ap (λ (z : List (List ℕ)). slice_get z depth) (sym h.path) ∙ h.is in
       record {
         kept = mid_kept None h;
         path = h.path;
         numbers = h.numbers;
         pairs = λ n.
-            let nothing : added x depth n old.messages.items ≡ [] = ap (λ (z : Token). added z depth n old.messages.items) pending ∙ ap (asked n depth (attestation.Pending uri)) none in
+            let nothing : added x depth n old.messages ≡ [] = ap (λ (z : Token). added z depth n old.messages) pending ∙ ap (asked n depth (attestation.Pending uri)) none in
             pairs_more l mid kept same.0 same.1 h.distinct h.still ∙ ap (λ (z : List PendingAt). with_found z (pairs_in l)) (sym nothing);
       }
 
@@ -166,14 +170,14 @@ module _ (l mid : Listing) (old path : Path) (x : Token) (uri : List ℕ) (depth
   one_notes number new h adds =
       let m = h.is.message in
       let a = adds m h.is.there in
-      let here : slice_get old.messages.items depth ≡ Some m = ap (λ (z : List (List ℕ)). slice_get z depth) (sym h.path) ∙ h.is.here in
+      let here : slice_get old.messages depth ≡ Some m = ap (λ (z : List (List ℕ)). slice_get z depth) (sym h.path) ∙ h.is.here in
       record {
         kept = a.kept;
         path = h.path;
         numbers = subst (λ (z : List (List ℕ)). AreNumbers z path) (sym a.messages) h.numbers;
         pairs = λ n.
-            let one : added x depth n old.messages.items ≡ record { path = n; depth = depth; uri = uri; message = m } ∷ [] =
-            ap (λ (z : Token). added z depth n old.messages.items) pending ∙ ap (asked n depth (attestation.Pending uri)) here in
+            let one : added x depth n old.messages ≡ record { path = n; depth = depth; uri = uri; message = m } ∷ [] =
+            ap (λ (z : Token). added z depth n old.messages) pending ∙ ap (asked n depth (attestation.Pending uri)) here in
             a.added
             ∙ ap (with_pair (record { pair = record { uri = uri; message = m }; depth = depth })) (pairs_more l mid kept same.0 same.1 h.distinct h.still)
             ∙ ap (λ (z : List PendingAt). with_found z (pairs_in l)) (sym one);

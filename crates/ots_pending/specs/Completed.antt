@@ -1,6 +1,7 @@
 -- What the answers of calendars make of a proof (opentimestamps-client, otsclient/cmds.py,
 -- upgrade_timestamp: what a calendar answers for a pending attestation is merged at its place).
-use Rattle.std.specs.Prelude.{◌≡◌, ℕ, List, [], ◌∷◌, ◌++◌, map, length, Option, None, Some, option_map, option_and_then, if◌then◌else◌}
+use Rattle.std.specs.Prelude.{◌≡◌, ℕ, List, [], ◌∷◌, ◌++◌, map, length, Option, None, Some, option_map, option_and_then}
+use Rattle.std.specs.Prelude.{if◌then◌else◌}
 use Rattle.std.specs.List.{flat_map, slice_get}
 use Rattle.ots_ops.specs.declared.op.Op.{Op}
 use Rattle.ots_ops.specs.Value.{value}
@@ -8,7 +9,7 @@ use Rattle.ots_attest.specs.declared.attestation.Attestation.{Attestation}
 use Rattle.ots_attest.specs.declared.attestation.Attestation.TheVariants as attestation
 use Rattle.ots_tree.specs.declared.token.Token.{Token}
 use Rattle.ots_tree.specs.declared.detached.Detached.{Detached}
-use Rattle.ots_tree.specs.Made.{behind}
+use Rattle.ots_tree.specs.Made.{after}
 use Rattle.ots_tree.specs.Sound.{IsSoundPre}
 use Rattle.ots_tree.specs.Wire.{Node, Path, paths, pre}
 use Rattle.ots_canon.specs.Canonical.{IsCanonTree}
@@ -29,17 +30,18 @@ answer_to pairs given (attestation.Litecoin height) m = None
 answer_to pairs given (attestation.Unknown other) m = None
 
 -- these operations followed by each path of a tree, where there is one
-abbrev pub paths_behind : List Op → Option Node → List Path
-paths_behind ops None = []
-paths_behind ops (Some t) = map (behind ops) (paths t)
+abbrev pub paths_after : List Op → Option Node → List Path
+paths_after ops None = []
+paths_after ops (Some t) = map (after ops) (paths t)
 
 -- what a path gains, from a message
 abbrev pub gained : List PairAt → List (Option Node) → Option (List ℕ) → Path → List Path
-gained pairs given m p = paths_behind p.ops (answer_to pairs given p.end (option_and_then (value p.ops) m))
+gained pairs given m p = paths_after p.ops (answer_to pairs given p.end (option_and_then (value p.ops) m))
 
 -- The canonical tree of all paths of a proof and, for each of its pending paths whose pair was given a
 -- tree, its operations followed by each path of that tree.
-pub record IsCompleted (proof : Detached) (pairs : List PairAt) (trees : List (Option (List Token))) (made : List Token) : Type 0 where
+pub record IsCompleted (proof : Detached) (pairs : List PairAt) (trees : List (Option (List Token)))
+    (made : List Token) : Type 0 where
   pub node : Node
   pub tree : pre node ≡ proof.tree
   pub given : List (Option Node)

@@ -1,6 +1,7 @@
 -- How a walk puts the answers into a tree, token by token: for the code. What comes of it is said by
 -- IsCompleted.
-use Rattle.std.specs.Prelude.{◌≡◌, ℕ, ◌<◌, List, [], ◌∷◌, ◌++◌, map, length, Bool, true, false, Option, None, Some, option_and_then, option_map, if◌then◌else◌}
+use Rattle.std.specs.Prelude.{◌≡◌, ℕ, ◌<◌, List, [], ◌∷◌, ◌++◌, map, length, Bool, true, false, Option, None, Some}
+use Rattle.std.specs.Prelude.{option_and_then, option_map, if◌then◌else◌}
 use Rattle.std.specs.List.{slice_get}
 use Rattle.ots_attest.specs.declared.attestation.Attestation.TheVariants as attestation
 use Rattle.ots_tree.specs.declared.token.Token.{Token}
@@ -24,7 +25,7 @@ answer_at pairs given token.Fork depth messages = None
 answer_at pairs given (token.Op o) depth messages = None
 answer_at pairs given (token.Attestation a) depth messages = answer_to pairs given a (slice_get messages depth)
 
--- A token, and the items of the tree that was given for it: behind it where a fork stands before it,
+-- A token, and the items of the tree that was given for it: after it where a fork stands before it,
 -- since another item follows then, and before it where it is the last item.
 abbrev pub put : Bool → Token → Option Node → List Token
 put b x None = x ∷ []
@@ -36,13 +37,14 @@ is_fork token.Fork = true
 is_fork (token.Op o) = false
 is_fork (token.Attestation a) = false
 
--- what these tokens become, behind a fork or not, with these messages on the path
+-- what these tokens become, after a fork or not, with these messages on the path
 abbrev pub grown : List PairAt → List (Option Node) → Bool → List (List ℕ) → List TokenAt → List Token
 grown pairs given b messages [] = []
 grown pairs given b messages (l ∷ ls) =
-    put b l.token (answer_at pairs given l.token l.depth messages) ++ grown pairs given (is_fork l.token) (followed l.token l.depth messages) ls
+    put b l.token (answer_at pairs given l.token l.depth messages)
+    ++ grown pairs given (is_fork l.token) (followed l.token l.depth messages) ls
 
--- Where a tree was given, one is ready whose tokens are its items and behind them the pending attestation.
+-- Where a tree was given, one is ready whose tokens are its items and after them the pending attestation.
 abbrev pub IsReady : List ℕ → Option Node → Option (List Token) → Type 0
 IsReady uri None None = Unit {0}
 IsReady uri None (Some ts) = ⊥
@@ -55,7 +57,8 @@ IsReadyAt uri t (Some r) = IsReady uri t r
 
 -- so it is for the first n of these pairs
 abbrev pub AreReadyTo : ℕ → List PairAt → List (Option Node) → List (Option (List Token)) → Type 0
-AreReadyTo n pairs given ready = (i : ℕ) (p : PairAt) (t : Option Node) → i < n → slice_get pairs i ≡ Some p → slice_get given i ≡ Some t
+AreReadyTo n pairs given ready = (i : ℕ) (p : PairAt) (t : Option Node) → i < n → slice_get pairs i ≡ Some p
+    → slice_get given i ≡ Some t
     → IsReadyAt p.pair.uri t (slice_get ready i)
 
 -- what was given is no tree, or the tokens of one
@@ -70,14 +73,16 @@ pub record AreTrees (trees : List (Option (List Token))) : Type 0 where
 -- for all of them
 pub record AreReady (pairs : List PairAt) (trees ready : List (Option (List Token))) : Type 0 where
   pub long : length trees ≡ length pairs
-  pub each : (given : List (Option Node)) → map (option_map pre) given ≡ trees → AreReadyTo (length pairs) pairs given ready
+  pub each : (given : List (Option Node)) → map (option_map pre) given ≡ trees
+      → AreReadyTo (length pairs) pairs given ready
 
 -- A token asks for the pair at a place, and what is given there is the answer.
 pub record StandsAt (pairs : List PairAt) (x : Token) (depth : ℕ) (messages : List (List ℕ)) (i : ℕ) : Type 0 where
   pub pair : PairAt
   pub place : slice_get pairs i ≡ Some pair
   pub pending : x ≡ token.Attestation (attestation.Pending pair.pair.uri)
-  pub answer : (given : List (Option Node)) → length given ≡ length pairs → slice_get given i ≡ Some (answer_at pairs given x depth messages)
+  pub answer : (given : List (Option Node)) → length given ≡ length pairs
+      → slice_get given i ≡ Some (answer_at pairs given x depth messages)
 
 -- Or it asks for none of these pairs, and has no answer.
 abbrev pub IsPairOf : List PairAt → Token → ℕ → List (List ℕ) → Option ℕ → Type 0
@@ -86,23 +91,26 @@ IsPairOf pairs x depth messages (Some i) = StandsAt pairs x depth messages i
 
 -- the number of the message at a depth, where it has one
 abbrev pub IsKnownAt : List (List ℕ) → List (List ℕ) → ℕ → Option ℕ → Type 0
-IsKnownAt messages path depth None = (m : List ℕ) → slice_get path depth ≡ Some m → (i : ℕ) → slice_get messages i ≡ Some m → ⊥
+IsKnownAt messages path depth None = (m : List ℕ) → slice_get path depth ≡ Some m → (i : ℕ)
+    → slice_get messages i ≡ Some m → ⊥
 IsKnownAt messages path depth (Some number) = HasNumber messages path depth number
 
 -- The path has the same messages, and its numbers are right.
 pub record KeepsPath (messages : List (List ℕ)) (old new : Path) : Type 0 where
-  pub same : new.messages.items ≡ old.messages.items
+  pub same : new.messages ≡ old.messages
   pub numbers : AreNumbers messages new
 
--- A token was put behind these, with the items of the tree that was given for it.
-pub record Grows (pairs : List PairAt) (trees : List (Option (List Token))) (x : Token) (depth : ℕ) (behind_fork : Bool) (messages : List (List ℕ)) (old new : List Token) : Type 0 where
-  pub is : (given : List (Option Node)) → map (option_map pre) given ≡ trees → new ≡ old ++ put behind_fork x (answer_at pairs given x depth messages)
+-- A token was put after these, with the items of the tree that was given for it.
+pub record Grows (pairs : List PairAt) (trees : List (Option (List Token))) (x : Token) (depth : ℕ) (after_fork : Bool)
+    (messages : List (List ℕ)) (old new : List Token) : Type 0 where
+  pub is : (given : List (Option Node)) → map (option_map pre) given ≡ trees
+      → new ≡ old ++ put after_fork x (answer_at pairs given x depth messages)
 
 -- the last token first, where a fork stands before
 abbrev pub last_first : List Token → List Token → List Token
-last_first front [] = front
-last_first front (x ∷ []) = x ∷ front
-last_first front (x ∷ y ∷ xs) = last_first (front ++ x ∷ []) (y ∷ xs)
+last_first prefix [] = prefix
+last_first prefix (x ∷ []) = x ∷ prefix
+last_first prefix (x ∷ y ∷ xs) = last_first (prefix ++ x ∷ []) (y ∷ xs)
 
 abbrev pub turned : Bool → List Token → List Token
 turned b xs = if b then last_first [] xs else xs

@@ -19,7 +19,8 @@ pub record HasNumber (messages path : List (List ℕ)) (depth number : ℕ) : Ty
 
 -- the numbers that are noted at the depths of the path are those of its messages
 abbrev pub AreNumbers : List (List ℕ) → Path → Type 0
-AreNumbers messages path = (depth number : ℕ) → slice_get path.numbers.items depth ≡ Some (Some number) → HasNumber messages path.messages.items depth number
+AreNumbers messages path = (depth number : ℕ) → slice_get path.numbers.items depth ≡ Some (Some number)
+    → HasNumber messages path.messages depth number
 
 -- each message keeps its number
 abbrev pub AreStill : List (List ℕ) → List (List ℕ) → Type 0
@@ -31,19 +32,20 @@ IsNumberAt messages path depth None = slice_get path depth ≡ None
 IsNumberAt messages path depth (Some number) = HasNumber messages path depth number
 
 -- The message at a depth has a number.
-pub record Numbers (old_messages new_messages : List (List ℕ)) (old new : Path) (depth : ℕ) (number : Option ℕ) : Type 0 where
+pub record Numbers (old_messages new_messages : List (List ℕ)) (old new : Path) (depth : ℕ)
+    (number : Option ℕ) : Type 0 where
   pub distinct : AreDistinct new_messages
   pub still : AreStill old_messages new_messages
-  pub path : new.messages.items ≡ old.messages.items
+  pub path : new.messages ≡ old.messages
   pub numbers : AreNumbers new_messages new
-  pub is : IsNumberAt new_messages new.messages.items depth number
+  pub is : IsNumberAt new_messages new.messages depth number
 
 -- What a token at a depth adds is noted.
 pub record Notes (old new : Listing) (old_path new_path : Path) (x : Token) (depth : ℕ) : Type 0 where
   pub kept : IsKept new
-  pub path : new_path.messages.items ≡ old_path.messages.items
+  pub path : new_path.messages ≡ old_path.messages
   pub numbers : AreNumbers new.messages new_path
-  pub pairs : (n : ℕ) → pairs_in new ≡ with_found (added x depth n old_path.messages.items) (pairs_in old)
+  pub pairs : (n : ℕ) → pairs_in new ≡ with_found (added x depth n old_path.messages) (pairs_in old)
 
 -- these numbers, with one at a depth, where this is among them
 abbrev pub kept_at : List (Option ℕ) → ℕ → ℕ → List (Option ℕ)
@@ -51,13 +53,15 @@ kept_at [] depth number = []
 kept_at (x ∷ xs) zero number = Some number ∷ xs
 kept_at (x ∷ xs) (suc depth) number = x ∷ kept_at xs depth number
 
--- The path goes on behind a token at a depth.
+-- The path goes on after a token at a depth.
 pub record Follows (x : Token) (depth : ℕ) (old new : Path) : Type 0 where
-  pub messages : new.messages.items ≡ followed x depth old.messages.items
+  pub messages : new.messages ≡ followed x depth old.messages
   pub numbers : (all : List (List ℕ)) → AreNumbers all old → AreNumbers all new
 
--- A walk has come to a token: the pairs are those of the pending paths found, and those that the tokens left add follow.
-pub record IsOnWay (tokens : List Token) (depths : List ℕ) (at : ℕ) (path : List (List ℕ)) (l : Listing) (digest : List ℕ) : Type 0 where
+-- A walk has come to a token: the pairs are those of the pending paths found, and those that the tokens left add
+-- follow.
+pub record IsOnWay (tokens : List Token) (depths : List ℕ) (at : ℕ) (path : List (List ℕ)) (l : Listing)
+    (digest : List ℕ) : Type 0 where
   pub ended : ℕ
   pub found : List PendingAt
   pub left : found ++ walked ended path (drop at (beside tokens depths)) ≡ walked 0 (digest ∷ []) (beside tokens depths)

@@ -1,7 +1,8 @@
 -- What the pending paths of a proof ask calendars for (python-opentimestamps,
 -- opentimestamps/core/notary.py, PendingAttestation: a calendar is asked at the URI for the message
 -- that the attestation stands on).
-use Rattle.std.specs.Prelude.{◌≡◌, ◌≤◌, ℕ, List, [], ◌∷◌, map, length, Some, Bool, ◌&&◌, not, max, bytes_eq, if◌then◌else◌}
+use Rattle.std.specs.Prelude.{◌≡◌, ◌≤◌, ℕ, List, [], ◌∷◌, map, length, Some, Bool, ◌&&◌, not, max, bytes_eq}
+use Rattle.std.specs.Prelude.{if◌then◌else◌}
 use Rattle.std.specs.List.{filter, slice_get}
 use Rattle.ots_base.specs.declared.limits.TheConstants.{MAX_OPERATIONS}
 use Rattle.ots_tree.specs.declared.detached.Detached.{Detached}

@@ -3,8 +3,8 @@ ghost use Rattle.std.specs.Prelude.{◌≡◌, ◌≤◌, ◌<◌, ◌^◌, ℕ,
 ghost use Rattle.std.specs.List.{slice_get};
 ghost use Rattle.ots_pending.specs.Listed.{key_of, pairs_in, put_at, raised_at, Adds, IsKept};
 
-use crate::asked::Asked;
 use crate::distinct::Distinct;
+use crate::kept_pair::KeptPair;
 use crate::listing::Listing;
 use ots_attest::Uri;
 use ots_base::OutOfMemory;
@@ -36,7 +36,7 @@ pub(crate) fn add(
         → Adds listing.old listing.new (record { pair = record { uri = uri.now; message = m }; depth = depth })) }
 {
     let key = key_of(alloc, message, uri)?;
-    let asked = Asked {
+    let asked = KeptPair {
         uri: uri.copy()?,
         message,
         depth,
@@ -45,8 +45,8 @@ pub(crate) fn add(
     put(&mut listing.asked, place, asked)
 }
 
-/// Puts a pair at the place behind the others, or makes the one that is at its place as deep as it.
-fn put(pairs: &mut Vec<Asked>, place: usize, asked: Asked) -> Result<(), OutOfMemory>
+/// Puts a pair at the place after the others, or makes the one that is at its place as deep as it.
+fn put(pairs: &mut Vec<KeptPair>, place: usize, asked: KeptPair) -> Result<(), OutOfMemory>
     ensures { OnOk result (pairs.new.items ≡ put_at pairs.old.items place asked) }
 {
     if place < pairs.len() {
@@ -58,7 +58,7 @@ fn put(pairs: &mut Vec<Asked>, place: usize, asked: Asked) -> Result<(), OutOfMe
 }
 
 /// Makes a pair as deep as this, where it is not as deep.
-fn raise(asked: &mut [Asked], place: usize, depth: u32)
+fn raise(asked: &mut [KeptPair], place: usize, depth: u32)
     requires { place < length asked.old }
     ensures { asked.new ≡ raised_at asked.old place depth }
 {

@@ -25,7 +25,7 @@ pub(crate) fn pair_of(
 ) -> Result<Option<usize>, OutOfMemory>
     requires kept { IsKept listing.now }
     requires numbers { AreNumbers listing.now.messages path.old }
-    ensures pair { IfOk result (IsPairOf (pairs_in listing.now) token.now depth path.old.messages.items) }
+    ensures pair { IfOk result (IsPairOf (pairs_in listing.now) token.now depth path.old.messages) }
     ensures path { KeepsPath listing.now.messages path.old path.new }
 {
     let Token::Attestation(Attestation::Pending(uri)) = token else {
@@ -42,13 +42,13 @@ pub(crate) fn pair_of(
 fn known_at(path: &mut Path, depth: usize, messages: &Distinct) -> Option<usize>
     requires distinct { AreDistinct messages.now }
     requires numbers { AreNumbers messages.now path.old }
-    ensures number { IsKnownAt messages.now path.old.messages.items depth result }
+    ensures number { IsKnownAt messages.now path.old.messages depth result }
     ensures path { KeepsPath messages.now path.old path.new }
 {
     if let Some(number) = known(&path.numbers, depth) {
         return Some(number);
     }
-    let message = path.messages.get(depth)?;
+    let message = path.messages.at(depth)?;
     let number = messages.place(message.bytes())?;
     keep(&mut path.numbers, depth, number);
     Some(number)

@@ -1,10 +1,12 @@
 //! Putting the trees that were given into a tree.
-ghost use Rattle.std.specs.Prelude.{◌≡◌, ◌++◌, ◌∷◌, [], ◌^◌, ◌<◌, List, map, length, false, option_map, OnOk, IfOk, Option};
+ghost use Rattle.std.specs.Prelude.{◌≡◌, ◌++◌, ◌∷◌, [], ◌^◌, ◌<◌, List, map, length, false, option_map, OnOk, IfOk};
+ghost use Rattle.std.specs.Prelude.{Option};
 ghost use Rattle.std.specs.Option.{option_copied};
 ghost use Rattle.ots_tree.specs.Kept.{IsKept as IsKeptTree, beside};
 ghost use Rattle.ots_tree.specs.Wire.{Node, pre};
 ghost use Rattle.ots_tree.specs.declared.token.Token.{Token};
-ghost use Rattle.ots_pending.specs.Grown.{grown, is_fork, put_ready, tree_at, turned, AreReady, AreTrees, Grows, IsReady, IsTree, KeepsPath};
+ghost use Rattle.ots_pending.specs.Grown.{grown, is_fork, put_ready, tree_at, turned, AreReady, AreTrees, Grows};
+ghost use Rattle.ots_pending.specs.Grown.{IsReady, IsTree, KeepsPath};
 ghost use Rattle.ots_pending.specs.Listed.{pairs_in, IsKept};
 ghost use Rattle.ots_pending.specs.OnPath.{AreNumbers};
 
@@ -31,37 +33,31 @@ pub(crate) fn grown(
 ) -> Result<Vec<Token>, OutOfMemory>
     requires tree { IsKeptTree tokens.now depths.now }
     requires kept { IsKept listing.now }
-    ensures { (trees : List (Option (List Token))) → AreReady (pairs_in listing.now) trees ready.now → IfOk result (λ made.
+    ensures { (trees : List (Option (List Token))) → AreReady (pairs_in listing.now) trees ready.now
+        → IfOk result (λ made.
         (given : List (Option Node)) → map (option_map pre) given ≡ trees
         → made.items ≡ grown (pairs_in listing.now) given false (digest ∷ []) (beside tokens.now depths.now)) }
 {
     let mut made = Vec::with_capacity(alloc, tokens.len())?;
     let mut path = path_from(alloc, digest)?;
-    let mut behind_fork = false;
+    let mut after_fork = false;
     for (at, token) in tokens.iter().enumerate() {
         let depth = depths[at];
         grow(
-            alloc,
-            token,
-            depth,
-            behind_fork,
-            &mut path,
-            listing,
-            ready,
-            &mut made,
+            alloc, token, depth, after_fork, &mut path, listing, ready, &mut made,
         )?;
-        behind_fork = is_fork(token);
-        follow(alloc, token, depth as usize, &mut path)?;
+        after_fork = is_fork(token);
+        follow(token, depth as usize, &mut path)?;
     }
     Ok(made)
 }
 
-/// Puts a token behind those that are made, with the items of the tree that was given for it.
+/// Puts a token after those that are made, with the items of the tree that was given for it.
 fn grow(
     alloc: Global,
     token: &Token,
     depth: u32,
-    behind_fork: bool,
+    after_fork: bool,
     path: &mut Path,
     listing: &Listing,
     ready: &[Option<Tree>],
@@ -71,10 +67,11 @@ fn grow(
     requires numbers { AreNumbers listing.now.messages path.old }
     ensures path { KeepsPath listing.now.messages path.old path.new }
     ensures grows { (trees : List (Option (List Token))) → AreReady (pairs_in listing.now) trees ready.now
-        → OnOk result (Grows (pairs_in listing.now) trees token.now depth behind_fork path.old.messages.items made.old.items made.new.items) }
+        → OnOk result (Grows (pairs_in listing.now) trees token.now depth after_fork path.old.messages made.old.items
+        made.new.items) }
 {
     let place = pair_of(alloc, token, depth, path, listing)?;
-    put(token, behind_fork, tree_at(ready, place), made)
+    put(token, after_fork, tree_at(ready, place), made)
 }
 
 /// The tree that is ready at a place.
@@ -87,14 +84,15 @@ fn tree_at(ready: &[Option<Tree>], place: Option<usize>) -> Option<&Tree>
 /// Puts a token, or in its place the tree that is ready for it.
 fn put(
     token: &Token,
-    behind_fork: bool,
+    after_fork: bool,
     ready: Option<&Tree>,
     made: &mut Vec<Token>,
 ) -> Result<(), OutOfMemory>
-    ensures { OnOk result (made.new.items ≡ made.old.items ++ put_ready behind_fork token.now (option_copied ready.entry)) }
+    ensures { OnOk result (made.new.items ≡ made.old.items ++ put_ready after_fork token.now
+        (option_copied ready.entry)) }
 {
     match ready {
-        Some(tree) => put_items(tree.tokens(), behind_fork, made),
+        Some(tree) => put_items(tree.tokens(), after_fork, made),
         None => {
             made.push(token.copy()?)?;
             Ok(())
@@ -104,10 +102,10 @@ fn put(
 
 /// Puts the tokens of items of which the last is an attestation: this first, where a fork stands
 /// before.
-fn put_items(tokens: &[Token], behind_fork: bool, made: &mut Vec<Token>) -> Result<(), OutOfMemory>
-    ensures { OnOk result (made.new.items ≡ made.old.items ++ turned behind_fork tokens.now) }
+fn put_items(tokens: &[Token], after_fork: bool, made: &mut Vec<Token>) -> Result<(), OutOfMemory>
+    ensures { OnOk result (made.new.items ≡ made.old.items ++ turned after_fork tokens.now) }
 {
-    if !behind_fork {
+    if !after_fork {
         return copy_to(tokens, made);
     }
     let Some((last, items)) = tokens.split_last() else {
@@ -135,7 +133,7 @@ fn is_fork(token: &Token) -> bool
 }
 
 /// The trees that are ready to be put at the places of their pairs: each with the pending attestation
-/// behind its items.
+/// after its items.
 pub(crate) fn ready_trees(
     alloc: Global,
     pairs: &Pairs,

@@ -10,13 +10,13 @@
 #![tactic(auto)]
 
 mod adding;
-mod asked;
 mod bitcoin;
 mod completing;
 mod distinct;
 mod finding;
 mod fitting;
 mod growing;
+mod kept_pair;
 mod listing;
 mod pairs;
 mod path;

@@ -1,6 +1,6 @@
 //! Pairs in the order in which they are found.
-use crate::asked::Asked;
 use crate::distinct::Distinct;
+use crate::kept_pair::KeptPair;
 
 /// Distinct pairs in the order in which they are found, and the distinct messages that they ask for.
 #[derive(Drop)]
@@ -10,5 +10,5 @@ pub(crate) struct Listing {
     /// The keys of the pairs, by which a pair is found.
     pub(crate) keys: Distinct,
     /// The pairs.
-    pub(crate) asked: Vec<Asked>,
+    pub(crate) asked: Vec<KeptPair>,
 }

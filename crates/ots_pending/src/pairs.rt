@@ -13,7 +13,7 @@ use crate::walk::{follow, note};
 use ots_attest::Uri;
 use ots_base::OutOfMemory;
 use ots_ops::Message;
-use ots_tree::{Detached, Token, limits_of_detached};
+use ots_tree::{Detached, PathMessages, Token, limits_of_detached};
 use std::alloc::Global;
 use std::marker::Model;
 
@@ -119,18 +119,17 @@ fn walked(
     for (at, token) in tokens.iter().enumerate() {
         let depth = depths[at];
         note(alloc, token, depth, &mut path, &mut listing)?;
-        follow(alloc, token, depth as usize, &mut path)?;
+        follow(token, depth as usize, &mut path)?;
     }
     Ok(listing)
 }
 
 /// The path that has this message alone.
 pub(crate) fn path_from(alloc: Global, digest: Message) -> Result<Path, OutOfMemory>
-    ensures message { IfOk result (λ path. path.messages.items ≡ digest ∷ []) }
+    ensures message { IfOk result (λ path. path.messages ≡ digest ∷ []) }
     ensures none { IfOk result (λ path. (all : List (List ℕ)) → AreNumbers all path) }
 {
-    let mut messages = Vec::new(alloc);
-    messages.push(digest)?;
+    let messages = PathMessages::begin(alloc, digest)?;
     let mut numbers = Vec::new(alloc);
     numbers.push(None)?;
     Ok(Path { messages, numbers })

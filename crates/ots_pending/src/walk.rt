@@ -1,7 +1,6 @@
 //! A walk over the tokens of a tree that comes to the pairs of its pending paths.
 ghost use Rattle.std.specs.Prelude.{◌≡◌, ◌≤◌, ◌<◌, ◌^◌, [], ◌∷◌, IfOk, IfSome, OnOk, Some};
 ghost use Rattle.std.specs.List.{slice_get};
-ghost use Rattle.ots_tree.specs.PendingWalk.{followed, result_at};
 ghost use Rattle.ots_pending.specs.Distinct.{AreDistinct};
 ghost use Rattle.ots_pending.specs.Listed.{IsKept};
 ghost use Rattle.ots_pending.specs.OnPath.{kept_at, AreNumbers, Follows, Notes, Numbers};
@@ -12,7 +11,6 @@ use crate::listing::Listing;
 use crate::path::Path;
 use ots_attest::Attestation;
 use ots_base::OutOfMemory;
-use ots_ops::{Message, Op, OpError, apply};
 use ots_tree::Token;
 use std::alloc::Global;
 
@@ -51,7 +49,7 @@ fn number_at(
     if let Some(number) = known(&path.numbers, depth) {
         return Ok(Some(number));
     }
-    let Some(message) = path.messages.get(depth) else {
+    let Some(message) = path.messages.at(depth) else {
         return Ok(None);
     };
     let number = messages.number(alloc, message.bytes())?;
@@ -75,44 +73,18 @@ pub(crate) fn keep(numbers: &mut [Option<usize>], depth: usize, number: usize)
     }
 }
 
-/// Puts the result of an operation behind the messages up to its depth.
-pub(crate) fn follow(
-    alloc: Global,
-    token: &Token,
-    depth: usize,
-    path: &mut Path,
-) -> Result<(), OutOfMemory>
+/// Goes on after a token at a depth. The result of an operation has no number yet.
+pub(crate) fn follow(token: &Token, depth: usize, path: &mut Path) -> Result<(), OutOfMemory>
     requires { depth < 2 ^ 32 }
     ensures { OnOk result (Follows token.now depth path.old path.new) }
 {
-    let Token::Op(op) = token else {
+    let Token::Op(_) = token else {
         return Ok(());
     };
-    let result = result_at(alloc, op, depth, path.messages.as_slice())?;
-    path.messages.truncate(depth + 1);
+    path.messages.follow(token, depth)?;
     path.numbers.truncate(depth + 1);
-    if let Some(message) = result {
-        path.messages.push(message)?;
+    if path.numbers.len() < path.messages.len() {
         path.numbers.push(None)?;
     }
     Ok(())
-}
-
-/// The result of an operation on the message at a depth, where both are.
-fn result_at(
-    alloc: Global,
-    op: &Op,
-    depth: usize,
-    messages: &[Message],
-) -> Result<Option<Message>, OutOfMemory>
-    ensures { IfOk result (λ next. next ≡ result_at op.now depth messages.now) }
-{
-    let Some(message) = messages.get(depth) else {
-        return Ok(None);
-    };
-    match apply(alloc, op, message.bytes()) {
-        Ok(next) => Ok(Some(next)),
-        Err(OpError::OutOfMemory) => Err(OutOfMemory),
-        Err(_) => Ok(None),
-    }
 }

@@ -2,8 +2,8 @@
 use Rattle.std.proofs.Common.{◌≡◌, ◌⊎◌, inl, inr, ℕ, List, [], ◌++◌, Bool, true, false, Option, refl, sym, ap, subst, ◌∙◌, append_assoc, append-nil, arith}
 use Rattle.ots_base.specs.Cause.{Rose}
 use Rattle.ots_outside.specs.Buffered.{Buffered}
-use Rattle.ots_outside.specs.Streams.{Takes, Takes-nothing, TakesFront}
-use Rattle.ots_outside.proofs.Buffers.{front_of_more, front_written, held_more, moved_on}
+use Rattle.ots_outside.specs.Streams.{Takes, Takes-nothing, TakesPrefix}
+use Rattle.ots_outside.proofs.Buffers.{prefix_of_more, prefix_written, held_more, moved_on}
 use Rattle.ots_printer.specs.Printing.{Puts}
 use Rattle.ots_printer.specs.declared.printer.Printer.{Printer}
 
@@ -21,20 +21,20 @@ module _ {K : Type 0} {taken : K → Option (List ℕ)} {faults : K → ℕ} {ke
           subst (λ (z : List ℕ). Buffered (taken p.sink.now) (taken r.sink.now) z r.held) (append_assoc p.held a b)
               (moved_on _ _ _ ((p.held ++ a) ++ b) (q.held ++ b) r.held (held_more _ _ (p.held ++ a) q.held b first.1) second.1),
         );
-    front = λ good bad. elim (true_or_false q.failed) [
+    prefix = λ good bad. elim (true_or_false q.failed) [
       | inl failed ↦
-          let first = f.front good failed in let lost = g.lost failed in
+          let first = f.prefix good failed in let lost = g.lost failed in
           let later = g.later in let rose = first.0 in (
             omega (arith, later, rose),
-            subst (λ (z : Option (List ℕ)). TakesFront (taken p.sink.now) z (p.held ++ (a ++ b))) (sym lost.1)
-                (subst (TakesFront (taken p.sink.now) (taken q.sink.now)) (append_assoc p.held a b) (front_of_more _ _ (p.held ++ a) b first.1)),
+            subst (λ (z : Option (List ℕ)). TakesPrefix (taken p.sink.now) z (p.held ++ (a ++ b))) (sym lost.1)
+                (subst (TakesPrefix (taken p.sink.now) (taken q.sink.now)) (append_assoc p.held a b) (prefix_of_more _ _ (p.held ++ a) b first.1)),
           )
       | inr well ↦
-          let first = f.whole well in let second = g.front well bad in
+          let first = f.whole well in let second = g.prefix well bad in
           let later = f.later in let rose = second.0 in (
             omega (arith, later, rose),
-            subst (TakesFront (taken p.sink.now) (taken r.sink.now)) (append-nil ((p.held ++ a) ++ b) ∙ append_assoc p.held a b)
-                (front_written _ _ _ ((p.held ++ a) ++ b) (q.held ++ b) [] (held_more _ _ (p.held ++ a) q.held b first.1) second.1),
+            subst (TakesPrefix (taken p.sink.now) (taken r.sink.now)) (append-nil ((p.held ++ a) ++ b) ∙ append_assoc p.held a b)
+                (prefix_written _ _ _ ((p.held ++ a) ++ b) (q.held ++ b) [] (held_more _ _ (p.held ++ a) q.held b first.1) second.1),
           )
     ];
     lost = λ bad. let first = f.lost bad in let second = g.lost first.0 in (second.0, second.1 ∙ first.1);
@@ -47,7 +47,7 @@ module _ {K : Type 0} {taken : K → Option (List ℕ)} {faults : K → ℕ} {ke
   pub puts_nothing : ((s : K) → keeps s s) → (p : Printer K) → Puts taken faults keeps [] p p
   puts_nothing refl_ p = record {
     whole = λ good. (good, record { written = []; appended = Takes-nothing (taken p.sink.now); joined = append-nil p.held });
-    front = λ good bad. absurd (let clash : true ≡ false = sym bad ∙ good in cc);
+    prefix = λ good bad. absurd (let clash : true ≡ false = sym bad ∙ good in cc);
     lost = λ bad. (bad, refl);
     later = omega arith;
     same = refl_ p.sink.now;
@@ -69,11 +69,11 @@ module _ {K : Type 0} {taken : K → Option (List ℕ)} {faults : K → ℕ} {ke
       sym (append-nil all.1.written) ∙ ap (λ (z : List ℕ). all.1.written ++ z) (sym none) ∙ sym all.1.joined ∙ text in
       subst (Takes (taken p.sink.now) (taken r.sink.now)) whole all.1.appended
 
-  -- or a front of it where a write failed.
-  pub front_taken : {bytes : List ℕ} {p q r : Printer K} → Puts taken faults keeps bytes p q → Puts taken faults keeps [] q r
+  -- or a prefix of it where a write failed.
+  pub prefix_taken : {bytes : List ℕ} {p q r : Printer K} → Puts taken faults keeps bytes p q → Puts taken faults keeps [] q r
       → ((s t u : K) → keeps s t → keeps t u → keeps s u) → p.held ≡ [] → p.failed ≡ false → r.failed ≡ true
-      → Rose (faults p.sink.now) (faults r.sink.now) × TakesFront (taken p.sink.now) (taken r.sink.now) bytes
-  front_taken {bytes} {p} {q} {r} f g trans empty good bad =
-      let all = (puts_then f g trans).front good bad in
+      → Rose (faults p.sink.now) (faults r.sink.now) × TakesPrefix (taken p.sink.now) (taken r.sink.now) bytes
+  prefix_taken {bytes} {p} {q} {r} f g trans empty good bad =
+      let all = (puts_then f g trans).prefix good bad in
       let text : p.held ++ (bytes ++ []) ≡ bytes = ap (λ (z : List ℕ). z ++ (bytes ++ [])) empty ∙ append-nil bytes in
-      (all.0, subst (TakesFront (taken p.sink.now) (taken r.sink.now)) text all.1)
+      (all.0, subst (TakesPrefix (taken p.sink.now) (taken r.sink.now)) text all.1)

@@ -96,7 +96,7 @@ lines_value false true c b low r n used e = absurd cc
 lines_value false false true b low r n used e = inl (refl, cc, cc)
 lines_value false false false b low r n used e = inr e
 
--- the shortest form: behind the first byte a number isn't 0, and of two bytes or more it is large
+-- the shortest form: after the first byte a number isn't 0, and of two bytes or more it is large
 record Grows (n used : ℕ) : Type 0 where
   least : 1 ≤ n
   more : 2 ≤ used → 128 ≤ n
@@ -132,7 +132,7 @@ number_size : (bytes : List ℕ) (n used : ℕ) → reading bytes ≡ read.Value
 unfolding reading
 number_size bytes n used e few = two_at_most bytes n used e few
 
--- ---- bytes behind their length that are cut
+-- ---- bytes after their length that are cut
 
 abbrev Cut : Option Reason → Type 0
 Cut known = known ≡ Some Truncated
@@ -161,8 +161,8 @@ body_lines false false (Some payload_error.PayloadShort) e = absurd cc
 body_lines false false (Some payload_error.PayloadVaruint) e = absurd cc
 body_lines false false (Some payload_error.OutOfMemory) e = absurd cc
 
-behind_cut : (most n used : ℕ) (bytes : List ℕ) → most ≤ 8192 → ltb most n ≡ false → ltb (length bytes) (used + n) ≡ true → reading bytes ≡ read.Value n used → length bytes ≤ 1 + most
-behind_cut most n used bytes few long cut s =
+after_cut : (most n used : ℕ) (bytes : List ℕ) → most ≤ 8192 → ltb most n ≡ false → ltb (length bytes) (used + n) ≡ true → reading bytes ≡ read.Value n used → length bytes ≤ 1 + most
+after_cut most n used bytes few long cut s =
     let n_few : n ≤ most = grind (arith, nat_tests) in
     let short : length bytes < used + n = grind (arith, nat_tests) in
     omega (arith, number_size bytes n used s (omega arith))
@@ -173,7 +173,7 @@ argument_cut bytes read.NonMinimal is e = absurd cc
 argument_cut bytes read.TooLarge is e = absurd cc
 argument_cut bytes (read.Value n used) is e =
     let l = argument_lines (eqb n 0) (ltb 4096 n) (ltb (length bytes) (used + n)) e in
-    behind_cut 4096 n used bytes (omega arith) l.0 l.1 is
+    after_cut 4096 n used bytes (omega arith) l.0 l.1 is
 
 body_cut : (k bytes : List ℕ) (r : VaruintRead) → reading bytes ≡ r → Cut (body_fault k r bytes) → length bytes ≤ 8193
 body_cut k bytes read.Short is e = omega (arith, number_cut bytes is)
@@ -181,7 +181,7 @@ body_cut k bytes read.NonMinimal is e = absurd cc
 body_cut k bytes read.TooLarge is e = absurd cc
 body_cut k bytes (read.Value n used) is e =
     let l = body_lines (ltb 8192 n) (ltb (length bytes) (used + n)) (payload_fault k (take n (drop used bytes))) e in
-    behind_cut 8192 n used bytes (omega arith) l.0 l.1 is
+    after_cut 8192 n used bytes (omega arith) l.0 l.1 is
 
 attestation_cut : (after : List ℕ) → Cut (attestation_fault after) → length after ≤ 8201
 attestation_cut after e =

@@ -42,7 +42,7 @@ past old piece f x used s r stops j opens =
     let before = front_before old.shape.length old.shape.depth (so_far old ++ piece) f ts (drop used piece) s stops.fault (fits_more old.came x r.is_front.fits j.token.fits) whole opens in
     absurd (omega (arith, before, stops.place, ap length (spelled_more old.came x), length-append (spelled old.came) (spell x), spell-len x))
 
--- ---- the nodes that are open behind a token
+-- ---- the nodes that are open after a token
 
 record Open_by (old : Tokens) (ts : List Token) (last : Bool) : Type 0 where
   state : Open

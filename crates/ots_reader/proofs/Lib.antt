@@ -10,7 +10,6 @@ pub mod Walk
 pub mod FaultOrTree
 pub mod Stays
 pub mod TreeReasons
-pub mod NoSize
 pub mod Spellings
 pub mod CutLength
 pub mod ReadOn

@@ -18,7 +18,7 @@ use Rattle.ots_tree.specs.declared.token.Token.TheVariants as token
 use Rattle.ots_tree.specs.Wire.{spell, IsToken}
 use Rattle.ots_reader.specs.TokenFault.{argument_fault, body_fault, token_fault}
 
--- x behind the spelling w of its length
+-- x after the spelling w of its length
 room : (w x tail : List ℕ) → length w + length x ≤ length (w ++ (x ++ tail))
 room w x tail = omega (arith, length-append w (x ++ tail), length-append x tail)
 
@@ -40,15 +40,15 @@ body_ok k w p tail few none =
 read : (x tail : List ℕ) → length x ≤ 8192 → reading (varuint (length x) ++ (x ++ tail)) ≡ Value (length x) (length (varuint (length x)))
 read x tail few = reading_again (length x) (x ++ tail) (omega arith)
 
-behind : (x tail : List ℕ) → IsArg x → argument_fault (reading (varbytes x ++ tail)) (varbytes x ++ tail) ≡ None
+after : (x tail : List ℕ) → IsArg x → argument_fault (reading (varbytes x ++ tail)) (varbytes x ++ tail) ≡ None
 unfolding varbytes
-behind x tail h =
+after x tail h =
     let few = h.greatest in
     rw (append_assoc (varuint (length x)) x tail, read x tail (omega arith)) (argument_ok (varuint (length x)) x tail h)
 
-body_behind : (k p tail : List ℕ) → length p ≤ 8192 → payload_fault k p ≡ None → body_fault k (reading (varbytes p ++ tail)) (varbytes p ++ tail) ≡ None
+body_after : (k p tail : List ℕ) → length p ≤ 8192 → payload_fault k p ≡ None → body_fault k (reading (varbytes p ++ tail)) (varbytes p ++ tail) ≡ None
 unfolding varbytes
-body_behind k p tail few none =
+body_after k p tail few none =
     rw (append_assoc (varuint (length p)) p tail, read p tail few) (body_ok k (varuint (length p)) p tail few none)
 
 pub token_ok : (x : Token) (tail : List ℕ) → IsToken x → token_fault (spell x ++ tail) ≡ None
@@ -59,8 +59,8 @@ token_ok (token.Op op.Ripemd160) tail h = refl
 token_ok (token.Op op.Sha256) tail h = refl
 token_ok (token.Op op.Reverse) tail h = refl
 token_ok (token.Op op.Hexlify) tail h = refl
-token_ok (token.Op (op.Append x)) tail h = behind x tail h
-token_ok (token.Op (op.Prepend x)) tail h = behind x tail h
+token_ok (token.Op (op.Append x)) tail h = after x tail h
+token_ok (token.Op (op.Prepend x)) tail h = after x tail h
 token_ok (token.Attestation a) tail h =
     let v = varbytes (payload a) in
     let eight : 8 ≤ length (kind a ++ (v ++ tail)) = omega (arith, length-append (kind a) (v ++ tail), kind-len a h) in
@@ -69,4 +69,4 @@ token_ok (token.Attestation a) tail h =
       le-ltb (length (kind a ++ (v ++ tail))) 8 eight,
       take_at (kind a) (v ++ tail) 8 (kind-len a h),
       drop_at (kind a) (v ++ tail) 8 (kind-len a h),
-    ) (body_behind (kind a) (payload a) tail (payload_few a h) (payload_ok a h))
+    ) (body_after (kind a) (payload a) tail (payload_few a h) (payload_ok a h))

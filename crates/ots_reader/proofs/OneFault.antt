@@ -31,7 +31,7 @@ opened-append s (x ∷ ts) us = open_more (next x s) ts us (λ u. opened-append 
 abbrev pub open_at : Shape → List Shape → Bool → Open
 open_at at others forked = record { nodes = at ∷ others; forked = forked }
 
--- one token at the front of some bytes
+-- one token at the start of some bytes
 one_token : (input : List ℕ) (x y : Token) → BeginsWith input x → BeginsWith input y → x ≡ y
 one_token input x y f g = (token-apart x y f.rest g.rest f.fits g.fits (sym f.spelled ∙ g.spelled)).0
 
@@ -128,7 +128,7 @@ never_both_lem n k input f t rest deep h tree whole =
     let c = closed_is (opened (start n k) (pre t)) ((front_law n k (pre t) deep).1 (t, tree.sound, refl)) in
     apart_from n k input f h t rest c.0 tree.fits c.1 c.2 whole (begins (pre t) h.front rest h.rest tree.fits h.is_front.fits (sym whole ∙ h.whole))
 
--- ---- a fault stands behind every front
+-- ---- a fault stands after every front
 
 before : (ts us : List Token) (f : Fault) → us ≡ ts → f.place ≡ length (spelled us) → length (spelled ts) ≤ f.place
 before ts us f e place = omega (arith, place, ap (λ (z : List Token). length (spelled z)) e)

@@ -2,7 +2,7 @@
 use Rattle.std.proofs.Common.{◌≡◌, ℕ, ◌+◌, ◌<◌, ◌≤◌, Bool, true, false, cond, ltb, leb, List, [], ◌∷◌, Option, Some, None, refl, sym, ap, subst, ◌∙◌, inl, inr, arith}
 use Rattle.std.specs.Prelude.{◌⊎◌, ◌||◌, ◌&&◌, option_map}
 use Rattle.std.specs.List.{AllByRecursion}
-use Rattle.std.proofs.lemmas.Bool.{cases_lt, lt-ltb, le-ltb, lt-leb, le-leb}
+use Rattle.std.proofs.lemmas.Bool.{cases_lt, lt-ltb, le-ltb, lt-leb, le-leb, ltb-false, ltb-true}
 use Rattle.std.proofs.lemmas.Bool.Decides.{nat_tests}
 use Rattle.ots_base.specs.Table.{line, first_line}
 use Rattle.ots_ops.specs.declared.op.Op.{Op}
@@ -120,6 +120,23 @@ refused at others forked (token.Attestation a) r e = absurd cc
 refused at others forked (token.Op o) r e =
     ap (option_map (λ (q : Shape). open_at q others false)) (no_op (too_long o at.length) (len o at.length) at.depth (λ n. record { length = n; depth = at.depth + 1 }) r (len_none o at.length) e)
 
+-- ---- an operation that leads nowhere
+
+no_length : (x : Option ℕ) (g : ℕ → Shape) → option_map g x ≡ None → x ≡ None
+no_length None g e = refl
+no_length (Some m) g e = absurd cc
+
+long_op : (at : Shape) (forked : Bool) (o : Op) → at.depth < 255 → too_long o at.length ≡ true → place_fault at forked (token.Op o) ≡ Some ResultTooLong
+long_op at forked o lt long = rw (lt-leb 255 at.depth lt, long) refl
+
+pub deep_op : (at : Shape) (forked : Bool) (o : Op) → ltb at.depth 255 ≡ false → place_fault at forked (token.Op o) ≡ Some TooDeep
+deep_op at forked o deep = rw (le-leb 255 at.depth (ltb-false at.depth 255 deep)) refl
+
+pub no_result : (at : Shape) (forked : Bool) (o : Op) → IsMessage at.length → ltb at.depth 255 ≡ true → shape_after o at ≡ None → place_fault at forked (token.Op o) ≡ Some ResultTooLong
+no_result at forked o m room none =
+    let there : option_map (λ n. let p : Shape = record { length = n; depth = at.depth + 1 } in p) (len o at.length) ≡ None = rw room at none in
+    long_op at forked o (ltb-true at.depth 255 room) (none_too_long o at.length m (no_length (len o at.length) (λ n. record { length = n; depth = at.depth + 1 }) there))
+
 -- ---- a token leads on, or has a fault there
 
 pub record Leads (at : Shape) (others : List Shape) (forked : Bool) (x : Token) : Type 0 where
@@ -129,9 +146,6 @@ pub record Leads (at : Shape) (others : List Shape) (forked : Bool) (x : Token) 
 pub record Refused (at : Shape) (forked : Bool) (x : Token) : Type 0 where
   pub reason : Reason
   pub is : place_fault at forked x ≡ Some reason
-
-long_op : (at : Shape) (forked : Bool) (o : Op) → at.depth < 255 → too_long o at.length ≡ true → place_fault at forked (token.Op o) ≡ Some ResultTooLong
-long_op at forked o lt long = rw (lt-leb 255 at.depth lt, long) refl
 
 pub leads_or : (at : Shape) (others : List Shape) (forked : Bool) (x : Token) → IsMessage at.length → Refused at forked x ⊎ Leads at others forked x
 leads_or at others true token.Fork m = inl (record { reason = ForkFork; is = refl })

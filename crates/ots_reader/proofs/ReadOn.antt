@@ -14,7 +14,7 @@ use Rattle.ots_reader.proofs.Walk.{spell-len}
 use Rattle.ots_reader.specs.declared.fault.Reason.{Reason}
 use Rattle.ots_reader.specs.Cut.{IsCut, IsSettled, IsSpelling, IsJoinedAt}
 
--- so many bytes of the piece are kept behind the old ones
+-- so many bytes of the piece are kept after the old ones
 pub record IsGrown (old piece kept : List ℕ) (end : ℕ) : Type 0 where
   pub are : kept ≡ old ++ take end piece
   pub within : end ≤ length piece
@@ -59,8 +59,8 @@ not_within old more x used cut t le =
     let front : spell x ++ drop used old ≡ old = ap (λ (z : List ℕ). z ++ drop used old) (sym spelled ∙ take-append-le used old more le) ∙ take-append-drop used old in
     let clash : None ≡ Some Truncated = sym (token_ok x (drop used old) t.fits) ∙ ap token_fault front ∙ cut in cc
 
-pub ends_behind : (old piece kept : List ℕ) (end size : ℕ) (x : Token) → IsGrown old piece kept end → IsCut old → IsTokenAt kept x size → length old < size
-ends_behind old piece kept end size x g cut t =
+pub ends_after : (old piece kept : List ℕ) (end size : ℕ) (x : Token) → IsGrown old piece kept end → IsCut old → IsTokenAt kept x size → length old < size
+ends_after old piece kept end size x g cut t =
     elim (cases_lt (length old) size) [
       | inl lt ↦ lt
       | inr le ↦ absurd (not_within old (take end piece) x size cut (subst (λ (z : List ℕ). IsTokenAt z x size) g.are t) le)
@@ -68,7 +68,7 @@ ends_behind old piece kept end size x g cut t =
 
 pub joined_at : (old piece kept : List ℕ) (end size : ℕ) (x : Token) → IsGrown old piece kept end → IsCut old → IsTokenAt kept x size → IsJoinedAt old piece x (size - length old)
 joined_at old piece kept end size x g cut t =
-    let behind = ends_behind old piece kept end size x g cut t in
+    let after = ends_after old piece kept end size x g cut t in
     let n : length old + (size - length old) ≡ size = omega arith in
     let all : IsTokenAt (old ++ piece) x size = rw (whole_piece old piece kept end g) (token_more kept (drop end piece) x size t) in
     let within = g.within in

@@ -13,7 +13,7 @@ use Rattle.ots_reader.proofs.NoTokenFault.{token_ok}
 pub one_spelled : (bytes : List ℕ) (x y : Token) → IsSpelling bytes x → IsSpelling bytes y → x ≡ y
 one_spelled bytes x y a b = (token-apart x y [] [] a.fits b.fits (append-nil (spell x) ∙ sym a.is ∙ b.is ∙ sym (append-nil (spell y)))).0
 
--- the token at the front of a token's spelling
+-- the token at the start of a token's spelling
 pub spelled_token : (bytes : List ℕ) (y x : Token) (used : ℕ) → IsTokenAt bytes y used → IsSpelling bytes x → y ≡ x
 spelled_token bytes y x used t s = (token-apart y x (drop used bytes) [] t.fits s.fits (sym t.front ∙ s.is ∙ sym (append-nil (spell x)))).0
 

@@ -96,10 +96,10 @@ pub spelled_joined : (old : Tokens) (piece : List ℕ) (x : Token) (used : ℕ) 
 spelled_joined old piece x used j =
     spelled_more old.came x ∙ ap (λ (z : List ℕ). spelled old.came ++ z) (spelling_of old.kept piece x used j) ∙ sym (append_assoc (spelled old.came) old.kept (take used piece))
 
-drop_behind : (fed piece : List ℕ) (used : ℕ) → drop (length fed + used) (fed ++ piece) ≡ drop used piece
-drop_behind fed piece used = sym (drop-drop used (length fed) (fed ++ piece)) ∙ ap (drop used) (drop_at fed piece (length fed) refl)
+drop_after : (fed piece : List ℕ) (used : ℕ) → drop (length fed + used) (fed ++ piece) ≡ drop used piece
+drop_after fed piece used = sym (drop-drop used (length fed) (fed ++ piece)) ∙ ap (drop used) (drop_at fed piece (length fed) refl)
 
--- the tokens behind the new one show how the tree stands then
+-- the tokens after the new one show how the tree stands then
 stands : (old : Tokens) (piece : List ℕ) (x : Token) (used : ℕ) (f : Front) (whole : Bool) → IsJoinedAt old.kept piece x used → IsStanding f → f.below ≡ old.shape
     → f.came.tokens ≡ old.came ++ x ∷ [] → f.whole ≡ whole → Stands whole old piece used (with_token old x)
 stands old piece x used f true j h below came is =
@@ -108,7 +108,7 @@ stands old piece x used f true j h below came is =
     let input = so_far old ++ piece in
     let place = length (so_far old) + used in
     let fed : spelled f.came.tokens ≡ so_far old ++ take used piece = ap spelled came ∙ spelled_joined old piece x used j in
-    let rest : drop place input ≡ drop used piece = drop_behind (so_far old) piece used in
+    let rest : drop place input ≡ drop used piece = drop_after (so_far old) piece used in
     let len : place ≡ length (spelled f.came.tokens) = omega (arith, ap length fed, length-append (so_far old) (take used piece), length-take-le used piece j.within) in
     let all : input ≡ spelled f.came.tokens ++ drop place input = rw (rest, fed, append_assoc (so_far old) (take used piece) (drop used piece), take-append-drop used piece) refl in
     let opens : opened (start n k) f.came.tokens ≡ Some none_open = rw is at h.opens in
@@ -168,8 +168,8 @@ node_message f h still =
     let opens : opened (start n k) f.came.tokens ≡ Some (open_at f.walk) = rw still at h.opens in
     (opened_messages (start n k) f.came.tokens (open_at f.walk) (record { least = h.shape.least; greatest = h.shape.greatest }, tt) opens).0
 
--- the token is behind the others then
-pub record IsBehind (f g : Front) (x : Token) (spelling : List ℕ) (more : Bool) : Type 0 where
+-- the token is after the others then
+pub record IsAfter (f g : Front) (x : Token) (spelling : List ℕ) (more : Bool) : Type 0 where
   pub below : g.below ≡ f.below
   pub tokens : g.came.tokens ≡ f.came.tokens ++ x ∷ []
   pub place : g.place ≡ f.place + length spelling
@@ -181,18 +181,18 @@ if_not : (more : Bool) (a b : Open) → (if more then a else b) ≡ (if not more
 if_not true a b = refl
 if_not false a b = refl
 
-pub stands_behind : (f g : Front) (x : Token) (spelling : List ℕ) (more : Bool) → IsStanding f → f.whole ≡ false → IsSpelling spelling x → IsBehind f g x spelling more → IsStanding g
-stands_behind f g x spelling more h still s b =
+pub stands_after : (f g : Front) (x : Token) (spelling : List ℕ) (more : Bool) → IsStanding f → f.whole ≡ false → IsSpelling spelling x → IsAfter f g x spelling more → IsStanding g
+stands_after f g x spelling more h still s b =
     let n = f.below.length in
     let k = f.below.depth in
     let opens : opened (start n k) f.came.tokens ≡ Some (open_at f.walk) = rw still at h.opens in
-    let behind = opens_more (start n k) f.came.tokens x (open_at f.walk) _ opens b.moves in
+    let after = opens_more (start n k) f.came.tokens x (open_at f.walk) _ opens b.moves in
     let room = b.room in
     let nodes = h.nodes in
     record {
       shape = rw b.below h.shape;
       fits = rw b.tokens (fits_more f.came.tokens x h.fits s.fits);
-      opens = rw (b.below, b.tokens, b.whole) (behind ∙ ap Some (if_not more (open_at g.walk) none_open));
+      opens = rw (b.below, b.tokens, b.whole) (after ∙ ap Some (if_not more (open_at g.walk) none_open));
       place = rw b.tokens (omega (arith, b.place, h.place, ap length s.is, ap length (spelled_more f.came.tokens x), length-append (spelled f.came.tokens) (spell x)));
       nodes = omega arith;
     }

@@ -163,15 +163,15 @@ pub record TokenBegins (bytes : List ℕ) : Type 0 where
 abbrev pub TokenOr : List ℕ → Type 0
 TokenOr bytes = HasReason (token_fault bytes) ⊎ TokenBegins bytes
 
-behind : (x : Token) (tag : ℕ) (rest after : List ℕ) (used : ℕ) → IsToken x → spell x ≡ tag ∷ rest → after ≡ rest ++ drop used after → used ≡ length rest → TokenBegins (tag ∷ after)
-behind x tag rest after used fits e front len = record { x = x; used = suc used; is = record { fits = fits; front = rw e (ap (λ (z : List ℕ). tag ∷ z) front); len = rw e (omega (arith, len)) } }
+following : (x : Token) (tag : ℕ) (rest after : List ℕ) (used : ℕ) → IsToken x → spell x ≡ tag ∷ rest → after ≡ rest ++ drop used after → used ≡ length rest → TokenBegins (tag ∷ after)
+following x tag rest after used fits e front len = record { x = x; used = suc used; is = record { fits = fits; front = rw e (ap (λ (z : List ℕ). tag ∷ z) front); len = rw e (omega (arith, len)) } }
 
 at_attestation : (after : List ℕ) → AreBytes after → TokenOr (0x00 ∷ after)
 unfolding token_fault
 at_attestation after all =
     elim (attestation_or after all) [
       | inl f ↦ inl f
-      | inr h ↦ inr (behind (token.Attestation h.a) 0x00 (kind h.a ++ varbytes (payload h.a)) after h.used h.is.fits refl h.is.front h.is.len)
+      | inr h ↦ inr (following (token.Attestation h.a) 0x00 (kind h.a ++ varbytes (payload h.a)) after h.used h.is.fits refl h.is.front h.is.len)
     ]
 
 at_append : (after : List ℕ) → AreBytes after → TokenOr (0xf0 ∷ after)
@@ -179,7 +179,7 @@ unfolding token_fault
 at_append after all =
     elim (argument_or after (reading after) (spelled_at after all) all) [
       | inl f ↦ inl f
-      | inr h ↦ inr (behind (token.Op (op.Append h.argument)) 0xf0 (varbytes h.argument) after h.used h.is.fits refl h.is.front h.is.len)
+      | inr h ↦ inr (following (token.Op (op.Append h.argument)) 0xf0 (varbytes h.argument) after h.used h.is.fits refl h.is.front h.is.len)
     ]
 
 at_prepend : (after : List ℕ) → AreBytes after → TokenOr (0xf1 ∷ after)
@@ -187,7 +187,7 @@ unfolding token_fault
 at_prepend after all =
     elim (argument_or after (reading after) (spelled_at after all) all) [
       | inl f ↦ inl f
-      | inr h ↦ inr (behind (token.Op (op.Prepend h.argument)) 0xf1 (varbytes h.argument) after h.used h.is.fits refl h.is.front h.is.len)
+      | inr h ↦ inr (following (token.Op (op.Prepend h.argument)) 0xf1 (varbytes h.argument) after h.used h.is.fits refl h.is.front h.is.len)
     ]
 
 pub other_tag : (b : ℕ) (after : List ℕ) → is_tag b ≡ false → HasReason (token_fault (b ∷ after))
@@ -202,7 +202,7 @@ at_tag : (b : ℕ) (after : List ℕ) → AreBytes after → Tag b → TokenOr (
 at_tag b after all (attestation e) = subst (λ (z : ℕ). TokenOr (z ∷ after)) (sym e) (at_attestation after all)
 at_tag b after all (append e) = subst (λ (z : ℕ). TokenOr (z ∷ after)) (sym e) (at_append after all)
 at_tag b after all (prepend e) = subst (λ (z : ℕ). TokenOr (z ∷ after)) (sym e) (at_prepend after all)
-at_tag b after all (alone x fits e) = inr (behind x b [] after 0 fits e refl refl)
+at_tag b after all (alone x fits e) = inr (following x b [] after 0 fits e refl refl)
 at_tag b after all (none e) = inl (other_tag b after e)
 
 pub token_or_fault : (bytes : List ℕ) → AreBytes bytes → TokenOr bytes

@@ -1,4 +1,4 @@
--- Arguments and payloads behind their lengths.
+-- Arguments and payloads after their lengths.
 use Rattle.std.proofs.Common.{◌≡◌, ℕ, ◌+◌, ◌-◌, ◌<◌, ◌≤◌, Bool, true, false, ltb, List, [], ◌∷◌, length, take, drop, get_or, length-drop, Some, None, refl, ap, sym, subst, ◌∙◌, arith}
 use Rattle.std.specs.Prelude.{Ok, Option, not, bytes_eq, if◌then◌else◌}
 use Rattle.std.specs.List.{list_all}
@@ -8,7 +8,7 @@ use Rattle.ots_base.specs.Table.{line, first_line}
 use Rattle.ots_varint.specs.declared.reading.VaruintRead.{VaruintRead}
 use Rattle.ots_varint.specs.declared.reading.VaruintRead.TheVariants as read
 use Rattle.ots_varint.specs.Reading.{reading, IsSpelledAt}
-use Rattle.ots_varint.proofs.Behind.{IsBehind, behind, same_slice}
+use Rattle.ots_varint.proofs.After.{IsAfter, after, same_slice}
 use Rattle.ots_varint.proofs.ReadBack.{all_bytes}
 use Rattle.ots_ops.specs.Arg.{AreBytes}
 use Rattle.ots_ops.specs.NewArg.{new_arg}
@@ -24,7 +24,7 @@ use Rattle.ots_reader.proofs.ByteLists.{all_take, all_drop}
 pub argument_at : (n used : ℕ) (bytes : List ℕ) → IsSpelledAt bytes n used → AreBytes bytes → used + n ≤ length bytes → 1 ≤ n → n ≤ 4096
     → IsArgAt bytes (take n (drop used bytes)) (used + n)
 argument_at n used bytes at all room least greatest =
-    let b = behind n used bytes at room in
+    let b = after n used bytes at room in
     let size = b.size in
     record {
       fits = record { least = omega arith; greatest = omega arith; are_bytes = all_take (λ b. b < 256) n (drop used bytes) (all_drop (λ b. b < 256) used bytes all) };
@@ -41,7 +41,7 @@ argument_read n used bytes x at all room least greatest is =
 pub body_at : (n used : ℕ) (k bytes : List ℕ) (a : Attestation) → IsSpelledAt bytes n used → used + n ≤ length bytes
     → IsOf k (take n (drop used bytes)) a → IsBodyAt k bytes a (used + n)
 body_at n used k bytes a at room is =
-    let c = subst (IsBehind n used bytes) (sym is.payload) (behind n used bytes at room) in
+    let c = subst (IsAfter n used bytes) (sym is.payload) (after n used bytes at room) in
     record { fits = is.within_limits; kind = is.kind; front = c.spelled; len = c.len }
 
 -- as a slice names its bytes

@@ -27,7 +27,7 @@ use Rattle.ots_reader.proofs.OneFault.{opened-append, open_at, never_both_lem, o
 use Rattle.ots_reader.proofs.NoTokenFault.{token_ok}
 use Rattle.ots_reader.proofs.Places.{IsMessage, opened_messages, refused}
 
--- the tokens so far, the nodes that are open behind them, and how many bytes they take
+-- the tokens so far, the nodes that are open after them, and how many bytes they take
 pub record IsWalk (n k : ℕ) (input : List ℕ) (ts : List Token) (s : Open) (place : ℕ) : Type 0 where
   pub opens : opened (start n k) ts ≡ Some s
   pub fits : AllByRecursion IsToken ts
@@ -111,7 +111,7 @@ pub walk_read : (n k : ℕ) (input : List ℕ) (ts : List Token) (s : Open) (pla
 walk_read n k input ts s place deep w closed =
     record { sound = walk_sound n k input ts s place deep w closed; fits = w.fits; front = w.whole; len = w.len }
 
--- ---- trees at the front of bytes
+-- ---- trees at the start of bytes
 
 pub node_at : (n k : ℕ) (input : List ℕ) (tree : Tree) (used : ℕ) (at : IsTreeAt n k input tree used) → IsSoundNode n k at.sound.0
 node_at n k input tree used at = record { sound = at.sound.1; fits = subst (AllByRecursion IsToken) (sym at.sound.2) at.fits }

@@ -51,9 +51,9 @@ still last old piece used new e s = rw e at s
 pub read_more : (old now new : Tokens) (piece : List ℕ) (tokens more : List Token) (at : ℕ) (next : Next) → IsReadUpTo old piece now tokens at → Brings now (slice_from at piece) next
     → new ≡ with_token now (token_of next.token) → next.last ≡ false → more ≡ tokens ++ token_of next.token ∷ [] → IsReadUpTo old piece new more (at + next.used)
 read_more old now new piece tokens more at next r b is going e =
-    let behind = with_token now (token_of next.token) in
+    let after = with_token now (token_of next.token) in
     rw is (record {
-      read = record { shape = r.read.shape; reading = still next.last now (slice_from at piece) next.used behind going b.stands; fed = fed_more old now behind piece tokens at next.used r b.fed };
+      read = record { shape = r.read.shape; reading = still next.last now (slice_from at piece) next.used after going b.stands; fed = fed_more old now after piece tokens at next.used r b.fed };
       tokens = e ∙ ap (λ (z : List Token). z ++ token_of next.token ∷ []) r.tokens;
       within = within_more at next.used piece r.within b.joined.within;
     })

@@ -29,8 +29,9 @@ pub record IsAway (old new : Arrived) : Type 0 where
   pub spent : new.spent ≡ false
   pub kept : new.kept.items ≡ kept_by old.spent old.kept.items
 
--- What is held behind a piece that got this answer.
-pub record HoldsBehind (old : Arrived) (piece : List ℕ) (answer : Result (Option Next) Fault) (new : Arrived) : Type 0 where
+-- What is held after a piece that got this answer.
+pub record HoldsAfter (old : Arrived) (piece : List ℕ) (answer : Result (Option Next) Fault)
+    (new : Arrived) : Type 0 where
   pub held : IsHeld new
   pub leaves : Leaves (tokens_of old) piece answer (tokens_of new)
 

@@ -22,7 +22,7 @@ pub record IsSpelling (bytes : List ℕ) (x : Token) : Type 0 where
   pub fits : IsToken x
   pub is : bytes ≡ spell x
 
--- How many of the bytes spell the token at their front, nothing where it ends later, or its fault.
+-- How many of the bytes spell the token at their start, nothing where it ends later, or its fault.
 abbrev pub ReadsWhole : List ℕ → Result (Option ℕ) Reason → Type 0
 ReadsWhole bytes (Ok (Some used)) = (x : Token) × IsTokenAt bytes x used
 ReadsWhole bytes (Ok None) = IsCut bytes
@@ -40,7 +40,7 @@ pub record IsJoinedAt (old piece : List ℕ) (x : Token) (used : ℕ) : Type 0 w
   pub some : 1 ≤ used
   pub within : used ≤ length piece
 
--- What is read of `old` with the piece behind it, and which bytes are kept then.
+-- What is read of `old` with the piece after it, and which bytes are kept then.
 abbrev pub ReadsOn : List ℕ → List ℕ → List ℕ → Result (Option ℕ) Reason → Type 0
 ReadsOn old piece kept (Ok (Some used)) = (x : Token) × IsJoinedAt old piece x used × IsSpelling kept x
 ReadsOn old piece kept (Ok None) = IsCut kept × (kept ≡ old ++ piece)

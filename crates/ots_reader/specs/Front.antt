@@ -11,11 +11,12 @@ use Rattle.ots_reader.specs.declared.fault.Fault.{Fault}
 use Rattle.ots_reader.specs.OneAnswer.{IsShape}
 use Rattle.ots_reader.specs.TreeFault.{place_fault}
 
--- The walk stands behind the tokens, and there is room for whatever comes.
+-- The walk stands after the tokens, and there is room for whatever comes.
 pub record IsStanding (f : Front) : Type 0 where
   pub shape : IsShape f.below.length f.below.depth
   pub fits : AllByRecursion IsToken f.came.tokens
-  pub opens : opened (start f.below.length f.below.depth) f.came.tokens ≡ Some (if f.whole then none_open else open_at f.walk)
+  pub opens : opened (start f.below.length f.below.depth) f.came.tokens
+      ≡ Some (if f.whole then none_open else open_at f.walk)
   pub place : f.place ≡ length (spelled f.came.tokens)
   pub nodes : MAX_OTHERS ≤ f.walk.room
 

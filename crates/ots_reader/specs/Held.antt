@@ -20,7 +20,7 @@ Holds state.Reading r tokens = IsReading r × (tokens ≡ r.came)
 Holds state.Whole r tokens = IsPre tokens
 Holds (state.Refused e) r tokens = Unit {0}
 
--- behind this answer
+-- after this answer
 abbrev pub state_after : Result Fed ReadError → State
 state_after (Ok More) = state.Reading
 state_after (Ok (Done used)) = state.Whole

@@ -1,7 +1,11 @@
 -- The words that a reason prints.
 use Rattle.std.specs.Prelude.{ℕ, List, codes}
 use Rattle.ots_reader.specs.declared.fault.Reason.{Reason}
-use Rattle.ots_reader.specs.declared.fault.Reason.TheVariants.{Truncated, UnknownOp, Keccak, ForkFork, NonMinimal, VaruintTooLarge, ArgEmpty, ArgTooLong, PayloadTooLong, BadUri, PayloadRest, PayloadShort, PayloadVaruint, ResultTooLong, TooDeep, BadMagic, BadVersion, BadHashOp, TrailingBytes}
+use Rattle.ots_reader.specs.declared.fault.Reason.TheVariants.{Truncated, UnknownOp, Keccak, ForkFork, NonMinimal}
+use Rattle.ots_reader.specs.declared.fault.Reason.TheVariants.{VaruintTooLarge, ArgEmpty, ArgTooLong, PayloadTooLong}
+use Rattle.ots_reader.specs.declared.fault.Reason.TheVariants.{BadUri, PayloadRest, PayloadShort, PayloadVaruint}
+use Rattle.ots_reader.specs.declared.fault.Reason.TheVariants.{ResultTooLong, TooDeep, BadMagic, BadVersion, BadHashOp}
+use Rattle.ots_reader.specs.declared.fault.Reason.TheVariants.{TrailingBytes}
 
 abbrev pub printed : Reason → List ℕ
 printed Truncated = codes "truncated"

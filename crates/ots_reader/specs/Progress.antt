@@ -29,7 +29,7 @@ MayBeFed (reading fed) more = length fed + more < 2 ^ 64
 MayBeFed (whole tree) more = ⊥
 MayBeFed (refused e) more = Unit {0}
 
--- the fault of bytes that a tree goes on behind
+-- the fault of bytes that a tree goes on after
 abbrev pub ends_at : ℕ → Fault
 ends_at place = record { place = place; reason = Truncated }
 
@@ -42,7 +42,7 @@ abbrev pub IsRefusal : Shape → List ℕ → ReadError → Type 0
 IsRefusal at bytes error.OutOfMemory = Unit {0}
 IsRefusal at bytes (error.Fault f) = HasTreeFault at.length at.depth bytes f × (f.reason ≢ Truncated)
 
--- The tree's last byte is the one before this place of the piece, behind the bytes that came before it.
+-- The tree's last byte is the one before this place of the piece, after the bytes that came before it.
 pub record EndsIn (at : Shape) (fed piece : List ℕ) (tree : Tree) (used : ℕ) : Type 0 where
   pub is_tree : IsTreeAt at.length at.depth (fed ++ piece) tree (length fed + used)
   pub some : 1 ≤ used
@@ -67,6 +67,7 @@ pub record IsExact (at : Shape) (fed piece : List ℕ) (answer : Result Fed Read
 
 -- What is answered where no more pieces come.
 abbrev pub Finishes : Shape → Progress → Result Tree ReadError → Type 0
-Finishes at (reading fed) answer = (place : ℕ) × HasTreeFault at.length at.depth fed (ends_at place) × (answer ≡ Err (error.Fault (ends_at place)))
+Finishes at (reading fed) answer = (place : ℕ) × HasTreeFault at.length at.depth fed (ends_at place)
+    × (answer ≡ Err (error.Fault (ends_at place)))
 Finishes at (whole tree) answer = UnlessOutOfMemory error.OutOfMemory answer (Ok tree)
 Finishes at (refused e) answer = answer ≡ Err e

@@ -16,8 +16,8 @@ pub data Run (at : Shape) : Progress → List (List ℕ) → Progress → Type 0
 abbrev pub joined : List (List ℕ) → List ℕ
 joined pieces = flat_map (λ piece. piece) pieces
 
--- What the bytes are, however they were cut: those of a tree that goes on, bytes that begin with a tree, or bytes with another
--- fault than that they end, unless memory ran out.
+-- What the bytes are, however they were cut: those of a tree that goes on, bytes that begin with a tree, or bytes with
+-- another fault than that they end, unless memory ran out.
 abbrev pub StandsFor : Shape → List ℕ → Progress → Type 0
 StandsFor at bytes (reading fed) = (fed ≡ bytes) × GoesOn at bytes
 StandsFor at bytes (whole tree) = (used : ℕ) × IsTreeAt at.length at.depth bytes tree used

@@ -14,20 +14,20 @@ pub record IsTokenAt (bytes : List ℕ) (x : Token) (used : ℕ) : Type 0 where
   pub front : bytes ≡ spell x ++ drop used bytes
   pub len : used ≡ length (spell x)
 
--- the first `used` bytes are an argument behind its length
+-- the first `used` bytes are an argument after its length
 pub record IsArgAt (bytes : List ℕ) (argument : Arg) (used : ℕ) : Type 0 where
   pub fits : IsArg argument
   pub front : bytes ≡ varbytes argument ++ drop used bytes
   pub len : used ≡ length (varbytes argument)
 
--- the first `used` bytes are the payload of an attestation of this kind behind its length
+-- the first `used` bytes are the payload of an attestation of this kind after its length
 pub record IsBodyAt (k bytes : List ℕ) (a : Attestation) (used : ℕ) : Type 0 where
   pub fits : IsAttestation a
   pub kind : kind a ≡ k
   pub front : bytes ≡ varbytes (payload a) ++ drop used bytes
   pub len : used ≡ length (varbytes (payload a))
 
--- the first `used` bytes are the kind of an attestation, and its payload behind its length
+-- the first `used` bytes are the kind of an attestation, and its payload after its length
 pub record IsAttestationAt (bytes : List ℕ) (a : Attestation) (used : ℕ) : Type 0 where
   pub fits : IsAttestation a
   pub front : bytes ≡ (kind a ++ varbytes (payload a)) ++ drop used bytes

@@ -1,5 +1,6 @@
 -- A reader that hands out the tokens of a tree one by one: what has come, and what each piece is answered.
-use Rattle.std.specs.Prelude.{◌≡◌, ◌≢◌, ℕ, List, [], ◌∷◌, ◌++◌, length, take, Bool, true, false, Option, Some, None, Result, Ok, Err}
+use Rattle.std.specs.Prelude.{◌≡◌, ◌≢◌, ℕ, List, [], ◌∷◌, ◌++◌, length, take, Bool, true, false, Option, Some, None}
+use Rattle.std.specs.Prelude.{Result, Ok, Err}
 use Rattle.ots_tree.specs.declared.shape.Shape.{Shape}
 use Rattle.ots_tree.specs.declared.token.Token.{Token}
 use Rattle.ots_tree.specs.TokenRef.{token_of}
@@ -23,11 +24,11 @@ pub record Tokens : Type 0 where
 abbrev pub begun : Shape → Tokens
 begun shape = record { shape = shape; came = []; kept = [] }
 
--- behind one more token
+-- after one more token
 abbrev pub with_token : Tokens → Token → Tokens
 with_token r x = record { shape = r.shape; came = r.came ++ x ∷ []; kept = [] }
 
--- behind more bytes of the next token
+-- after more bytes of the next token
 abbrev pub with_bytes : Tokens → List ℕ → Tokens
 with_bytes r piece = record { shape = r.shape; came = r.came; kept = r.kept ++ piece }
 
@@ -35,7 +36,7 @@ with_bytes r piece = record { shape = r.shape; came = r.came; kept = r.kept ++ p
 abbrev pub so_far : Tokens → List ℕ
 so_far r = spelled r.came ++ r.kept
 
--- The tree goes on: a node is open behind the tokens, and the next one is cut.
+-- The tree goes on: a node is open after the tokens, and the next one is cut.
 pub record IsReading (r : Tokens) : Type 0 where
   pub shape : IsShape r.shape.length r.shape.depth
   pub at : Shape
@@ -44,7 +45,7 @@ pub record IsReading (r : Tokens) : Type 0 where
   pub is_front : IsFront r.shape.length r.shape.depth r.came at others forked
   pub cut : IsCut r.kept
 
--- Behind this token the tree goes on, or it is whole.
+-- After this token the tree goes on, or it is whole.
 abbrev pub Stands : Bool → Tokens → List ℕ → ℕ → Tokens → Type 0
 Stands false old piece used new = IsReading new
 Stands true old piece used new = EndsIn old.shape (so_far old) piece new.came used
@@ -85,7 +86,8 @@ IsNext x used last (Err f) = ⊥
 
 -- The same the other way: which answer each bytes come to.
 pub record IsExactNext (old : Tokens) (piece : List ℕ) (answer : Result (Option Next) Fault) : Type 0 where
-  pub comes : (x : Token) (used : ℕ) (s : Open) → IsJoinedAt old.kept piece x used → opened (start old.shape.length old.shape.depth) (old.came ++ x ∷ []) ≡ Some s
+  pub comes : (x : Token) (used : ℕ) (s : Open) → IsJoinedAt old.kept piece x used
+      → opened (start old.shape.length old.shape.depth) (old.came ++ x ∷ []) ≡ Some s
       → IsNext x used (is_none s.nodes) answer
   pub stops : (f : Fault) → Stops old piece f → answer ≡ Err f
   pub goes_on : IsCut (old.kept ++ piece) → answer ≡ Ok None

@@ -25,7 +25,7 @@ place_fault at forked (token.Op o) = first_line (
     ∷ [])
 place_fault at forked (token.Attestation a) = None
 
--- These tokens are a front: some node is open behind them, the last one of this length and depth.
+-- These tokens are a front: some node is open after them, the last one of this length and depth.
 pub record IsFront (n k : ℕ) (front : List Token) (at : Shape) (others : List Shape) (forked : Bool) : Type 0 where
   pub fits : AllByRecursion IsToken front
   pub opens : opened (start n k) front ≡ Some (record { nodes = at ∷ others; forked = forked })
@@ -40,7 +40,8 @@ pub record BeginsWith (bytes : List ℕ) (x : Token) : Type 0 where
 -- at the open node.
 pub data IsReason (at : Shape) (others : List Shape) (forked : Bool) (bytes : List ℕ) (r : Reason) : Type 0 where
   no_token : ((x : Token) → BeginsWith bytes x → ⊥) → token_fault bytes ≡ Some r → IsReason at others forked bytes r
-  no_place : (x : Token) → BeginsWith bytes x → next_at at others forked x ≡ None → place_fault at forked x ≡ Some r → IsReason at others forked bytes r
+  no_place : (x : Token) → BeginsWith bytes x → next_at at others forked x ≡ None → place_fault at forked x ≡ Some r
+      → IsReason at others forked bytes r
 
 -- The fault of the bytes for a tree below a message of n bytes and k operations: a front is spelled up
 -- to its place, and its reason is that of the bytes from there on.

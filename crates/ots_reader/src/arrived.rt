@@ -2,7 +2,7 @@
 ghost use Rattle.std.specs.Prelude.{◌≡◌, ◌<◌, ◌+◌, ◌^◌, [], true, false, length, IfOk};
 ghost use Rattle.std.specs.Borrow.{sem};
 ghost use Rattle.ots_tree.specs.declared.token.Token.{Token};
-ghost use Rattle.ots_reader.specs.Arrived.{tokens_of, IsHeld, IsAway, HoldsBehind, Rests};
+ghost use Rattle.ots_reader.specs.Arrived.{tokens_of, IsHeld, IsAway, HoldsAfter, Rests};
 ghost use Rattle.ots_reader.specs.Cut.{IsSpelling};
 ghost use Rattle.ots_reader.specs.Front.{ComesTo};
 ghost use Rattle.ots_reader.specs.OneAnswer.{IsShape};
@@ -63,7 +63,7 @@ pub(crate) fn read_next<'a>(
     requires reading { IsReading (tokens_of arrived.old) }
     requires few { length (so_far (tokens_of arrived.old)) + length piece.now < 2 ^ 64 }
     ensures next { Nexts (tokens_of arrived.old) piece.now result }
-    ensures* rests { sem 𝓛 (Rests arrived.entry (HoldsBehind arrived.old piece.now result)) }
+    ensures* rests { sem 𝓛 (Rests arrived.entry (HoldsAfter arrived.old piece.now result)) }
 {
     put_away(arrived);
     if arrived.kept.is_empty() {
@@ -94,7 +94,7 @@ fn read_here<'a>(arrived: &mut Arrived, piece: &'a [u8]) -> Result<Option<Next<'
     requires away { arrived.old.spent ≡ false }
     requires none { arrived.old.kept.items ≡ [] }
     ensures next { Nexts (tokens_of arrived.old) piece.now result }
-    ensures holds { HoldsBehind arrived.old piece.now result arrived.new }
+    ensures holds { HoldsAfter arrived.old piece.now result arrived.new }
 {
     let (token, used) = match whole_token(piece) {
         Ok(Some(found)) => found,
@@ -115,7 +115,7 @@ fn read_joined<'a>(arrived: &'a mut Arrived, piece: &[u8]) -> Result<Option<Next
     requires few { length (so_far (tokens_of arrived.old)) + length piece.now < 2 ^ 64 }
     requires away { arrived.old.spent ≡ false }
     ensures next { Nexts (tokens_of arrived.old) piece.now result }
-    ensures* rests { sem 𝓛 (Rests arrived.entry (HoldsBehind arrived.old piece.now result)) }
+    ensures* rests { sem 𝓛 (Rests arrived.entry (HoldsAfter arrived.old piece.now result)) }
 {
     let used = match read_on(&mut arrived.kept, piece) {
         Ok(Some(used)) => used,
@@ -137,7 +137,8 @@ fn take_kept(arrived: &mut Arrived) -> Result<bool, Fault>
     ensures below { arrived.new.front.below ≡ arrived.old.front.below }
     ensures kept { arrived.new.kept.items ≡ arrived.old.kept.items }
     ensures spent { arrived.new.spent ≡ true }
-    ensures came { (x : Token) → IsSpelling arrived.old.kept.items x → ComesTo arrived.old.front x result arrived.new.front }
+    ensures came { (x : Token) → IsSpelling arrived.old.kept.items x
+        → ComesTo arrived.old.front x result arrived.new.front }
 {
     arrived.spent = true;
     take(&mut arrived.front, token_in(&arrived.kept), &arrived.kept)

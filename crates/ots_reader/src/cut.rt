@@ -9,18 +9,18 @@ use crate::token::read_token;
 use ots_attest::MAX_SPELLED_ATTESTATION;
 use ots_tree::TokenRef;
 
-/// How many bytes of a piece are kept at once behind the first bytes of a token.
+/// How many bytes of a piece are kept at once after the first bytes of a token.
 const KEPT_AT_ONCE: usize = 64;
 
-/// The most bytes that are kept: those of the longest token, and some behind it.
+/// The most bytes that are kept: those of the longest token, and some after it.
 pub(crate) const MAX_KEPT: usize = MAX_SPELLED_ATTESTATION + KEPT_AT_ONCE;
 
 /// How many bytes of the piece belong to the token whose first bytes are kept, where it ends within the
-/// piece. Its spelling is kept then. Where it ends later, the piece is kept behind its first bytes. It
+/// piece. Its spelling is kept then. Where it ends later, the piece is kept after its first bytes. It
 /// takes no memory.
 ///
 /// The piece is kept a few bytes at a time until the token is whole, so no more is kept than one token and
-/// less than `KEPT_AT_ONCE` bytes behind it. That a token goes on shows in its first bytes and its length,
+/// less than `KEPT_AT_ONCE` bytes after it. That a token goes on shows in its first bytes and its length,
 /// so its others aren't read again and again.
 pub(crate) fn read_on(kept: &mut Vec<u8>, piece: &[u8]) -> Result<Option<usize>, Reason>
     requires cut { IsCut kept.old.items }
@@ -42,7 +42,7 @@ pub(crate) fn read_on(kept: &mut Vec<u8>, piece: &[u8]) -> Result<Option<usize>,
     Ok(None)
 }
 
-/// Keeps these bytes behind the others, where there is room for them.
+/// Keeps these bytes after the others, where there is room for them.
 pub(crate) fn keep(kept: &mut Vec<u8>, bytes: &[u8])
     requires { length kept.old.items + length bytes.now ≤ vec_capacity kept.old }
     ensures items { kept.new.items ≡ kept.old.items ++ bytes.now }
@@ -51,7 +51,7 @@ pub(crate) fn keep(kept: &mut Vec<u8>, bytes: &[u8])
     kept.extend_from_slice(bytes).unwrap();
 }
 
-/// How many of the bytes spell the token at their front, where it is whole.
+/// How many of the bytes spell the token at their start, where it is whole.
 fn token_length(bytes: &[u8]) -> Result<Option<usize>, Reason>
     ensures { ReadsWhole bytes.now result }
 {
@@ -61,7 +61,7 @@ fn token_length(bytes: &[u8]) -> Result<Option<usize>, Reason>
     }
 }
 
-/// The token at the front of the bytes, where it is whole, and how many of them spell it.
+/// The token at the start of the bytes, where it is whole, and how many of them spell it.
 #[inline(always)]
 pub(crate) fn whole_token(bytes: &[u8]) -> Result<Option<(TokenRef<'_>, usize)>, Reason>
     ensures { FindsWhole bytes.now result }

@@ -3,7 +3,7 @@
 /// What has come of a tree with a piece.
 #[derive(Clone, Copy, Debug, PartialEq, Eq)]
 pub enum Fed {
-    /// The tree goes on behind the piece.
+    /// The tree goes on after the piece.
     More,
     /// The tree is whole, and so many bytes of the piece belong to it.
     Done(usize),

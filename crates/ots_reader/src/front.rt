@@ -23,7 +23,7 @@ pub(crate) struct Front {
     pub below: Shape,
     /// How many bytes spell the tokens.
     pub place: u64,
-    /// The nodes that are open behind them.
+    /// The nodes that are open after them.
     pub walk: Walk<Shape>,
     /// Whether no node is open.
     pub whole: bool,

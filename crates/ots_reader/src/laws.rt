@@ -50,16 +50,18 @@ pub fn no_fault_at_a_token()
 /// of these alone, so it comes for each way to cut them unless memory runs out, and a fault comes in the
 /// first piece after which they have it.
 pub fn pieces()
-    ensures stands { (at : Shape) (pieces : List (List ℕ)) (last : Progress) → IsShape at.length at.depth → Run at (reading []) pieces last
+    ensures stands { (at : Shape) (pieces : List (List ℕ)) (last : Progress) → IsShape at.length at.depth
+        → Run at (reading []) pieces last
         → StandsFor at (joined pieces) last }
-    ensures one { (at : Shape) (bytes : List ℕ) (p q : Progress) → IsShape at.length at.depth → StandsFor at bytes p → StandsFor at bytes q
+    ensures one { (at : Shape) (bytes : List ℕ) (p q : Progress) → IsShape at.length at.depth → StandsFor at bytes p
+        → StandsFor at bytes q
         → p ≢ refused ReadError.OutOfMemory → q ≢ refused ReadError.OutOfMemory → p ≡ q }
 {}
 
 /// The bytes of a sound tree are those of it alone, whatever follows, and they are what its tokens
 /// spell. So a tree that is written is read as itself, and one that is read is written as the bytes
 /// that it was read from.
-pub fn one_tree_at_the_front()
+pub fn one_tree_at_the_start()
     ensures written { (n k : ℕ) (t : Node) (rest : List ℕ) → IsSoundNode n k t
         → IsTreeAt n k (bytes t ++ rest) (pre t) (length (bytes t)) }
     ensures read { (n k : ℕ) (input : List ℕ) (tree : Tree) (used : ℕ)

@@ -1,4 +1,4 @@
-//! Reading timestamp trees: the tree at the front of some bytes, or where and why there is none; and
+//! Reading timestamp trees: the tree at the start of some bytes, or where and why there is none; and
 //! trees that come in pieces, whole or token by token.
 //!
 //! The format is that of the reference library python-opentimestamps
@@ -22,7 +22,7 @@ mod turn;
 pub use fault::{Fault, ReadError, Reason};
 pub use fed::Fed;
 pub use laws::{
-    fault_or_tree, faults_stay, no_fault_at_a_token, one_fault, one_tree_at_the_front, pieces,
+    fault_or_tree, faults_stay, no_fault_at_a_token, one_fault, one_tree_at_the_start, pieces,
 };
 pub use next::Next;
 pub use reading::read_tree;

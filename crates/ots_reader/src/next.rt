@@ -3,7 +3,7 @@
 use ots_tree::TokenRef;
 
 /// A token that has come with a piece.
-#[derive(Clone, Copy, Debug)]
+#[derive(Clone, Copy)]
 pub struct Next<'a> {
     /// The token, where its parts stand: in the piece, or with the reader where it was cut between pieces.
     pub token: TokenRef<'a>,

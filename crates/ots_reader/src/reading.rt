@@ -13,7 +13,7 @@ use ots_base::{MAX_MESSAGE, MAX_OPERATIONS};
 use ots_tree::{Shape, Tree};
 use std::alloc::Global;
 
-/// The tree at the front of the bytes, and how many of them it takes, whatever follows. It is
+/// The tree at the start of the bytes, and how many of them it takes, whatever follows. It is
 /// answered exactly where there is one that is sound for the shape. Otherwise the first token that
 /// is none or can't stand where it is has a fault.
 ///

@@ -4,17 +4,21 @@ ghost use Rattle.ots_varint.specs.Reading.{reading, IsSpelledAt};
 ghost use Rattle.ots_varint.specs.declared.reading.VaruintRead.TheVariants.{Value};
 ghost use Rattle.ots_attest.specs.AttestationRef.{attestation_of};
 ghost use Rattle.ots_tree.specs.TokenRef.{token_of};
-ghost use Rattle.ots_reader.specs.TokenFault.{token_fault, length_fault, argument_fault, attestation_fault, body_fault, as_reason};
+ghost use Rattle.ots_reader.specs.TokenFault.{token_fault, length_fault, argument_fault, attestation_fault, body_fault};
+ghost use Rattle.ots_reader.specs.TokenFault.{as_reason};
 ghost use Rattle.ots_reader.specs.TokenRead.{IsTokenAt, IsArgAt, IsAttestationAt, IsBodyAt};
 
 use crate::fault::Reason;
 use ots_attest::{AttestationRef, PayloadError, read_payload};
 use ots_base::{MAX_ARGUMENT, MAX_PAYLOAD};
-use ots_ops::{ArgRef, OpRef};
+use ots_ops::{
+    APPEND_TAG, ArgRef, HEXLIFY_TAG, KECCAK256_TAG, OpRef, PREPEND_TAG, REVERSE_TAG, RIPEMD160_TAG,
+    SHA1_TAG, SHA256_TAG,
+};
 use ots_tree::TokenRef;
 use ots_varint::{VaruintRead, read_varuint};
 
-/// The token at the front of the bytes, where its parts stand, and how many of them spell it; or what
+/// The token at the start of the bytes, where its parts stand, and how many of them spell it; or what
 /// is wrong with the bytes. It takes no memory.
 #[tactic(auto, unfolding(crate::specs::TokenFault::token_fault))]
 #[inline(always)]
@@ -23,7 +27,7 @@ pub fn read_token(bytes: &[u8]) -> Result<(TokenRef<'_>, usize), Reason>
     ensures err { IfErr result (λ reason. token_fault bytes.now ≡ Some reason) }
 {
     match bytes.split_first() {
-        Some((tag, after)) => token_behind(*tag, after),
+        Some((tag, after)) => token_after(*tag, after),
         None => Err(Reason::Truncated),
     }
 }
@@ -31,7 +35,7 @@ pub fn read_token(bytes: &[u8]) -> Result<(TokenRef<'_>, usize), Reason>
 /// The token with this tag.
 #[tactic(auto, unfolding(crate::specs::TokenFault::token_fault))]
 #[inline(always)]
-fn token_behind(tag: u8, after: &[u8]) -> Result<(TokenRef<'_>, usize), Reason>
+fn token_after(tag: u8, after: &[u8]) -> Result<(TokenRef<'_>, usize), Reason>
     ensures ok { IfOk result (λ r. IsTokenAt (tag ∷ after.now) (token_of r.0) r.1) }
     ensures err { IfErr result (λ reason. token_fault (tag ∷ after.now) ≡ Some reason) }
 {
@@ -40,36 +44,36 @@ fn token_behind(tag: u8, after: &[u8]) -> Result<(TokenRef<'_>, usize), Reason>
             let (attestation, used) = read_attestation(after)?;
             Ok((TokenRef::Attestation(attestation), used + 1))
         }
-        0x02 => Ok((TokenRef::Op(OpRef::Sha1), 1)),
-        0x03 => Ok((TokenRef::Op(OpRef::Ripemd160), 1)),
-        0x08 => Ok((TokenRef::Op(OpRef::Sha256), 1)),
-        0x67 => Err(Reason::Keccak),
-        0xf0 => {
+        SHA1_TAG => Ok((TokenRef::Op(OpRef::Sha1), 1)),
+        RIPEMD160_TAG => Ok((TokenRef::Op(OpRef::Ripemd160), 1)),
+        SHA256_TAG => Ok((TokenRef::Op(OpRef::Sha256), 1)),
+        KECCAK256_TAG => Err(Reason::Keccak),
+        APPEND_TAG => {
             let (argument, used) = read_argument(after)?;
             Ok((TokenRef::Op(OpRef::Append(argument)), used + 1))
         }
-        0xf1 => {
+        PREPEND_TAG => {
             let (argument, used) = read_argument(after)?;
             Ok((TokenRef::Op(OpRef::Prepend(argument)), used + 1))
         }
-        0xf2 => Ok((TokenRef::Op(OpRef::Reverse), 1)),
-        0xf3 => Ok((TokenRef::Op(OpRef::Hexlify), 1)),
+        REVERSE_TAG => Ok((TokenRef::Op(OpRef::Reverse), 1)),
+        HEXLIFY_TAG => Ok((TokenRef::Op(OpRef::Hexlify), 1)),
         0xff => Ok((TokenRef::Fork, 1)),
         _ => Err(Reason::UnknownOp),
     }
 }
 
-/// The argument at the front of the bytes, behind its length, and how many bytes both take.
+/// The argument at the start of the bytes, after its length, and how many bytes both take.
 #[inline(always)]
 fn read_argument(bytes: &[u8]) -> Result<(ArgRef<'_>, usize), Reason>
     ensures ok { IfOk result (λ r. IsArgAt bytes.now r.0.bytes.now r.1) }
     ensures err { IfErr result (λ reason. argument_fault (reading bytes.now) bytes.now ≡ Some reason) }
 {
     let (length, used) = read_length(bytes)?;
-    argument_behind(bytes, length, used)
+    argument_after(bytes, length, used)
 }
 
-/// The length at the front of the bytes, and how many of them spell it.
+/// The length at the start of the bytes, and how many of them spell it.
 #[inline(always)]
 fn read_length(bytes: &[u8]) -> Result<(u64, usize), Reason>
     ensures value { IfOk result (λ r. reading bytes.now ≡ Value r.0 r.1) }
@@ -84,9 +88,9 @@ fn read_length(bytes: &[u8]) -> Result<(u64, usize), Reason>
     }
 }
 
-/// The argument of this length, behind the `used` bytes that spell the length.
+/// The argument of this length, after the `used` bytes that spell the length.
 #[inline(always)]
-fn argument_behind(bytes: &[u8], length: u64, used: usize) -> Result<(ArgRef<'_>, usize), Reason>
+fn argument_after(bytes: &[u8], length: u64, used: usize) -> Result<(ArgRef<'_>, usize), Reason>
     requires { IsSpelledAt bytes.now length used }
     ensures ok { IfOk result (λ r. IsArgAt bytes.now r.0.bytes.now r.1) }
     ensures err { IfErr result (λ reason. argument_fault (Value length used) bytes.now ≡ Some reason) }
@@ -107,7 +111,7 @@ fn argument_behind(bytes: &[u8], length: u64, used: usize) -> Result<(ArgRef<'_>
     }
 }
 
-/// The attestation at the front of the bytes, behind its tag, and how many bytes it takes.
+/// The attestation at the start of the bytes, after its tag, and how many bytes it takes.
 #[inline(always)]
 fn read_attestation(bytes: &[u8]) -> Result<(AttestationRef<'_>, usize), Reason>
     ensures ok { IfOk result (λ r. IsAttestationAt bytes.now (attestation_of r.0) r.1) }
@@ -120,7 +124,7 @@ fn read_attestation(bytes: &[u8]) -> Result<(AttestationRef<'_>, usize), Reason>
     Ok((attestation, used + 8))
 }
 
-/// The attestation of this kind whose payload stands at the front of the bytes, behind its length,
+/// The attestation of this kind whose payload stands at the start of the bytes, after its length,
 /// and how many bytes both take.
 #[inline(always)]
 fn read_body(kind: [u8; 8], bytes: &[u8]) -> Result<(AttestationRef<'_>, usize), Reason>
@@ -128,12 +132,12 @@ fn read_body(kind: [u8; 8], bytes: &[u8]) -> Result<(AttestationRef<'_>, usize),
     ensures err { IfErr result (λ reason. body_fault kind (reading bytes.now) bytes.now ≡ Some reason) }
 {
     let (length, used) = read_length(bytes)?;
-    body_behind(kind, bytes, length, used)
+    body_after(kind, bytes, length, used)
 }
 
-/// The attestation whose payload has this length, behind the `used` bytes that spell the length.
+/// The attestation whose payload has this length, after the `used` bytes that spell the length.
 #[inline(always)]
-fn body_behind(
+fn body_after(
     kind: [u8; 8],
     bytes: &[u8],
     length: u64,

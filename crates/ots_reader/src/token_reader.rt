@@ -21,7 +21,7 @@ pub const TOKEN_READER_BYTES: usize = MAX_KEPT + 8 * MAX_OTHERS;
 
 /// The tokens of a tree that comes in pieces, one by one.
 ///
-/// All its memory is taken when it is begun: for the bytes of one token, at most 8203, with 64 behind
+/// All its memory is taken when it is begun: for the bytes of one token, at most 8203, with 64 after
 /// them, and for the 256 nodes that may be open besides the last one. However the bytes are cut, the
 /// time is that of reading each of them a few times.
 ///
@@ -73,11 +73,11 @@ impl TokenReader {
     }
 
     /// The next token, where it ends within the piece, and whether it is the last one. The next piece
-    /// begins behind the bytes that belong to it. Where the token goes on behind the piece there is none,
+    /// begins after the bytes that belong to it. Where the token goes on after the piece there is none,
     /// and all of the piece has been taken. Otherwise the token is none or can't stand where it is, for
     /// another reason than that the bytes end. It takes no memory.
     ///
-    /// Nothing is read behind the tree's last token or behind a fault, and fewer than 2^64 bytes in all.
+    /// Nothing is read after the tree's last token or after a fault, and fewer than 2^64 bytes in all.
     #[inline(always)]
     pub fn next<'a>(&'a mut self, piece: &'a [u8]) -> Result<Option<Next<'a>>, Fault>
         requires reading { IsReading self.old }

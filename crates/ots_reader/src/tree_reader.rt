@@ -79,12 +79,12 @@ impl TreeReader {
         })
     }
 
-    /// Takes the next piece. `More` where the tree goes on behind it, and `Done` in the piece with the
+    /// Takes the next piece. `More` where the tree goes on after it, and `Done` in the piece with the
     /// tree's last byte, with how many bytes of the piece belong to the tree. A fault comes in the first
     /// piece after which the bytes so far have another one than that they end. After a fault, and after
     /// `OutOfMemory`, every later call answers the same.
     ///
-    /// Nothing is fed behind a whole tree, and fewer than 2^64 bytes in all.
+    /// Nothing is fed after a whole tree, and fewer than 2^64 bytes in all.
     pub fn feed(&mut self, piece: &[u8]) -> Result<Fed, ReadError>
         requires { MayBeFed self.old.progress (length piece.now) }
         ensures shape { self.new.shape ≡ self.old.shape }
@@ -124,7 +124,7 @@ impl TreeReader {
     }
 }
 
-/// Reads the tokens that end within the piece, up to the tree's last one, and puts them behind these.
+/// Reads the tokens that end within the piece, up to the tree's last one, and puts them after these.
 #[inline(always)]
 fn read_piece(
     reader: &mut TokenReader,
@@ -162,7 +162,7 @@ fn make_room(tokens: &mut TreeBuilder, piece: &[u8])
     }
 }
 
-/// What has become of the bytes behind this answer.
+/// What has become of the bytes after this answer.
 fn state_after(answer: Result<Fed, ReadError>) -> State
     ensures { result ≡ state_after answer }
 {

@@ -5,11 +5,11 @@ ghost use Rattle.ots_tree.specs.TokenRef.{token_of};
 ghost use Rattle.ots_reader.specs.Turn.{LeadsTo, Moves};
 
 use crate::fault::Reason;
-use ots_base::{MAX_MESSAGE, MAX_OPERATIONS};
+use ots_base::MAX_MESSAGE;
 use ots_ops::OpRef;
 use ots_tree::{Shape, TokenRef, Walk};
 
-/// Whether a node is open behind one more token. Where the token can't stand there, the walk stays as
+/// Whether a node is open after one more token. Where the token can't stand there, the walk stays as
 /// it is. It takes no memory.
 #[inline(always)]
 pub(crate) fn take_turn(walk: &mut Walk<Shape>, token: TokenRef<'_>) -> Result<bool, Reason>
@@ -22,7 +22,7 @@ pub(crate) fn take_turn(walk: &mut Walk<Shape>, token: TokenRef<'_>) -> Result<b
     match token {
         TokenRef::Attestation(_) => Ok(walk.close()),
         TokenRef::Op(op) => {
-            let to = node_behind(walk.last(), op)?;
+            let to = node_after(walk.last(), op)?;
             walk.lead(to);
             Ok(true)
         }
@@ -38,19 +38,16 @@ pub(crate) fn take_turn(walk: &mut Walk<Shape>, token: TokenRef<'_>) -> Result<b
 
 /// The node of the operation's result.
 #[inline(always)]
-fn node_behind(at: Shape, op: OpRef<'_>) -> Result<Shape, Reason>
+fn node_after(at: Shape, op: OpRef<'_>) -> Result<Shape, Reason>
     requires least { 1 ≤ at.length }
     requires greatest { at.length ≤ MAX_MESSAGE }
     ensures { LeadsTo at (op_of op.entry) result }
 {
-    if at.depth >= MAX_OPERATIONS {
+    if !at.has_room() {
         return Err(Reason::TooDeep);
     }
-    match op.result_length(at.length as usize) {
-        Ok(length) => Ok(Shape {
-            length: length as u32,
-            depth: at.depth + 1,
-        }),
-        Err(_) => Err(Reason::ResultTooLong),
+    match at.after(op) {
+        Some(to) => Ok(to),
+        None => Err(Reason::ResultTooLong),
     }
 }

@@ -9,7 +9,12 @@ use Rattle.ots_real.specs.declared.dir_shelf.DirShelf.{DirShelf}
 
 -- A shelf of files tells what its slots are in use for, and nothing of names.
 abbrev pub files_told : {R File Dir : Type 0} → DirShelf R File Dir → ShelfTold
-files_told shelf = record { names = None; opened = None; slots = slot_at closed use_of_file shelf.files.items; short = shelf.short }
+files_told shelf = record {
+  names = None;
+  opened = None;
+  slots = slot_at closed use_of_file shelf.files.items;
+  short = shelf.short;
+}
 
 -- How often its calls have failed.
 abbrev pub file_faults : {R File Dir : Type 0} → DirShelf R File Dir → ShelfFaults

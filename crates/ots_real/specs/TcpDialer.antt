@@ -19,7 +19,12 @@ of_stream view (Some link) = view (link_stream link)
 
 -- A dialer of sockets tells which slots are connected, and nothing else.
 abbrev pub dialer_told : {R S L : Type 0} → TcpDialer R S L → DialerTold
-dialer_told dialer = record { replies = None; sent = None; slots = slot_at unconnected connection_of dialer.links.items }
+dialer_told dialer = record {
+  replies = None;
+  sent = None;
+  slots = slot_at unconnected connection_of
+      dialer.links.items;
+}
 
 -- How often its calls have failed.
 abbrev pub dial_faults : {R S L : Type 0} → TcpDialer R S L → ℕ

@@ -13,14 +13,15 @@ pub const CONVERSATION_SECONDS: u64 = 60;
 /// project's.
 pub const CONNECT_SECONDS: u64 = 10;
 
-// The least that a call waits, in milliseconds. A time limit of 0 would mean none to the system.
+/// The least that a call waits, in milliseconds. A time limit of 0 would mean none to the system.
 const LEAST_WAIT: u64 = 1;
 
 /// What is left of a limit of which so much has passed, at least a millisecond: `None` exactly
 /// where it has passed whole.
 pub fn time_left(limit: Duration, passed: Duration) -> Option<Duration>
     ensures { MatchOption result (as_nanos limit ≤ as_nanos passed)
-        (λ left. (as_nanos passed < as_nanos limit) × (as_nanos left ≡ max (as_nanos limit - as_nanos passed) 1_000_000)) }
+        (λ left. (as_nanos passed < as_nanos limit) × (as_nanos left
+        ≡ max (as_nanos limit - as_nanos passed) 1_000_000)) }
 {
     let left = limit.saturating_sub(passed);
     if left.is_zero() {

@@ -2,7 +2,8 @@ ghost use Rattle.std.specs.Prelude.{◌≡◌, ◌≢◌, ◌<◌, ℕ, length, 
 ghost use Rattle.std.specs.Io.{ReadsAtMost, WritesAtMost};
 ghost use Rattle.std.specs.Io.KnownBytes.{ReadConsumes, WriteAppends};
 ghost use Rattle.ots_base.specs.Cause.{CountsWhere, HasCause, HasCauseWhere};
-ghost use Rattle.ots_outside.specs.Shelf.{closed, OnlyOpening, OnlyReading, OnlyWriting, is_reading, is_writing, left_of, Creates, Opens, SameButNames, SameButSlot, Stays};
+ghost use Rattle.ots_outside.specs.Shelf.{closed, OnlyOpening, OnlyReading, OnlyWriting, is_reading, is_writing};
+ghost use Rattle.ots_outside.specs.Shelf.{left_of, Creates, Opens, SameButNames, SameButSlot, Stays};
 ghost use Rattle.ots_outside.specs.Streams.{Reads};
 ghost use Rattle.ots_real.specs.Counting.{count_after, count_after_create, count_after_open};
 ghost use Rattle.ots_real.specs.DirShelf.{files_told, file_faults, file_at};
@@ -61,10 +62,12 @@ impl<R: Files> Shelf for DirShelf<R> {
     fn open(&mut self, name: &str) -> Result<Slot, OpenError>
         ensures ok { IfOk result (λ slot. Opens name.now slot.0 (files_told self.old) (files_told self.new)) }
         ensures err { OnErr result (Stays (files_told self.old) (files_told self.new)) }
-        ensures cause { HasCauseWhere (IsErrOf result OpenError.Failed) (file_faults self.old).opening (file_faults self.new).opening }
+        ensures cause { HasCauseWhere (IsErrOf result OpenError.Failed) (file_faults self.old).opening
+            (file_faults self.new).opening }
         ensures counted { (file_faults self.new).opening ≡ count_after_open (file_faults self.old).opening result }
         ensures counts { OnlyOpening (file_faults self.old) (file_faults self.new) }
-        ensures short { CountsWhere (IsErrOf result OpenError.OutOfMemory) (files_told self.old).short (files_told self.new).short }
+        ensures short { CountsWhere (IsErrOf result OpenError.OutOfMemory) (files_told self.old).short
+            (files_told self.new).short }
     {
         let Ok(slot) = u32::try_from(self.files.len()) else {
             self.open_faults.rise();
@@ -90,8 +93,10 @@ impl<R: Files> Shelf for DirShelf<R> {
     fn read(&mut self, slot: Slot, buf: &mut [u8]) -> Result<usize, Failed>
         requires { IsTrue (is_reading ((files_told self.old).slots slot.0)) }
         ensures bound { ReadsAtMost result buf.new }
-        ensures file { ReadConsumes (left_in R.File.remaining (file_at self.old slot.0)) (left_in R.File.remaining (file_at self.new slot.0)) result buf.new }
-        ensures bytes { Reads (left_of ((files_told self.old).slots slot.0)) (left_of ((files_told self.new).slots slot.0)) result buf.new }
+        ensures file { ReadConsumes (left_in R.File.remaining (file_at self.old slot.0))
+            (left_in R.File.remaining (file_at self.new slot.0)) result buf.new }
+        ensures bytes { Reads (left_of ((files_told self.old).slots slot.0))
+            (left_of ((files_told self.new).slots slot.0)) result buf.new }
         ensures cause { HasCause (file_faults self.old).reading (file_faults self.new).reading result }
         ensures counted { (file_faults self.new).reading ≡ count_after (file_faults self.old).reading result }
         ensures counts { OnlyReading (file_faults self.old) (file_faults self.new) }
@@ -111,16 +116,18 @@ impl<R: Files> Shelf for DirShelf<R> {
     fn create(&mut self, name: &str) -> Result<Slot, CreateError>
         ensures ok { IfOk result (λ slot. Creates name.now slot.0 (files_told self.old) (files_told self.new)) }
         ensures err { OnErr result (Stays (files_told self.old) (files_told self.new)) }
-        ensures cause { HasCauseWhere (IsErrOf result CreateError.Failed) (file_faults self.old).writing (file_faults self.new).writing }
+        ensures cause { HasCauseWhere (IsErrOf result CreateError.Failed) (file_faults self.old).writing
+            (file_faults self.new).writing }
         ensures counted { (file_faults self.new).writing ≡ count_after_create (file_faults self.old).writing result }
         ensures counts { OnlyWriting (file_faults self.old) (file_faults self.new) }
-        ensures short { CountsWhere (IsErrOf result CreateError.OutOfMemory) (files_told self.old).short (files_told self.new).short }
+        ensures short { CountsWhere (IsErrOf result CreateError.OutOfMemory) (files_told self.old).short
+            (files_told self.new).short }
     {
         let Ok(slot) = u32::try_from(self.files.len()) else {
             self.write_faults.rise();
             return Err(CreateError::Failed);
         };
-        // The room comes first, so that want of memory leaves no file behind.
+        // The room comes first, so that want of memory leaves no file after.
         if self.files.reserve(1).is_err() {
             self.short.rise();
             return Err(CreateError::OutOfMemory);
@@ -143,7 +150,8 @@ impl<R: Files> Shelf for DirShelf<R> {
         requires { IsTrue (is_writing ((files_told self.old).slots slot.0)) }
         ensures bound { WritesAtMost result piece.now }
         ensures some { 0 < length piece.now → IfOk result (λ count. 0 < count) }
-        ensures file { WriteAppends (taken_in R.File.contents (file_at self.old slot.0)) (taken_in R.File.contents (file_at self.new slot.0)) result piece.now }
+        ensures file { WriteAppends (taken_in R.File.contents (file_at self.old slot.0))
+            (taken_in R.File.contents (file_at self.new slot.0)) result piece.now }
         ensures cause { HasCause (file_faults self.old).writing (file_faults self.new).writing result }
         ensures counted { (file_faults self.new).writing ≡ count_after (file_faults self.old).writing result }
         ensures counts { OnlyWriting (file_faults self.old) (file_faults self.new) }

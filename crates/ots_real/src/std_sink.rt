@@ -51,7 +51,8 @@ impl<W: Write> Sink for StdSink<W> {
     fn write(&mut self, piece: &[u8]) -> Result<usize, Failed>
         ensures bound { WritesAtMost result piece.now }
         ensures some { 0 < length piece.now → IfOk result (λ count. 0 < count) }
-        ensures writer { WriteAppends (W.contents (writer_of self.old)) (W.contents (writer_of self.new)) result piece.now }
+        ensures writer { WriteAppends (W.contents (writer_of self.old)) (W.contents (writer_of self.new)) result
+            piece.now }
         ensures cause { HasCause (write_faults self.old) (write_faults self.new) result }
         ensures counted { write_faults self.new ≡ count_after (write_faults self.old) result }
     {

@@ -49,7 +49,8 @@ impl<R: Read> Source for StdSource<R> {
 
     fn read(&mut self, buf: &mut [u8]) -> Result<usize, Failed>
         ensures bound { ReadsAtMost result buf.new }
-        ensures reader { ReadConsumes (R.remaining (reader_of self.old)) (R.remaining (reader_of self.new)) result buf.new }
+        ensures reader { ReadConsumes (R.remaining (reader_of self.old)) (R.remaining (reader_of self.new)) result
+            buf.new }
         ensures cause { HasCause (read_faults self.old) (read_faults self.new) result }
         ensures counted { read_faults self.new ≡ count_after (read_faults self.old) result }
     {

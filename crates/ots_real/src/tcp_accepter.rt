@@ -3,7 +3,8 @@ ghost use Rattle.std.specs.Duration.{as_nanos};
 ghost use Rattle.ots_base.specs.Cause.{HasCause};
 ghost use Rattle.ots_outside.specs.Accepter.{IfAccepted, accepted_after};
 ghost use Rattle.ots_real.specs.Counting.{count_after};
-ghost use Rattle.ots_real.specs.Sockets.{accept_count, accept_faults, accept_limit, is_listening, link_faults, link_limit};
+ghost use Rattle.ots_real.specs.Sockets.{accept_count, accept_faults, accept_limit, is_listening, link_faults};
+ghost use Rattle.ots_real.specs.Sockets.{link_limit};
 
 use crate::TcpLink;
 use crate::conversation::CONVERSATION_SECONDS;
@@ -13,7 +14,7 @@ use std::io::ErrorKind;
 use std::net::{Ipv4Addr, Net, OpenListener, TcpListener};
 use std::time::{Clock, Duration, Instant};
 
-// How many connections in a row may be lost while they are taken, before that is a fault.
+/// How many connections in a row may be lost while they are taken, before that is a fault.
 const MAX_LOST: u32 = 65_536;
 
 /// Connections to any of this machine's IPv4 addresses: what is served here is meant for everyone.
@@ -59,7 +60,7 @@ impl<R: Net + Clock + Copy> TcpAccepter<R> {
         }
     }
 
-    // The next connection, whose conversation begins now.
+    /// The next connection, whose conversation begins now.
     fn next(&self) -> io::Result<TcpLink<R, R::Stream>>
         ensures fresh { IfOk result (λ link. link_faults link ≡ 0) }
         ensures limit { IfOk result (λ link. link_limit link ≡ accept_limit self.now) }
@@ -73,7 +74,7 @@ impl<R: Net + Clock + Copy> TcpAccepter<R> {
     }
 }
 
-// The next connection that isn't lost while it is taken.
+/// The next connection that isn't lost while it is taken.
 fn next_stream<L: OpenListener>(listener: &L) -> io::Result<L::Stream> {
     for _ in 0..MAX_LOST {
         match listener.accept() {
@@ -85,9 +86,9 @@ fn next_stream<L: OpenListener>(listener: &L) -> io::Result<L::Stream> {
     Err(io::Error::from(ErrorKind::ConnectionAborted))
 }
 
-// Whether an error of an accept is one of the connection that was to be taken, and not of the
-// listener. Linux passes on the errors that already wait on the new connection, which its page
-// accept(2) advises to take as no reason to stop, and the firewall's refusal.
+/// Whether an error of an accept is one of the connection that was to be taken, and not of the
+/// listener. Linux passes on the errors that already wait on the new connection, which its page
+/// accept(2) advises to take as no reason to stop, and the firewall's refusal.
 fn is_of_one_connection(kind: ErrorKind) -> bool {
     matches!(
         kind,

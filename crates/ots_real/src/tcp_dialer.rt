@@ -3,7 +3,8 @@ ghost use Rattle.std.specs.Duration.{as_nanos};
 ghost use Rattle.std.specs.Io.{ReadsAtMost, WritesAtMost};
 ghost use Rattle.std.specs.Io.KnownBytes.{ReadConsumes, WriteAppends};
 ghost use Rattle.ots_base.specs.Cause.{HasCause, HasCauseWhere};
-ghost use Rattle.ots_outside.specs.Dialer.{unconnected, is_connected, place_sent, reply_of, Connects, KeepsConversations, ReplyReads, SameButConnection, SameButSent};
+ghost use Rattle.ots_outside.specs.Dialer.{unconnected, is_connected, place_sent, reply_of, Connects};
+ghost use Rattle.ots_outside.specs.Dialer.{KeepsConversations, ReplyReads, SameButConnection, SameButSent};
 ghost use Rattle.ots_real.specs.Counting.{count_after, count_after_connect};
 ghost use Rattle.ots_real.specs.Sockets.{link_limit};
 ghost use Rattle.ots_real.specs.TcpDialer.{dialer_told, dial_faults, dial_limit, link_at, of_stream};
@@ -55,7 +56,7 @@ impl<R: Net + Clock + Copy> TcpDialer<R> {
         }
     }
 
-    // A connection to the first address of the host that answers in time.
+    /// A connection to the first address of the host that answers in time.
     fn dial(&self, host: &str, port: u16) -> io::Result<TcpLink<R, R::Stream>>
         ensures { IfOk result (λ link. link_limit link ≡ dial_limit self.now) }
     {
@@ -113,12 +114,15 @@ impl<R: Net + Clock + Copy> Dialer for TcpDialer<R> {
     fn read(&mut self, slot: Slot, buf: &mut [u8]) -> Result<usize, Failed>
         requires { IsTrue (is_connected ((dialer_told self.old).slots slot.0)) }
         ensures bound { ReadsAtMost result buf.new }
-        ensures bytes { ReplyReads (reply_of ((dialer_told self.old).slots slot.0)) (reply_of ((dialer_told self.new).slots slot.0)) result buf.new }
-        ensures stream { ReadConsumes (of_stream R.Stream.remaining (link_at self.old slot.0)) (of_stream R.Stream.remaining (link_at self.new slot.0)) result buf.new }
+        ensures bytes { ReplyReads (reply_of ((dialer_told self.old).slots slot.0))
+            (reply_of ((dialer_told self.new).slots slot.0)) result buf.new }
+        ensures stream { ReadConsumes (of_stream R.Stream.remaining (link_at self.old slot.0))
+            (of_stream R.Stream.remaining (link_at self.new slot.0)) result buf.new }
         ensures cause { HasCause (dial_faults self.old) (dial_faults self.new) result }
         ensures counted { dial_faults self.new ≡ count_after (dial_faults self.old) result }
         ensures open { IsTrue (is_connected ((dialer_told self.new).slots slot.0)) }
-        ensures entry { place_sent ((dialer_told self.new).slots slot.0) ≡ place_sent ((dialer_told self.old).slots slot.0) }
+        ensures entry { place_sent ((dialer_told self.new).slots slot.0)
+            ≡ place_sent ((dialer_told self.old).slots slot.0) }
         ensures others { SameButConnection slot.0 (dialer_told self.old) (dialer_told self.new) }
         ensures other_links { (k : ℕ) → k ≢ slot.0 → link_at self.new k ≡ link_at self.old k }
     {
@@ -138,7 +142,8 @@ impl<R: Net + Clock + Copy> Dialer for TcpDialer<R> {
         requires { IsTrue (is_connected ((dialer_told self.old).slots slot.0)) }
         ensures bound { WritesAtMost result piece.now }
         ensures some { 0 < length piece.now → IfOk result (λ count. 0 < count) }
-        ensures stream { WriteAppends (of_stream R.Stream.contents (link_at self.old slot.0)) (of_stream R.Stream.contents (link_at self.new slot.0)) result piece.now }
+        ensures stream { WriteAppends (of_stream R.Stream.contents (link_at self.old slot.0))
+            (of_stream R.Stream.contents (link_at self.new slot.0)) result piece.now }
         ensures cause { HasCause (dial_faults self.old) (dial_faults self.new) result }
         ensures counted { dial_faults self.new ≡ count_after (dial_faults self.old) result }
         ensures others { SameButSent (dialer_told self.old) (dialer_told self.new) }

@@ -56,7 +56,8 @@ impl<C: Clock, S: Read + Write + OpenStream> Link for TcpLink<C, S> {
 
     fn read(&mut self, buf: &mut [u8]) -> Result<usize, Failed>
         ensures bound { ReadsAtMost result buf.new }
-        ensures stream { ReadConsumes (S.remaining (link_stream self.old)) (S.remaining (link_stream self.new)) result buf.new }
+        ensures stream { ReadConsumes (S.remaining (link_stream self.old)) (S.remaining (link_stream self.new)) result
+            buf.new }
         ensures cause { HasCause (link_faults self.old) (link_faults self.new) result }
         ensures counted { link_faults self.new ≡ count_after (link_faults self.old) result }
     {
@@ -66,7 +67,8 @@ impl<C: Clock, S: Read + Write + OpenStream> Link for TcpLink<C, S> {
     fn write(&mut self, piece: &[u8]) -> Result<usize, Failed>
         ensures bound { WritesAtMost result piece.now }
         ensures some { 0 < length piece.now → IfOk result (λ count. 0 < count) }
-        ensures stream { WriteAppends (S.contents (link_stream self.old)) (S.contents (link_stream self.new)) result piece.now }
+        ensures stream { WriteAppends (S.contents (link_stream self.old)) (S.contents (link_stream self.new)) result
+            piece.now }
         ensures cause { HasCause (link_faults self.old) (link_faults self.new) result }
         ensures counted { link_faults self.new ≡ count_after (link_faults self.old) result }
     {

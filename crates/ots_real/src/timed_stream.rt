@@ -32,7 +32,7 @@ impl<C: Clock, S: Read + Write + OpenStream> TimedStream<C, S> {
         }
     }
 
-    // What is left of the conversation.
+    /// What is left of the conversation.
     fn left(&self) -> io::Result<Duration> {
         let passed = self.began.elapsed(&self.clock)?;
         match time_left(self.limit, passed) {

@@ -6,8 +6,8 @@ use std::io;
 use std::io::{ErrorKind, Read, Write};
 use std::test::Fail;
 
-// A stream whose calls have these answers in turn: `None` is a call that was cut short, and past
-// the last one each call fails.
+/// A stream whose calls have these answers in turn: `None` is a call that was cut short, and past
+/// the last one each call fails.
 #[derive(Drop)]
 struct Answers {
     answers: [Option<usize>; 5],
@@ -49,7 +49,7 @@ const ANSWERS: Answers = Answers {
     made: 0,
 };
 
-// What three reads answer.
+/// What three reads answer.
 fn read_three<S: Source>(source: &mut S) -> [Result<usize, Failed>; 3] {
     let mut buf = [0; 4];
     [
@@ -59,7 +59,7 @@ fn read_three<S: Source>(source: &mut S) -> [Result<usize, Failed>; 3] {
     ]
 }
 
-// What three writes answer.
+/// What three writes answer.
 fn write_three<S: Sink>(sink: &mut S) -> [Result<usize, Failed>; 3] {
     [
         sink.write(b"abcd"),

@@ -11,7 +11,7 @@ use std::fs::{File, OpenOptions, Permissions};
 use std::os::unix::fs::PermissionsExt;
 use std::test::Fail;
 
-// Whether a name is opened and can't be read. That is a counted fault of reading, and none of writing.
+/// Whether a name is opened and can't be read. That is a counted fault of reading, and none of writing.
 fn opens_unreadable<S: Shelf>(shelf: &mut S, name: &str) -> bool
     ensures counted { IsTrue result → Rose (S.faults shelf.old).reading (S.faults shelf.new).reading }
     ensures writing { (S.faults shelf.new).writing ≡ (S.faults shelf.old).writing }
@@ -24,7 +24,7 @@ fn opens_unreadable<S: Shelf>(shelf: &mut S, name: &str) -> bool
     failed
 }
 
-// Whether a name can't be created. That is a counted fault of writing alone.
+/// Whether a name can't be created. That is a counted fault of writing alone.
 fn fails_to_create<S: Shelf>(shelf: &mut S, name: &str) -> bool
     ensures counted { IsTrue result → Rose (S.faults shelf.old).writing (S.faults shelf.new).writing }
     ensures counts { OnlyWriting (S.faults shelf.old) (S.faults shelf.new) }
@@ -35,7 +35,7 @@ fn fails_to_create<S: Shelf>(shelf: &mut S, name: &str) -> bool
     }
 }
 
-// Whether no conversation begins. That is a counted fault.
+/// Whether no conversation begins. That is a counted fault.
 fn fails_to_connect<D: Dialer>(dialer: &mut D, host: &str, port: u16) -> bool
     ensures { IsTrue result → Rose (D.faults dialer.old) (D.faults dialer.new) }
 {

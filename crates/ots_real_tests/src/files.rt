@@ -7,7 +7,7 @@ use std::fs;
 use std::fs::File;
 use std::test::Fail;
 
-// Opens a name, and reads it by two calls.
+/// Opens a name, and reads it by two calls.
 fn read_twice<S: Shelf>(
     shelf: &mut S,
     name: &str,
@@ -20,7 +20,7 @@ fn read_twice<S: Shelf>(
     Ok([first, second])
 }
 
-// Creates a name with this text.
+/// Creates a name with this text.
 fn write_named<S: Shelf>(shelf: &mut S, name: &str, text: &[u8]) -> Result<(), CreateError> {
     let slot = shelf.create(name)?;
     let written = write_all(&mut SlotSink::new(shelf, slot), text);
@@ -31,20 +31,20 @@ fn write_named<S: Shelf>(shelf: &mut S, name: &str, text: &[u8]) -> Result<(), C
     }
 }
 
-// Whether a name is read as `abcdef` by two calls, each of at most four bytes.
+/// Whether a name is read as `abcdef` by two calls, each of at most four bytes.
 fn gives_abcdef<S: Shelf>(shelf: &mut S, name: &str) -> bool {
     let mut buf = [0; 4];
     read_twice(shelf, name, &mut buf) == Ok([Ok(4), Ok(2)]) && buf == *b"efcd"
 }
 
-// Writes a file anew.
+/// Writes a file anew.
 fn write_file(rt: &HostRuntime, name: &str, text: &[u8]) -> Result<(), Fail> {
     let mut sink = StdSink::new(File::create(rt, name)?);
     write_all(&mut sink, text)?;
     Ok(())
 }
 
-// Whether a file holds exactly these bytes, of which there are at most six.
+/// Whether a file holds exactly these bytes, of which there are at most six.
 fn holds(rt: &HostRuntime, name: &str, bytes: &[u8]) -> Result<bool, Fail> {
     let mut source = StdSource::new(File::open(rt, name)?);
     let read = read_all(rt.alloc(), &mut source, 6)?;
@@ -78,7 +78,7 @@ fn a_file_is_created_and_never_overwritten(rt: HostRuntime) -> Result<(), Fail> 
     Ok(())
 }
 
-// Creates two names, and writes to the one and the other in turn.
+/// Creates two names, and writes to the one and the other in turn.
 fn write_in_turn<S: Shelf>(
     shelf: &mut S,
     first: &str,

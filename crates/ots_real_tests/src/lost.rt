@@ -9,8 +9,8 @@ use std::os::fd::{AsRawFd, RawFd};
 use std::test::Fail;
 use std::time::{Clock, Duration};
 
-// What the accepts answer in turn: `None` is a connection. Past the last one each fails as one
-// does for which the process has no file handle left.
+/// What the accepts answer in turn: `None` is a connection. Past the last one each fails as one
+/// does for which the process has no file handle left.
 const ANSWERS: [Option<ErrorKind>; 4] = [
     Some(ErrorKind::ConnectionAborted),
     Some(ErrorKind::PermissionDenied),
@@ -26,7 +26,7 @@ struct ListedListener {
     made: Cell<usize>,
 }
 
-// A stream that takes no time limit.
+/// A stream that takes no time limit.
 #[derive(Drop)]
 struct EmptyStream;
 

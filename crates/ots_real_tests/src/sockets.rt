@@ -6,10 +6,10 @@ use std::test::Fail;
 use std::thread;
 use std::time::{Duration, Instant};
 
-// Workers share an accepter, and take its links to other threads.
+/// Workers share an accepter, and take its links to other threads.
 fn is_sent<T: Send>(_value: &T) {}
 
-// Listens on the first free port of a range.
+/// Listens on the first free port of a range.
 fn listen_from<A: Accepter>(accepter: &mut A, base: u16) -> Result<u16, Fail> {
     for more in 0..200 {
         let port = base.saturating_add(more);
@@ -20,7 +20,7 @@ fn listen_from<A: Accepter>(accepter: &mut A, base: u16) -> Result<u16, Fail> {
     Err(Fail::new("no port is free"))
 }
 
-// The next connection.
+/// The next connection.
 pub fn next_link<A: Accepter>(accepter: &mut A) -> Result<A::Link, Fail> {
     match accepter.accept() {
         Ok(Some(link)) => Ok(link),
@@ -28,7 +28,7 @@ pub fn next_link<A: Accepter>(accepter: &mut A) -> Result<A::Link, Fail> {
     }
 }
 
-// Whether a link gives these bytes next.
+/// Whether a link gives these bytes next.
 fn gives_next<L: Link>(link: &mut L, bytes: &[u8]) -> bool {
     let mut buf = [0];
     for byte in bytes {
@@ -39,29 +39,29 @@ fn gives_next<L: Link>(link: &mut L, bytes: &[u8]) -> bool {
     true
 }
 
-// Whether a link gives exactly these bytes, and then its end.
+/// Whether a link gives exactly these bytes, and then its end.
 fn gives<L: Link>(link: &mut L, bytes: &[u8]) -> bool {
     gives_next(link, bytes) && link.read(&mut [0]) == Ok(0)
 }
 
-// Whether a link takes all of these bytes.
+/// Whether a link takes all of these bytes.
 fn takes<L: Link>(link: &mut L, bytes: &[u8]) -> bool {
     write_all(&mut LinkSink::new(link), bytes).is_ok()
 }
 
-// Whether a link gives `abc`, and takes `defgh` in reply.
+/// Whether a link gives `abc`, and takes `defgh` in reply.
 fn replies<L: Link>(link: &mut L) -> bool {
     let replied = gives_next(link, b"abc") && takes(link, b"defgh");
     link.finish();
     replied
 }
 
-// Whether a read and a write of a link fail.
+/// Whether a read and a write of a link fail.
 pub fn is_cut_off<L: Link>(link: &mut L) -> bool {
     link.read(&mut [0; 4]) == Err(Failed) && link.write(b"a") == Err(Failed)
 }
 
-// Whether a read of a link fails before some time has passed.
+/// Whether a read of a link fails before some time has passed.
 fn fails_in_time<L: Link>(rt: &HostRuntime, link: &mut L) -> Result<bool, Fail> {
     let began = Instant::now(rt)?;
     let failed = link.read(&mut [0; 4]) == Err(Failed);
@@ -69,7 +69,7 @@ fn fails_in_time<L: Link>(rt: &HostRuntime, link: &mut L) -> Result<bool, Fail> 
     Ok(failed && passed < Duration::from_secs(20))
 }
 
-// How many bytes a link gives before it fails, at most so many.
+/// How many bytes a link gives before it fails, at most so many.
 fn given_before_fault<L: Link>(link: &mut L, most: u64) -> Option<u64> {
     for given in 0..most {
         if link.read(&mut [0]) == Err(Failed) {
@@ -79,12 +79,12 @@ fn given_before_fault<L: Link>(link: &mut L, most: u64) -> Option<u64> {
     None
 }
 
-// A caller's dialer. Its time limit is longer than any test, and ends one that would hang.
+/// A caller's dialer. Its time limit is longer than any test, and ends one that would hang.
 fn make_dialer(rt: &HostRuntime) -> TcpDialer<&HostRuntime> {
     TcpDialer::with_limit(rt, rt.alloc(), Duration::from_secs(10))
 }
 
-// A caller that sends a text, and is to get this reply and then the end.
+/// A caller that sends a text, and is to get this reply and then the end.
 fn asks(rt: &HostRuntime, port: u16, text: &[u8], reply: &[u8]) -> bool {
     let mut dialer = make_dialer(rt);
     let Ok(slot) = dialer.connect("127.0.0.1", port) else {
@@ -96,7 +96,7 @@ fn asks(rt: &HostRuntime, port: u16, text: &[u8], reply: &[u8]) -> bool {
     answered
 }
 
-// Sends a byte now and then, until that fails: whether it did.
+/// Sends a byte now and then, until that fails: whether it did.
 fn drips_along<L: Link>(rt: &HostRuntime, link: &mut L, most: u64) -> bool {
     for _ in 0..most {
         thread::sleep(rt, Duration::from_millis(20));
@@ -107,7 +107,7 @@ fn drips_along<L: Link>(rt: &HostRuntime, link: &mut L, most: u64) -> bool {
     false
 }
 
-// A caller that sends a byte now and then, until it is cut off.
+/// A caller that sends a byte now and then, until it is cut off.
 fn drips(rt: &HostRuntime, port: u16, most: u64) -> bool {
     let mut dialer = make_dialer(rt);
     let Ok(slot) = dialer.connect("127.0.0.1", port) else {

@@ -3,7 +3,7 @@ use ots_io::{Clock, Nonces, RngNonces, SystemClock};
 use rand::rngs::SysRng;
 use std::test::Fail;
 
-// Workers share a clock and nonces.
+/// Workers share a clock and nonces.
 fn is_sent<T: Send>(_value: &T) {}
 
 #[test]

@@ -84,7 +84,7 @@ keeps_long h g j block full filled m d more n k keeps e whole sum few eg ej ef =
       waiting = rw (stands, end) ef;
     }
 
--- the message and its padding: what waits, with the padding behind it, is whole blocks
+-- the message and its padding: what waits, with the padding after it, is whole blocks
 pub keeps_padded : (h : Words) (block end m : List ℕ) (n : ℕ) → Keeps h block n m
     → end ≡ take (n % 64) block ++ 0x80 ∷ replicate ((119 - length (take (n % 64) block)) % 64) 0 ++ to_le_bytes w64 (n * 8)
     → fold compressed h (blocks end) ≡ chained (padded m)

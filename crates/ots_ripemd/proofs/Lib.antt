@@ -1,6 +1,5 @@
 mod Chaining
 pub mod Digests
 mod Lines
-mod NoSize
 mod Pieces
 mod Writing

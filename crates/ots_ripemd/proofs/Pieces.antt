@@ -3,7 +3,7 @@ use Rattle.std.proofs.Common.{◌≡◌, ℕ, zero, suc, ◌+◌, ◌*◌, ◌<�
 use Rattle.std.proofs.lemmas.List.{drop-drop, map-append, take-append-le, drop-append-le}
 use Rattle.ots_ripemd.specs.Ripemd160.{pieces}
 
--- some pieces, and more behind them
+-- some pieces, and more after them
 pub pieces-add : (size m n : ℕ) (xs : List ℕ) → pieces size (m + n) xs ≡ pieces size m xs ++ pieces size n (drop (size * m) xs)
 unfolding pieces
 pieces-add size zero n xs = rw (zero-add, mul-zero) refl

@@ -1,6 +1,7 @@
 -- RIPEMD-160, as "RIPEMD-160: A Strengthened Version of RIPEMD" defines it (H. Dobbertin,
 -- A. Bosselaers, B. Preneel, 1996). A message is a list of bytes, a word a number below 2 ^ 32.
-use Rattle.std.specs.Prelude.{ℕ, zero, suc, ◌+◌, ◌-◌, ◌*◌, ◌/◌, ◌%◌, ◌^◌, List, [], ◌∷◌, ◌++◌, length, take, drop, replicate, map, fold, flat_map, bit_and, bit_or, bit_xor, slice_index}
+use Rattle.std.specs.Prelude.{ℕ, zero, suc, ◌+◌, ◌-◌, ◌*◌, ◌/◌, ◌%◌, ◌^◌, List, [], ◌∷◌, ◌++◌, length, take, drop}
+use Rattle.std.specs.Prelude.{replicate, map, fold, flat_map, bit_and, bit_or, bit_xor, slice_index}
 use Rattle.std.specs.Int.{w32, w64, bit_not, rotate_left, from_le_bytes, to_le_bytes}
 use Rattle.ots_ripemd.specs.declared.block.Words.{Words}
 
@@ -83,7 +84,8 @@ right =
 abbrev pub stepped : List ℕ → Words → Step → Words
 stepped x v step = record {
   a = v.e;
-  b = add (rotate_left w32 (add (add (add v.a (step.function v.b v.c v.d)) (slice_index x step.place)) step.constant) step.turn) v.e;
+  b = add (rotate_left w32 (add (add (add v.a (step.function v.b v.c v.d)) (slice_index x step.place)) step.constant)
+      step.turn) v.e;
   c = v.b;
   d = rotate_left w32 v.c 10;
   e = v.d;

@@ -14,7 +14,12 @@ function_of F5 = f5
 
 -- step j of a round
 abbrev pub step_of : Round → ℕ → Step
-step_of r j = record { function = function_of r.function; constant = r.constant; place = slice_index r.places j; turn = slice_index r.turns j }
+step_of r j = record {
+  function = function_of r.function;
+  constant = r.constant;
+  place = slice_index r.places j;
+  turn = slice_index r.turns j;
+}
 
 -- its sixteen steps
 abbrev pub steps_of : Round → List Step

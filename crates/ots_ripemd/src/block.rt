@@ -18,7 +18,7 @@ pub struct Words {
     pub e: u32,
 }
 
-// Step `j` of a round. The function comes last in the sum, since it waits for the step before.
+/// Step `j` of a round. The function comes last in the sum, since it waits for the step before.
 #[inline(always)]
 fn step(round: &Round, j: usize, x: &[u32; 16], v: Words) -> Words
     requires { j < 16 }
@@ -38,7 +38,7 @@ fn step(round: &Round, j: usize, x: &[u32; 16], v: Words) -> Words
     }
 }
 
-// Steps `j` to `j + 3`, after the steps before them from `h` on.
+/// Steps `j` to `j + 3`, after the steps before them from `h` on.
 #[inline(always)]
 fn four_steps(round: &Round, j: usize, x: &[u32; 16], v: Words) -> Words
     requires { j + 4 ≤ 16 }
@@ -61,8 +61,8 @@ fn sixteen_steps(round: &Round, x: &[u32; 16], v: Words) -> Words
     four_steps(round, 12, x, third)
 }
 
-// A line is one function without a loop, so that LLVM sees each place, turn and constant of its
-// tables. One for both lines would be too large for its calls to be inlined.
+/// A line is one function without a loop, so that LLVM sees each place, turn and constant of its
+/// tables. One for both lines would be too large for its calls to be inlined.
 fn left_line(x: &[u32; 16], h: Words) -> Words
     ensures { result ≡ after x.now left h }
 {
@@ -83,7 +83,7 @@ fn right_line(x: &[u32; 16], h: Words) -> Words
     sixteen_steps(&RIGHT.fifth, x, fourth)
 }
 
-// The word at byte `i` of a block.
+/// The word at byte `i` of a block.
 fn word_at(block: &[u8], i: usize) -> u32
     requires { i + 4 ≤ length block.now }
     ensures { result ≡ from_le_bytes w32 (take 4 (drop i block.now)) }

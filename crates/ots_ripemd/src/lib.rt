@@ -3,7 +3,6 @@
 #![tactic(auto)]
 
 mod block;
-pub mod fed;
 mod hasher;
 mod once;
 mod rounds;

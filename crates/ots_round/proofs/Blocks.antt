@@ -1,11 +1,11 @@
--- Blocks of bytes: a key that fills one, masks, and what is put one behind the other.
+-- Blocks of bytes: a key that fills one, masks, and what is put one after the other.
 use Rattle.std.proofs.Common.{◌≡◌, ◌+◌, ◌-◌, ◌<◌, ℕ, zero, suc, refl, List, [], ◌∷◌, ◌++◌, length, take, drop, replicate, get_or, set, ap, sym, ◌∙◌, arith}
 use Rattle.std.specs.Prelude.{bit_xor}
 use Rattle.std.proofs.lemmas.List.{drop-replicate, take_more_set, take_more, map-append, drop-set-lt, drop-drop, take_all, append-nil, length-drop}
 use Rattle.ots_round.specs.Hmac.{filled, masked}
 
-pub filled_block : (front key : List ℕ) → front ≡ key → front ++ drop (length key) (replicate {A = ℕ} 64 0) ≡ filled key
-filled_block front key same = (λ i. same i ++ drop-replicate (length key) 64 0 i)
+pub filled_block : (prefix key : List ℕ) → prefix ≡ key → prefix ++ drop (length key) (replicate {A = ℕ} 64 0) ≡ filled key
+filled_block prefix key same = (λ i. same i ++ drop-replicate (length key) 64 0 i)
 
 -- ---- masked bytes, one after another
 
@@ -33,8 +33,8 @@ rest_more place y bytes block less rest =
 pub joined : (b1 b2 s h : List ℕ) → length s ≡ 36 → length b2 ≡ 44 → length (take 8 h) ≡ 8 → take (0 + length s) b1 ≡ s
     → take (36 + length (take 8 h)) b2 ≡ take 36 b1 ++ take 8 h → b2 ≡ s ++ take 8 h
 joined b1 b2 s h ls lb lh first second =
-    let front : take 36 b1 ≡ s = ap (λ (n : ℕ). take n b1) (let n : 36 ≡ 0 + length s = omega arith in n) ∙ first in
-    sym (take_all (36 + length (take 8 h)) b2 (omega arith)) ∙ second ∙ ap (λ (l : List ℕ). l ++ take 8 h) front
+    let prefix : take 36 b1 ≡ s = ap (λ (n : ℕ). take n b1) (let n : 36 ≡ 0 + length s = omega arith in n) ∙ first in
+    sym (take_all (36 + length (take 8 h)) b2 (omega arith)) ∙ second ∙ ap (λ (l : List ℕ). l ++ take 8 h) prefix
 
 -- a block is filled by itself
 pub whole_block : (block : List ℕ) → length block ≡ 64 → filled block ≡ block

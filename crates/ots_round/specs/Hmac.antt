@@ -2,7 +2,7 @@
 use Rattle.std.specs.Prelude.{ℕ, ◌-◌, List, ◌++◌, length, map, replicate, bit_xor}
 use Rattle.sha2.specs.Sha256.{sha256}
 
--- a key with zero bytes behind it, to a block
+-- a key with zero bytes after it, to a block
 abbrev pub filled : List ℕ → List ℕ
 filled key = key ++ replicate (64 - length key) 0
 

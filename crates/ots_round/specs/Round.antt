@@ -1,5 +1,5 @@
--- A round of a calendar (opentimestamps-server, otsserver/calendar.py: Aggregator and Calendar.submit): the tickets that
--- wait, in their order, the commitment over them, and the way of each to it.
+-- A round of a calendar (opentimestamps-server, otsserver/calendar.py: Aggregator and Calendar.submit): the tickets
+-- that wait, in their order, the commitment over them, and the way of each to it.
 use Rattle.std.specs.Prelude.{ℕ, List, [], ◌∷◌, ◌++◌, map, take, drop}
 use Rattle.std.specs.Int.{w32, to_be_bytes}
 use Rattle.sha2.specs.Sha256.{sha256}
@@ -31,10 +31,11 @@ commitment key second root = signed second root ++ mac key (signed second root)
 abbrev pub round_commitment : List ℕ → ℕ → List Ticket → List ℕ
 round_commitment key second tickets = commitment key second (root (leaves tickets))
 
--- From a digest to the commitment: the nonce is put behind it, that is hashed, its path leads to the root, before which
--- the second is put, and behind it the keyed hash.
+-- From a digest to the commitment: the nonce is put after it, that is hashed, its path leads to the root, before which
+-- the second is put, and after it the keyed hash.
 abbrev pub way : List ℕ → List Op → List ℕ → List Op
-way nonce path commitment = Append nonce ∷ Sha256 ∷ (path ++ Prepend (take 4 commitment) ∷ Append (drop 36 commitment) ∷ [])
+way nonce path commitment = Append nonce ∷ Sha256 ∷ (path ++ Prepend (take 4 commitment) ∷ Append (drop 36 commitment)
+    ∷ [])
 
 -- the way of one ticket of a round, which has this index among its tickets
 abbrev pub round_way : List ℕ → ℕ → List Ticket → ℕ → Ticket → List Op

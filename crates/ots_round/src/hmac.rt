@@ -24,7 +24,7 @@ pub fn hmac_sha256(key: &[u8], message: &[u8]) -> [u8; 32]
     keyed(&filled(key), message)
 }
 
-/// A key with zero bytes behind it, a whole block.
+/// A key with zero bytes after it, a whole block.
 pub(crate) fn filled(key: &[u8]) -> [u8; MAX_KEY]
     requires { length key.now ≤ MAX_KEY }
     ensures { result ≡ filled key.now }

@@ -12,7 +12,7 @@ pub struct BadKey(pub u64);
 
 /// The key under which a calendar signs its commitments: 1 to 64 bytes.
 ///
-/// Contracts see the block that it fills, with zero bytes behind it, under which each keyed hash is
+/// Contracts see the block that it fills, with zero bytes after it, under which each keyed hash is
 /// the same (RFC 2104).
 #[derive(Clone, Copy)]
 pub struct Key {

@@ -15,7 +15,7 @@ pub const COMMITMENT: usize = 44;
 const SIGNED: usize = 36;
 
 /// The leaves of a round's tree, of these tickets in order: SHA-256 of the digest with the nonce
-/// behind it. They lie in memory of `alloc`.
+/// after it. They lie in memory of `alloc`.
 pub fn leaf_hashes(alloc: Global, tickets: &[Ticket]) -> Result<Vec<[u8; 32]>, OutOfMemory>
     ensures { IfOk result (λ made. made.items ≡ leaves tickets.now) }
 {
@@ -59,7 +59,7 @@ fn signed(second: u32, root: &[u8; 32]) -> [u8; SIGNED]
     bytes
 }
 
-/// Writes a part behind the bytes before this place.
+/// Writes a part after the bytes before this place.
 fn put(bytes: &mut [u8; COMMITMENT], place: usize, part: &[u8])
     requires { place + length part.now ≤ COMMITMENT }
     ensures { take (place + length part.now) bytes.new ≡ take place bytes.old ++ part.now }

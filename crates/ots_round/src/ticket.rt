@@ -10,7 +10,7 @@ pub struct Ticket {
     pub number: u64,
     /// The digest.
     pub leaf: Leaf,
-    /// What is hashed behind the digest, so that others cannot guess it.
+    /// What is hashed after the digest, so that others cannot guess it.
     pub nonce: [u8; 16],
 }
 

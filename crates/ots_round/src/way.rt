@@ -8,8 +8,8 @@ use ots_ops::{Arg, Op, Ops};
 use std::alloc::Global;
 
 /// The operations that lead from a digest to its round's commitment, in memory of `alloc`: the
-/// nonce is put behind it and that is hashed, the path, which is copied, leads from this leaf of
-/// the round's tree to the root, before which the second is put and behind it the keyed hash.
+/// nonce is put after it and that is hashed, the path, which is copied, leads from this leaf of
+/// the round's tree to the root, before which the second is put and after it the keyed hash.
 pub fn way_to_commitment(
     alloc: Global,
     nonce: &[u8; 16],

@@ -7,11 +7,11 @@ use Rattle.ots_detached.specs.File.{file_of}
 use Rattle.ots_detached.proofs.BothWays.{same_detached}
 use Rattle.ots_canon.proofs.Lawful.{same_form}
 use Rattle.ots_canon.proofs.Rising.{same_itself}
-use Rattle.ots_bitcoin.specs.HeaderTable.{Table}
-use Rattle.ots_bitcoin.specs.TableRead.{IsTableOf}
-use Rattle.ots_bitcoin.proofs.TableBytes.{one_table_lem}
-use Rattle.ots_eval.specs.Confirmed.{IsVerdict}
-use Rattle.ots_eval.proofs.OneVerdict.{one}
+use Rattle.ots_headers.specs.HeaderTable.{Table}
+use Rattle.ots_headers.specs.TableRead.{IsTableOf}
+use Rattle.ots_headers.proofs.TableBytes.{one_table_lem}
+use Rattle.ots_verdicts.specs.Confirmed.{IsVerdict}
+use Rattle.ots_verdicts.proofs.OneVerdict.{one}
 use Rattle.ots_sample.specs.declared.outcome.Sample.{Sample}
 use Rattle.ots_sample.specs.Sample.{IsSample, IsSampleProof, IsSampleTable, digest_of, header_of, path, sample_paths}
 

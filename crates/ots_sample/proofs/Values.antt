@@ -3,8 +3,8 @@ use Rattle.std.proofs.Common.{◌≡◌, ℕ, ◌/◌, List, ◌++◌, length, S
 use Rattle.std.specs.Int.{w32, to_be_bytes}
 use Rattle.sha2.specs.Sha256.{sha256}
 use Rattle.ots_ops.specs.Value.{value}
-use Rattle.ots_bitcoin.specs.HeaderTable.{Table}
-use Rattle.ots_bitcoin.specs.TableRead.{IsTableOf}
+use Rattle.ots_headers.specs.HeaderTable.{Table}
+use Rattle.ots_headers.specs.TableRead.{IsTableOf}
 use Rattle.ots_sample.specs.Sample.{digest_of, path, header_of, IsSampleTable}
 
 pub value-path : (i : ℕ) (d : List ℕ) → length d ≡ 32 → value (path i).ops d ≡ Some (sha256 (d ++ to_be_bytes w32 i))

@@ -5,20 +5,22 @@ use Rattle.std.specs.Option.{option_map}
 use Rattle.std.specs.Int.{w32, to_be_bytes, to_le_bytes}
 use Rattle.std.proofs.lemmas.Bool.Decides.{leb_tells}
 use Rattle.sha2.specs.Sha256.{sha256}
+use Rattle.ots_ops.proofs.AppliedLength.{length_of_hashed}
 use Rattle.ots_ops.specs.Value.{value}
+use Rattle.ots_ops.specs.declared.hash_op.HashOp.TheVariants.{Sha256}
 use Rattle.ots_tree.specs.Wire.{Path, paths}
 use Rattle.ots_tree.specs.declared.detached.Detached.{Detached}
 use Rattle.ots_canon.specs.Order.{Has}
 use Rattle.ots_canon.proofs.Among.{some_has}
-use Rattle.ots_bitcoin.specs.declared.header.Header.{Header}
-use Rattle.ots_bitcoin.specs.Header.{IsHeader, serialized}
-use Rattle.ots_bitcoin.specs.HeaderTable.{Table, root_at, time_at}
-use Rattle.ots_bitcoin.specs.TableRead.{IsTableOf}
-use Rattle.ots_bitcoin.proofs.TableBytes.{heights_lem, one_table_lem}
-use Rattle.ots_eval.specs.Confirmed.{IsConfirmed, IsVerdict}
-use Rattle.ots_eval.specs.declared.verdicts.Chain.TheVariants as chain
-use Rattle.ots_eval.specs.declared.verdicts.Verdict.{Verdict}
-use Rattle.ots_eval.specs.declared.verdicts.Verdict.TheVariants.{Yes, NoDigest, NoPath}
+use Rattle.ots_headers.specs.declared.header.Header.{Header}
+use Rattle.ots_headers.specs.Header.{IsHeader, serialized}
+use Rattle.ots_headers.specs.HeaderTable.{Table, root_at, time_at}
+use Rattle.ots_headers.specs.TableRead.{IsTableOf}
+use Rattle.ots_headers.proofs.TableBytes.{heights_lem, one_table_lem}
+use Rattle.ots_verdicts.specs.Confirmed.{IsConfirmed, IsVerdict}
+use Rattle.ots_verdicts.specs.declared.verdicts.Chain.TheVariants as chain
+use Rattle.ots_verdicts.specs.declared.verdicts.Verdict.{Verdict}
+use Rattle.ots_verdicts.specs.declared.verdicts.Verdict.TheVariants.{Yes, NoDigest, NoPath}
 use Rattle.ots_sample.specs.declared.outcome.Sample.{Sample}
 use Rattle.ots_sample.specs.Sample.{IsSample, IsSampleProof, digest_of, header_of, path, sample_paths}
 use Rattle.ots_sample.specs.declared.headers.TheConstants.{FIRST_TIME}
@@ -36,7 +38,7 @@ has_path (suc j) i less = elim (leb_tells j i) [
 contains : (ps : List Path) (p : Path) → Has ps p → Contains ps p
 contains [] p has = absurd has
 contains (q ∷ qs) p (inl here) = (0, omega arith, here)
-contains (q ∷ qs) p (inr behind) = let k = contains qs p behind in (suc k.0, (let less = k.1 in omega arith), k.2)
+contains (q ∷ qs) p (inr after) = let k = contains qs p after in (suc k.0, (let less = k.1 in omega arith), k.2)
 
 -- some path is there
 some_paths : (n : ℕ) (p : Detached) → IsSampleProof n p → 1 ≤ n
@@ -137,3 +139,7 @@ says_yes n s long is =
     verdict_is is.proof (table (n / 2) root) (n / 2) FIRST_TIME s.verdict (is_confirmed n is.proof root some is.is_proof is.is_table.is_value)
     (only_height (n / 2) root is.proof) (the_time (n / 2) root)
     (subst (λ (z : Table). IsVerdict is.proof is.proof.digest z None s.verdict) tables is.verdict)
+
+-- the same, where a hash has 32 bytes
+pub always_yes : (n : ℕ) (s : Sample) → IsSample n s → s.verdict ≡ Yes chain.Bitcoin (n / 2) FIRST_TIME
+always_yes n s is = says_yes n s (λ m. length_of_hashed Sha256 m) is

@@ -11,9 +11,9 @@ use Rattle.ots_tree.specs.declared.detached.Detached.{Detached}
 use Rattle.ots_tree.specs.Wire.{Path}
 use Rattle.ots_detached.specs.File.{file_of}
 use Rattle.ots_canon.specs.Canonical.{IsCanonTree}
-use Rattle.ots_bitcoin.specs.HeaderTable.{Table}
-use Rattle.ots_bitcoin.specs.TableRead.{IsTableOf}
-use Rattle.ots_eval.specs.Confirmed.{IsVerdict}
+use Rattle.ots_headers.specs.HeaderTable.{Table}
+use Rattle.ots_headers.specs.TableRead.{IsTableOf}
+use Rattle.ots_verdicts.specs.Confirmed.{IsVerdict}
 use Rattle.ots_sample.specs.declared.outcome.Sample.{Sample}
 
 -- SHA-256 of the number of paths as 8 big-endian bytes

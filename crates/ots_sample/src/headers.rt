@@ -2,13 +2,13 @@
 ghost use Rattle.std.specs.Prelude.{◌≡◌, ◌++◌, ◌≤◌, ◌^◌, ◌-◌, Some, IfOk};
 ghost use Rattle.std.specs.Int.{w32, to_be_bytes};
 ghost use Rattle.sha2.specs.Sha256.{sha256};
-ghost use Rattle.ots_bitcoin.specs.Header.{serialized};
-ghost use Rattle.ots_bitcoin.specs.TableRead.{IsTableOf};
+ghost use Rattle.ots_headers.specs.Header.{serialized};
+ghost use Rattle.ots_headers.specs.TableRead.{IsTableOf};
 ghost use Rattle.ots_sample.specs.Sample.{digest_of, header_of, IsSampleTable};
 
 use ots_base::OutOfMemory;
-use ots_bitcoin::{Header, Headers, HeadersError};
-use ots_ops::{Digest, lengths_of_results};
+use ots_headers::{Header, Headers, HeadersError};
+use ots_ops::Digest;
 use ots_outside::{Failed, Source};
 use sha2::{Digest as _, Sha256};
 use std::alloc::Global;
@@ -22,7 +22,6 @@ pub fn headers_of(alloc: Global, paths: u32, digest: &Digest) -> Result<Headers,
     requires digest { digest.now ≡ digest_of paths }
     ensures { IfOk result (IsSampleTable paths) }
 {
-    lengths_of_results();
     let height = paths / 2;
     let header = header_with(value_of(height, digest.bytes()));
     table_of(alloc, u64::from(height), &header.to_bytes())
@@ -65,7 +64,7 @@ fn table_of(alloc: Global, height: u64, header: &[u8; 80]) -> Result<Headers, Ou
     }
 }
 
-/// Bytes in memory, read once from their front. No read fails.
+/// Bytes in memory, read once from their start. No read fails.
 #[derive(Drop)]
 struct Unread<'a> {
     left: &'a [u8],

@@ -1,12 +1,10 @@
 //! Laws of samples.
 ghost use Rattle.std.specs.Prelude.{◌≡◌, ◌/◌, ℕ};
-ghost use Rattle.ots_eval.specs.declared.verdicts.Chain.TheVariants.{Bitcoin};
-ghost use Rattle.ots_eval.specs.declared.verdicts.Verdict.TheVariants.{Yes};
+ghost use Rattle.ots_verdicts.specs.declared.verdicts.Chain.TheVariants.{Bitcoin};
+ghost use Rattle.ots_verdicts.specs.declared.verdicts.Verdict.TheVariants.{Yes};
 ghost use Rattle.ots_sample.specs.Sample.{IsSample};
 ghost use Rattle.ots_sample.specs.declared.headers.TheConstants.{FIRST_TIME};
 ghost use Rattle.ots_sample.specs.declared.outcome.Sample.{Sample};
-
-use ots_ops::lengths_of_results;
 
 /// So many paths have one sample.
 pub fn one_sample()
@@ -16,6 +14,4 @@ pub fn one_sample()
 /// The verdict of a sample is a yes, at half the number of paths, rounded down.
 pub fn verdict_of_sample()
     ensures { (n : ℕ) (s : Sample) → IsSample n s → s.verdict ≡ Yes Bitcoin (n / 2) FIRST_TIME }
-{
-    lengths_of_results();
-}
+{}

@@ -1,5 +1,5 @@
 //! What a sample shows.
-use ots_eval::Verdict;
+use ots_verdicts::Verdict;
 
 /// What is told of a sample.
 #[derive(Clone, Copy, Debug, PartialEq, Eq)]

@@ -8,7 +8,7 @@ use crate::memory::file_in_memory;
 use crate::sampling::MAX_SAMPLE;
 use crate::tokens::tokens_of;
 use ots_base::{MAX_PROOF_FILE, OutOfMemory};
-use ots_canon::{canon, sound_results};
+use ots_canon::canon;
 use ots_detached::{FileError, read_bytes, written_file};
 use ots_ops::{Digest, HashOp, Hasher};
 use ots_tree::{Detached, from_tokens, limits_of_detached};
@@ -67,7 +67,6 @@ fn canonical(alloc: Global, proof: &Detached) -> Result<Detached, OutOfMemory>
     ensures { IfOk result (IsFormOf proof.now) }
 {
     limits_of_detached(proof);
-    sound_results();
     let tree = canon(alloc, &proof.tree)?;
     Ok(Detached {
         hash: proof.hash,

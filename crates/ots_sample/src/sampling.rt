@@ -7,7 +7,7 @@ use crate::memory::file_in_memory;
 use crate::outcome::Sample;
 use crate::proof::sample_proof;
 use ots_base::OutOfMemory;
-use ots_eval::verdict;
+use ots_verdicts::verdict;
 use sha2::{Digest, Sha256};
 use std::alloc::Global;
 

@@ -20,7 +20,7 @@ pub fn tokens_of(alloc: Global, paths: u32) -> Result<Vec<Token>, OutOfMemory>
     Ok(tokens)
 }
 
-/// Adds the item with the path of this number, behind a fork where another one follows.
+/// Adds the item with the path of this number, after a fork where another one follows.
 fn push_item(alloc: Global, number: u32, tokens: &mut Vec<Token>) -> Result<(), OutOfMemory>
     ensures { OnOk result (tokens.new.items ≡ tokens.old.items ++ item_tokens number) }
 {

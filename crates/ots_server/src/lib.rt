@@ -1,24 +1,14 @@
-//! The calendar `otsd`: what its words, the files, the disk and the sink make it do, proved, so that
-//! the program only makes the real objects and calls it.
+//! The calendar's server, under one path.
 //!
-//! [`run_calendar`] reads the words, then the files that they name, then opens the journal, and then
-//! the command asks the book and prints. What is refused before the journal is opened calls no disk.
+//! | crate | what it has |
+//! |---|---|
+//! | `ots_connection` | one connection, from its request to its reply |
+//! | `ots_workers` | several workers, which accept connections and serve them |
+//! | `ots_calendar_commands` | the commands of `otsd` |
+//!
+//! Libraries stand on the one that they need.
 #![tactic(auto)]
 
-mod anchor;
-mod batch;
-mod laws;
-mod list;
-mod migrate;
-mod opening;
-mod printing;
-mod reading;
-mod run;
-mod serve;
-mod task;
-mod tip;
-mod trees;
-
-pub use laws::one_answer;
-pub use ots_server_text::DaemonStatus;
-pub use run::{Returned, run_calendar};
+pub use ots_calendar_commands::{DaemonStatus, Returned, one_answer, run_calendar};
+pub use ots_connection::{Served, Service, serve_connection};
+pub use ots_workers::{Ended, Front, MAX_WORKERS, ServeEnd, Turn, serve_links};

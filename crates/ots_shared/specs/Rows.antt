@@ -4,10 +4,15 @@ use Rattle.ots_calendar.specs.Book.{BookTold}
 use Rattle.ots_shared.specs.declared.row.Numbers.{Numbers}
 use Rattle.ots_shared.specs.declared.row.Row.{Row}
 
--- How many records a book has, the place of its journal's closed gate, how often its disk has failed, and how many tickets
--- wait.
+-- How many records a book has, the place of its journal's closed gate, how often its disk has failed, and how many
+-- tickets wait.
 abbrev pub numbers : {D : Type 0} → (D → ℕ) → BookTold D → Numbers
-numbers faults b = record { records = length b.store.records; gate = b.store.journal.gate; faults = faults b.store.journal.disk; waiting = length b.tickets.waiting }
+numbers faults b = record {
+  records = length b.store.records;
+  gate = b.store.journal.gate;
+  faults = faults b.store.journal.disk;
+  waiting = length b.tickets.waiting;
+}
 
 abbrev pub row_of : Numbers → Numbers → Row
 row_of found left = record {

@@ -1,8 +1,8 @@
 -- The rule by which callers share a book. It serves the code alone: what callers can rely on is in the contracts.
 --
--- Word 0 is the next number to draw and word 1 the number served, both modulo 2^64, and word 2 counts the records. Slot 0 has
--- the book. Here numbers are counted without end: each caller that has drawn one and is not done has its own, and `waiting` of
--- them are out, from `first` on.
+-- Word 0 is the next number to draw and word 1 the number served, both modulo 2^64, and word 2 counts the records. Slot
+-- 0 has the book. Here numbers are counted without end: each caller that has drawn one and is not done has its own, and
+-- `waiting` of them are out, from `first` on.
 use Rattle.std.specs.Prelude.{◌≡◌, ℕ, ◌+◌, ◌%◌, ◌^◌, ◌<◌, ◌≤◌, List, [], ◌∷◌, length, Option, Some, None}
 use mathlib.Core.Option.{none, some}
 use mathlib.Core.Option as maybe
@@ -70,7 +70,8 @@ module _ {D : Type 0} (first waiting : ℕ) (all : List Record) (home : Home D) 
 
   -- What a caller knows is so.
   abbrev pub Knows : ℕ → View → Type 0
-  Knows limit v = StartsWith all v.seen × (v.told ≤ length all) × (0 < v.share → v.limit ≡ limit) × (waits v.stage ≤ v.share) × InStage v.stage × StartsWith all v.also
+  Knows limit v = StartsWith all v.seen × (v.told ≤ length all) × (0 < v.share → v.limit ≡ limit)
+      × (waits v.stage ≤ v.share) × InStage v.stage × StartsWith all v.also
 
 -- While the book is out, one caller has it, and knows its records as they were last told to the others.
 pub record Kept {D : Type 0} (callers limit : ℕ) (s : Moment D) : Type 0 where
@@ -87,7 +88,8 @@ pub record Kept {D : Type 0} (callers limit : ℕ) (s : Moment D) : Type 0 where
   pub out : total waits_of s.views ≡ waiting
   pub each : (j : ℕ) (v : View) → get_elem? s.views j ≡ some v → Knows first waiting all home limit v
   -- no two callers have one number
-  pub apart : (i j n : ℕ) (v w : View) → get_elem? s.views i ≡ some v → get_elem? s.views j ≡ some w → Has n v.stage → Has n w.stage → i ≡ j
+  pub apart : (i j n : ℕ) (v w : View) → get_elem? s.views i ≡ some v → get_elem? s.views j ≡ some w → Has n v.stage
+      → Has n w.stage → i ≡ j
 
 -- The rule, with so few callers that no two numbers which are out are the same modulo 2^64.
 abbrev pub IsKept : {D : Type 0} → ℕ → ℕ → Moment D → Type 0

@@ -18,7 +18,15 @@ seat_told table v = record { table = table; limit = v.limit; share = v.share }
 
 abbrev pub pass_told : TableId → View → Bool → ℕ → List Row → ℕ → PassTold
 pass_told table v holding number rows made =
-    record { seat = seat_told table v; seen = v.seen; told = v.told; holding = holding; number = number; holds = rows; made = made }
+    record {
+      seat = seat_told table v;
+      seen = v.seen;
+      told = v.told;
+      holding = holding;
+      number = number;
+      holds = rows;
+      made = made;
+    }
 
 -- What a free pass knows.
 abbrev pub view_of : PassTold → View
@@ -44,11 +52,19 @@ IsSettled vs = is_none vs ≡ false → IsFree (head_of vs) × (vs ≡ head_of v
 
 abbrev pub held_told : {D : Type 0} → Seat (Option (BookTold D)) View → ℕ → BookTold D → BookTold D → HeldTold D
 held_told place number found book = let v = place.me.0 in
-    record { seat = seat_told place.table_id v; seen = v.seen; told = v.told; number = number; found = found; book = book }
+    record {
+      seat = seat_told place.table_id v;
+      seen = v.seen;
+      told = v.told;
+      number = number;
+      found = found;
+      book = book;
+    }
 
--- The seat has the book's slot, which is empty. The others were told of the records that were found, and the numbers are
--- those of the book that was found.
-pub record IsOut {D : Type 0} (faults : D → ℕ) (me : Sat D) (found_numbers : Numbers) (found : BookTold D) : Type 0 where
+-- The seat has the book's slot, which is empty. The others were told of the records that were found, and the numbers
+-- are those of the book that was found.
+pub record IsOut {D : Type 0} (faults : D → ℕ) (me : Sat D) (found_numbers : Numbers)
+    (found : BookTold D) : Type 0 where
   pub holding : Holding me found.store.records
   pub settled : me.0.also ≡ []
   pub share : 0 < me.0.share

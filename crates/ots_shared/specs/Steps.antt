@@ -17,7 +17,14 @@ Sat D = Me (Option (BookTold D)) View
 -- ---- views
 
 abbrev pub view : List Record → List Record → ℕ → ℕ → ℕ → Stage → View
-view seen also told share limit stage = record { seen = seen; also = also; told = told; share = share; limit = limit; stage = stage }
+view seen also told share limit stage = record {
+  seen = seen;
+  also = also;
+  told = told;
+  share = share;
+  limit = limit;
+  stage = stage;
+}
 
 abbrev pub at_stage : View → Stage → View
 at_stage v stage = view v.seen v.also v.told v.share v.limit stage
@@ -79,12 +86,14 @@ Draws st m r m' = (n : ℕ) × (m' ≡ (at_stage m.0 (Waits n), m.1)) × (r ≡ 
 -- Where the caller's number is served, the book is taken.
 abbrev pub Looks : {D : Type 0} → Step (Option (BookTold D)) → Sat D → ℕ → Sat D → Type 0
 Looks {D} st m r m' = (n : ℕ) → m.0.stage ≡ Waits n →
-    (r ≡ n % 2 ^ 64 → (b : BookTold D) × (m' ≡ (at_stage m.0 (Holds n b.store.records), (0, Some b) ∷ m.1)) × Fits m.0 b)
+    (r ≡ n % 2 ^ 64 → (b : BookTold D) × (m' ≡ (at_stage m.0 (Holds n b.store.records), (0, Some b) ∷ m.1))
+    × Fits m.0 b)
     × (r ≢ n % 2 ^ 64 → m' ≡ m)
 
 -- The holder tells the others of the book's records, as they are now.
 abbrev pub Publishes : {D : Type 0} → Step (Option (BookTold D)) → Sat D → ℕ → Sat D → Type 0
-Publishes {D} st m r m' = (n : ℕ) (l : List Record) (b : BookTold D) → m.0.stage ≡ Holds n l → m.1 ≡ (0, Some b) ∷ [] → m' ≡ (at_stage m.0 (Holds n b.store.records), m.1)
+Publishes {D} st m r m' = (n : ℕ) (l : List Record) (b : BookTold D) → m.0.stage ≡ Holds n l → m.1 ≡ (0, Some b) ∷ []
+    → m' ≡ (at_stage m.0 (Holds n b.store.records), m.1)
 
 -- The book is at home again, and all its records are seen.
 abbrev pub Serves : {D : Type 0} → Step (Option (BookTold D)) → Sat D → ℕ → Sat D → Type 0
@@ -96,4 +105,5 @@ Counts st m r m' = (m' ≡ (informed m.0 r, m.1)) × (m.0.told ≤ r) × (length
 
 -- The longer of the two lists begins with the other.
 abbrev pub Settles : {D : Type 0} → Step (Option (BookTold D)) → Sat D → ℕ → Sat D → Type 0
-Settles st m r m' = (l : List Record) × (m' ≡ (settled m.0 l, m.1)) × StartsWith l m.0.seen × StartsWith l m.0.also × ((l ≡ m.0.seen) ⊎ (l ≡ m.0.also))
+Settles st m r m' = (l : List Record) × (m' ≡ (settled m.0 l, m.1)) × StartsWith l m.0.seen × StartsWith l m.0.also
+    × ((l ≡ m.0.seen) ⊎ (l ≡ m.0.also))

@@ -22,8 +22,8 @@ pub record SeatTold : Type 0 where
   -- for how many of the callers it stands
   pub share : ℕ
 
--- While a pass holds the book, its place and what it knows are with the hold, and it has the number, the rows and the count
--- alone.
+-- While a pass holds the book, its place and what it knows are with the hold, and it has the number, the rows and the
+-- count alone.
 pub record PassTold : Type 0 where
   pub seat : SeatTold
   -- the records that it has seen
@@ -69,4 +69,11 @@ IsTakenWith p h = (p.holding ≡ true) × (h.number ≡ p.number)
 
 -- The hold, with its book as it was left.
 abbrev pub with_book : {D : Type 0} → HeldTold D → BookTold D → HeldTold D
-with_book h book = record { seat = h.seat; seen = h.seen; told = h.told; number = h.number; found = h.found; book = book }
+with_book h book = record {
+  seat = h.seat;
+  seen = h.seen;
+  told = h.told;
+  number = h.number;
+  found = h.found;
+  book = book;
+}

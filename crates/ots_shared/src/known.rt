@@ -2,7 +2,7 @@ use ots_journal::Entry;
 use std::collections::LinkedList;
 use std::marker::Model;
 
-// Records that a caller knows of, as the entries that spell them. No value of it is made.
+/// Records that a caller knows of, as the entries that spell them. No value of it is made.
 pub(crate) struct Known {
     entries: LinkedList<Entry>,
 }

@@ -13,7 +13,8 @@ use ots_disk::Disk;
 impl<D: Disk> Held<D> {
     /// Lends the book. When the borrow ends, the hold has the book as it was left.
     pub fn book(&mut self) -> &mut Book<D>
-        ensures* writes_back { sem 𝓛 (Lends (the_row D.row D.Disk) (kept.the_row D.row D.Disk) self.entry result (with_book self.old)) }
+        ensures* writes_back { sem 𝓛 (Lends (the_row D.row D.Disk) (kept.the_row D.row D.Disk) self.entry result
+            (with_book self.old)) }
         ensures value { result.now ≡ self.old.book }
     {
         &mut self.book

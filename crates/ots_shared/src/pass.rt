@@ -29,13 +29,14 @@ impl Model for Pass {
 
     ghost Value = { PassTold };
 
-    ghost view = { λ p. pass_told p.badge.table_id (head_of p.badge.views) (is_none p.badge.views) p.number p.rows p.made };
+    ghost view = { λ p. pass_told p.badge.table_id (head_of p.badge.views) (is_none p.badge.views) p.number p.rows
+        p.made };
 
     ghost invariant = { λ p. IsSettled p.badge.views };
 }
 
 impl Pass {
-    // The pass of a seat.
+    /// The pass of a seat.
     pub(crate) fn of<D: Disk>(place: Place<D>, rows: Rows, made: u64) -> Pass
         requires free { IsFree place.me.0 }
         requires none { place.me.1 ≡ [] }
@@ -49,19 +50,20 @@ impl Pass {
         }
     }
 
-    // Takes the seat out.
+    /// Takes the seat out.
     pub(crate) fn rise<D: Disk>(&mut self) -> Place<D>
         requires { self.old.holding ≡ false }
         ensures table { result.table_id ≡ self.old.seat.table }
         ensures me { result.me ≡ (view_of self.old, []) }
         ensures share { 0 < self.old.seat.share }
         ensures out { self.new.holding ≡ true }
-        ensures rest { (self.new.number ≡ self.old.number) × (self.new.holds ≡ self.old.holds) × (self.new.made ≡ self.old.made) }
+        ensures rest { (self.new.number ≡ self.old.number) × (self.new.holds ≡ self.old.holds)
+            × (self.new.made ≡ self.old.made) }
     {
         mem::replace(&mut self.badge, Badge::blank()).into_seat()
     }
 
-    // Puts the seat back.
+    /// Puts the seat back.
     pub(crate) fn sit<D: Disk>(&mut self, place: Place<D>)
         requires free { IsFree place.me.0 }
         requires none { place.me.1 ≡ [] }

@@ -23,14 +23,14 @@ pub struct Row {
     pub waiting_left: u64,
 }
 
-// How many records a book has.
+/// How many records a book has.
 pub(crate) fn count_records<D: Disk>(book: &Book<D>) -> u64
     ensures { result ≡ length book.now.store.records }
 {
     book.store().entries()
 }
 
-// The numbers of a book.
+/// The numbers of a book.
 #[derive(Clone, Copy)]
 pub(crate) struct Numbers {
     records: u64,
@@ -69,7 +69,7 @@ impl Row {
     }
 }
 
-// At most three rows, the oldest first.
+/// At most three rows, the oldest first.
 #[derive(Drop)]
 pub(crate) struct Rows {
     rows: [Row; 3],
@@ -108,7 +108,7 @@ impl Rows {
         }
     }
 
-    // Adds a row behind the others. Of four the oldest goes.
+    /// Adds a row after the others. Of four the oldest goes.
     pub(crate) fn add(&mut self, row: Row)
         ensures { self.new ≡ latest (self.old ++ row ∷ []) }
     {

@@ -6,14 +6,14 @@ use std::alloc::Global;
 use std::marker::PhantomData;
 use std::snapshot::Snapshot;
 
-// How many callers there are, and the book as it was shared.
+/// How many callers there are, and the book as it was shared.
 #[derive(Drop)]
 pub(crate) struct Terms<B> {
     pub(crate) callers: u64,
     pub(crate) book: Snapshot<B>,
 }
 
-// The rule of the table: numbers are served in turn, and the book is out with the one served.
+/// The rule of the table: numbers are served in turn, and the book is out with the one served.
 pub(crate) struct InTurn<D> {
     disk: PhantomData<D>,
 }
@@ -27,7 +27,7 @@ impl<D: Disk> TableRule<Option<Book<D>>, View, Terms<Book<D>>> for InTurn<D> {
     ghost first = { λ key. opener key.callers key.book.value };
 }
 
-// The table with its memory, what its callers share of it, and the seat of one of them.
+/// The table with its memory, what its callers share of it, and the seat of one of them.
 pub(crate) type Board<D> = Table<Option<Book<D>>, View, Terms<Book<D>>, InTurn<D>, Global>;
 
 pub(crate) type Top<D> = Shared<Option<Book<D>>, View, Terms<Book<D>>, InTurn<D>>;

@@ -1,4 +1,5 @@
-ghost use Rattle.std.specs.Prelude.{◌≡◌, ◌+◌, ◌-◌, ◌^◌, ◌<◌, ◌≤◌, [], ◌∷◌, ◌++◌, length, min, max, ◌⊎◌, false, IfOk, IfErr};
+ghost use Rattle.std.specs.Prelude.{◌≡◌, ◌+◌, ◌-◌, ◌^◌, ◌<◌, ◌≤◌, [], ◌∷◌, ◌++◌, length, min, max, ◌⊎◌, false, IfOk};
+ghost use Rattle.std.specs.Prelude.{IfErr};
 ghost use Rattle.ots_shared.specs.Records.{StartsWith};
 ghost use Rattle.ots_shared.specs.Rows.{latest, row};
 ghost use Rattle.ots_shared.specs.Told.{IsPassOf, IsHeldOf, IsTakenWith};
@@ -31,7 +32,11 @@ impl<D: Disk> Model for Shared<D> {
 
     ghost Value = { SharedTold };
 
-    ghost view = { λ s. record { table = s.table.shared.table_id; callers = s.table.shared.key.callers; limit = s.table.shared.key.book.value.store.journal.limit } };
+    ghost view = { λ s. record {
+      table = s.table.shared.table_id;
+      callers = s.table.shared.key.callers;
+      limit = s.table.shared.key.book.value.store.journal.limit;
+    } };
 
     ghost invariant = { λ s. (s.table.shared.table_id.words ≡ 3) × (s.table.shared.table_id.slots ≡ 1) };
 }
@@ -187,7 +192,8 @@ impl<D: Disk> Shared<D> {
         ensures seen { length pass.old.seen ≤ result }
         ensures told { (pass.new.told ≡ result) × (pass.old.told ≤ result) }
         ensures seat { (pass.new.seat ≡ pass.old.seat) × (pass.new.holding ≡ false) }
-        ensures rest { (pass.new.seen ≡ pass.old.seen) × (pass.new.holds ≡ pass.old.holds) × (pass.new.made ≡ pass.old.made) }
+        ensures rest { (pass.new.seen ≡ pass.old.seen) × (pass.new.holds ≡ pass.old.holds)
+            × (pass.new.made ≡ pass.old.made) }
     {
         let mut place: Place<D> = pass.rise();
         let found = count(&self.table.shared, &mut place);

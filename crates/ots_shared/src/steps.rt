@@ -2,7 +2,8 @@
 ghost use Rattle.std.specs.Prelude.{◌≡◌, ℕ, ◌%◌, ◌^◌, ◌<◌, ◌≤◌, List, [], length, ◌⊎◌, MatchResult};
 ghost use Rattle.ots_store.specs.Records.{Record};
 ghost use Rattle.ots_shared.specs.Records.{StartsWith};
-ghost use Rattle.ots_shared.specs.Steps.{at_stage, released, informed, settled, both, Fits, Holding, IsSameSeat, IsSeatOf, Takes};
+ghost use Rattle.ots_shared.specs.Steps.{at_stage, released, informed, settled, both, Fits, Holding, IsSameSeat};
+ghost use Rattle.ots_shared.specs.Steps.{IsSeatOf, Takes};
 ghost use Rattle.ots_shared.specs.declared.view.Stage.TheVariants.{Idle, Waits};
 
 use crate::plays::{Count, Draw, Glue, Look, Publish, Serve, Settle};
@@ -12,27 +13,28 @@ use ots_calendar::Book;
 use ots_disk::Disk;
 use std::sync::Wait;
 
-// The word with the next number to draw.
+/// The word with the next number to draw.
 pub(crate) const DRAWN: usize = 0;
 
-// The word with the number served, on which those that wait rest.
+/// The word with the number served, on which those that wait rest.
 pub(crate) const SERVED: usize = 1;
 
-// The word with the count of records.
+/// The word with the count of records.
 pub(crate) const COUNT: usize = 2;
 
-// Draws the next number.
+/// Draws the next number.
 pub(crate) fn draw<D: Disk>(top: &Top<D>, place: &mut Place<D>) -> u64
     requires own { IsSeatOf top.now.table_id place.old }
     requires idle { place.old.me.0.stage ≡ Idle }
     requires share { 0 < place.old.me.0.share }
     ensures same { IsSameSeat place.old place.new }
-    ensures drawn { (n : ℕ) × (place.new.me ≡ (at_stage place.old.me.0 (Waits n), place.old.me.1)) × (result ≡ n % 2 ^ 64) }
+    ensures drawn { (n : ℕ) × (place.new.me ≡ (at_stage place.old.me.0 (Waits n), place.old.me.1))
+        × (result ≡ n % 2 ^ 64) }
 {
     top.fetch_add::<Draw>(place, DRAWN, 1)
 }
 
-// Takes the book where the caller's number is served, and answers the number served where it is not.
+/// Takes the book where the caller's number is served, and answers the number served where it is not.
 pub(crate) fn take<D: Disk>(top: &Top<D>, place: &mut Place<D>, number: u64) -> Result<Book<D>, u64>
     requires own { IsSeatOf top.now.table_id place.old }
     requires drawn { (n : ℕ) × (place.old.me.0.stage ≡ Waits n) × (number ≡ n % 2 ^ 64) }
@@ -50,7 +52,7 @@ pub(crate) fn take<D: Disk>(top: &Top<D>, place: &mut Place<D>, number: u64) -> 
     }
 }
 
-// Draws a number, and rests until it is served.
+/// Draws a number, and rests until it is served.
 pub(crate) fn hold_place<D: Disk, R: Wait>(
     rt: &R,
     top: &Top<D>,
@@ -73,8 +75,8 @@ pub(crate) fn hold_place<D: Disk, R: Wait>(
     unreachable!()
 }
 
-// Gives the book back: it is in its slot before the others are told of its records, and they are
-// told before the next number is served.
+/// Gives the book back: it is in its slot before the others are told of its records, and they are
+/// told before the next number is served.
 pub(crate) fn give<D: Disk>(top: &Top<D>, place: &mut Place<D>, book: Book<D>)
     requires own { IsSeatOf top.now.table_id place.old }
     requires held { (l : List Record) × Holding place.old.me l × StartsWith book.store.records l }
@@ -92,7 +94,7 @@ pub(crate) fn give<D: Disk>(top: &Top<D>, place: &mut Place<D>, book: Book<D>)
     top.wake_all(SERVED);
 }
 
-// How many records there are, at least.
+/// How many records there are, at least.
 pub(crate) fn count<D: Disk>(top: &Top<D>, place: &mut Place<D>) -> u64
     requires own { IsSeatOf top.now.table_id place.old }
     requires idle { place.old.me.0.stage ≡ Idle }
@@ -104,20 +106,22 @@ pub(crate) fn count<D: Disk>(top: &Top<D>, place: &mut Place<D>) -> u64
     top.load::<Count>(place, COUNT)
 }
 
-// Puts two callers' knowledge together, and finds the longer of their lists.
+/// Puts two callers' knowledge together, and finds the longer of their lists.
 pub(crate) fn glue<D: Disk>(top: &Top<D>, place: &mut Place<D>, other: Place<D>)
     requires own { IsSeatOf top.now.table_id place.old × IsSeatOf top.now.table_id other }
     requires idle { (place.old.me.0.stage ≡ Idle) × (other.me.0.stage ≡ Idle) }
     requires share { 0 < place.old.me.0.share }
     requires none { other.me.1 ≡ [] }
     ensures same { IsSameSeat place.old place.new }
-    ensures glued { (l : List Record) × (place.new.me ≡ (settled (both place.old.me.0 other.me.0) l, place.old.me.1)) × StartsWith l place.old.me.0.seen × StartsWith l other.me.0.seen × ((l ≡ place.old.me.0.seen) ⊎ (l ≡ other.me.0.seen)) }
+    ensures glued { (l : List Record) × (place.new.me ≡ (settled (both place.old.me.0 other.me.0) l, place.old.me.1))
+        × StartsWith l place.old.me.0.seen × StartsWith l other.me.0.seen
+        × ((l ≡ place.old.me.0.seen) ⊎ (l ≡ other.me.0.seen)) }
 {
     top.join_seat::<Glue>(place, other);
     top.load::<Settle>(place, COUNT);
 }
 
-// Takes the book out of a table at which one caller stands for all.
+/// Takes the book out of a table at which one caller stands for all.
 pub(crate) fn take_back<D: Disk>(table: Board<D>, place: Place<D>) -> Book<D>
     requires own { place.table_id ≡ table.shared.table_id }
     requires slot { table.shared.table_id.slots ≡ 1 }

@@ -1,14 +1,14 @@
 use crate::known::Known;
 
-// Where a caller stands: it has no number, or waits for its own to be served, or holds the book.
-// A holder knows the records that the other callers were last told of.
+/// Where a caller stands: it has no number, or waits for its own to be served, or holds the book.
+/// A holder knows the records that the other callers were last told of.
 pub(crate) enum Stage {
     Idle,
     Waits(u64),
     Holds(u64, Known),
 }
 
-// What a caller knows. It exists in proofs alone: no value of it is made.
+/// What a caller knows. It exists in proofs alone: no value of it is made.
 pub(crate) struct View {
     // The records that it has seen.
     pub(crate) seen: Known,

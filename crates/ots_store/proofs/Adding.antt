@@ -107,7 +107,7 @@ sizes (AnchorRecord anchor) fits =
 pub record_fits : (e : Entry) → IsRecord e → FitsEntry e
 record_fits e r = subst FitsEntry (sym r.spelled) (sizes (record_of e) r.form)
 
--- a record staged behind none in flight
+-- a record staged after none in flight
 pub staged_one : (entries : List Entry) (flight : List Record) (e : Entry) (held : HeldTold) → flight ≡ [] → Holds (records_of entries) (flight ++ record_of e ∷ []) held → Holds (records_of entries) (records_of (e ∷ [])) held
 staged_one entries flight e held none h = subst (λ (l : List Record). Holds (records_of entries) (l ++ record_of e ∷ []) held) none h
 

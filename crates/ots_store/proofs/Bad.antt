@@ -58,5 +58,5 @@ earlier before entries i j lt one two =
 pub one_bad : (before : List Record) (entries : List Entry) (first second : ℕ) → FirstBad before entries first → FirstBad before entries second → first ≡ second
 one_bad before entries first second one two =
     let before_it : first < second → ⊥ = λ lt. earlier before entries first second lt one two in
-    let behind_it : second < first → ⊥ = λ lt. earlier before entries second first lt two one in
-    omega (arith, before_it, behind_it)
+    let after_it : second < first → ⊥ = λ lt. earlier before entries second first lt two one in
+    omega (arith, before_it, after_it)

@@ -51,9 +51,9 @@ first_step bytes n (step ∷ steps) many fit whole =
       whole = ap (λ (l : List ℕ). drop 33 l) whole ∙ drop_at step.1 rest 32 fit.0;
     }
 
--- what lies behind the root, the prefix and the suffix
-pub behind_root : (payload : List ℕ) (anchor : Anchor) → FitsAnchor anchor → payload ≡ anchor_payload anchor → drop 56 payload ≡ anchor_rest anchor
-behind_root payload anchor fits whole = ap (λ (l : List ℕ). drop 56 l) whole ∙ rest_read anchor fits
+-- what lies after the root, the prefix and the suffix
+pub after_root : (payload : List ℕ) (anchor : Anchor) → FitsAnchor anchor → payload ≡ anchor_payload anchor → drop 56 payload ≡ anchor_rest anchor
+after_root payload anchor fits whole = ap (λ (l : List ℕ). drop 56 l) whole ∙ rest_read anchor fits
 
 -- one step more
 pub steps_push : (n : ℕ) (bytes : List ℕ) → steps_at (suc n) bytes ≡ steps_at n bytes ++ (side_at (drop (33 * n) bytes), take 32 (drop 1 (drop (33 * n) bytes))) ∷ []
@@ -91,19 +91,19 @@ branch_few bytes is =
     let many : get_or bytes 0 0 ≡ length (branch_at bytes) = ap (λ (l : List ℕ). get_or l 0 0) is.whole in
     omega (arith, many, is.steps)
 
--- what lies behind an anchor's prefix, and behind its suffix
-pub behind_prefix : (payload : List ℕ) → IsAnchor payload → after (drop 56 payload) ≡ sized (anchor_at payload).suffix ++ branch_bytes (anchor_at payload).branch
-behind_prefix payload is =
+-- what lies after an anchor's prefix, and after its suffix
+pub follows_prefix : (payload : List ℕ) → IsAnchor payload → after (drop 56 payload) ≡ sized (anchor_at payload).suffix ++ branch_bytes (anchor_at payload).branch
+follows_prefix payload is =
     let anchor = anchor_at payload in
     let message = is.fits.message in
-    ap after (behind_root payload anchor is.fits is.whole) ∙ after_read anchor.prefix (sized anchor.suffix ++ branch_bytes anchor.branch) (omega arith)
+    ap after (after_root payload anchor is.fits is.whole) ∙ after_read anchor.prefix (sized anchor.suffix ++ branch_bytes anchor.branch) (omega arith)
 
-pub behind_suffix : (payload : List ℕ) → IsAnchor payload → IsBranch (after (after (drop 56 payload)))
-behind_suffix payload is =
+pub after_suffix : (payload : List ℕ) → IsAnchor payload → IsBranch (after (after (drop 56 payload)))
+after_suffix payload is =
     let anchor = anchor_at payload in
     let message = is.fits.message in
     record {
-      whole = ap after (behind_prefix payload is) ∙ after_read anchor.suffix (branch_bytes anchor.branch) (omega arith);
+      whole = ap after (follows_prefix payload is) ∙ after_read anchor.suffix (branch_bytes anchor.branch) (omega arith);
       steps = is.fits.steps;
       hashes = is.fits.hashes;
     }

@@ -26,15 +26,15 @@ not_gt Less h = refl
 not_gt Equal h = refl
 not_gt Greater h = absurd (cc)
 
--- what is behind a key that is not before another one is not either
-pub behind_chain : (x y k : List ℕ × ℕ) → is_lt (key_cmp x k) ≡ false → is_gt (key_cmp x y) ≡ false → is_lt (key_cmp y k) ≡ false
-behind_chain x y k from up = lt_is_gt y k ∙ upto key_total k x y (sym (lt_is_gt x k) ∙ from) up
+-- what is after a key that is not before another one is not either
+pub after_chain : (x y k : List ℕ × ℕ) → is_lt (key_cmp x k) ≡ false → is_gt (key_cmp x y) ≡ false → is_lt (key_cmp y k) ≡ false
+after_chain x y k from up = lt_is_gt y k ∙ upto key_total k x y (sym (lt_is_gt x k) ∙ from) up
 
 before_by : (x y k : List ℕ × ℕ) (b : Bool) → is_lt (key_cmp x k) ≡ b → is_gt (key_cmp x y) ≡ false → is_lt (key_cmp y k) ≡ true → is_lt (key_cmp x k) ≡ true
 before_by x y k true is up before = is
-before_by x y k false is up before = absurd (let h : false ≡ true = sym (behind_chain x y k is up) ∙ before in cc)
+before_by x y k false is up before = absurd (let h : false ≡ true = sym (after_chain x y k is up) ∙ before in cc)
 
--- what is not behind a key that is before another one is so too
+-- what is not after a key that is before another one is so too
 pub before_chain : (x y k : List ℕ × ℕ) → is_gt (key_cmp x y) ≡ false → is_lt (key_cmp y k) ≡ true → is_lt (key_cmp x k) ≡ true
 before_chain x y k up before = before_by x y k (is_lt (key_cmp x k)) refl up before
 
@@ -67,6 +67,6 @@ between Less a b low high = absurd (cc)
 between Equal a b low high = refl
 between Greater a b low high = absurd (cc)
 
--- a key that is from the first one of a commitment on and not behind one of this commitment is of this commitment
+-- a key that is from the first one of a commitment on and not after one of this commitment is of this commitment
 pub same_commitment : (d c : List ℕ) (p m : ℕ) → is_lt (key_cmp (d, p) (c, 0)) ≡ false → is_gt (key_cmp (d, p) (c, m)) ≡ false → d ≡ c
 same_commitment d c p m low high = (bytes_eq-Decides d c).0 (sym (is_eq-slice_cmp d c) ∙ between (slice_cmp nat_cmp d c) (nat_cmp p 0) (nat_cmp p m) low high)

@@ -1,4 +1,4 @@
--- A part of places that is exchanged with the one behind it, or sorted, and what is in order then.
+-- A part of places that is exchanged with the one after it, or sorted, and what is in order then.
 use Rattle.std.proofs.Common.{◌≡◌, ◌⊎◌, inl, inr, ◌<◌, ◌≤◌, ◌+◌, ◌-◌, ℕ, Bool, true, false, List, [], ◌++◌, length, take, drop, get_or, refl, sym, ◌∙◌, ap, subst, arith}
 use Rattle.std.proofs.lemmas.List.{get_or_default, get_or_append_left, get_or-append_right, get_or-take, get_or-drop, length-take-le, length-drop}
 use Rattle.std.proofs.lemmas.List.Sorted.{IsPermutation-put_mid, length_permutation}
@@ -42,7 +42,7 @@ module _ (low middle high : ℕ) (xs ys : List ℕ) (le : low ≤ middle) (le' :
   pub exchanged : Exchanged low middle high xs (put_mid low (high - low) xs ys)
   exchanged = record {
     count = length_permutation xs (put_mid low (high - low) xs ys) (IsPermutation-put_mid low (high - low) xs ys moved);
-    front = λ i lt. part_below low (high - low) xs ys i lt (omega arith);
+    prefix = λ i lt. part_below low (high - low) xs ys i lt (omega arith);
     first = λ i lt. part_at low (high - low) xs ys i (omega (arith, sized)) (omega arith) ∙ turned.0 i 0 (omega (arith, size)) ∙ inside (i + (middle - low)) (omega arith) ∙ ap (λ (n : ℕ). get_or xs n 0) (omega arith);
     second = λ i lt.
         let q = high - middle + i in
@@ -54,8 +54,8 @@ module _ (low middle high : ℕ) (xs ys : List ℕ) (le : low ≤ middle) (le' :
 
 -- ---- a part that is sorted
 
-pub part_front : (from : ℕ) (xs ys : List ℕ) (i : ℕ) → from ≤ length xs → i < from → get_or (put_mid from (length xs - from) xs ys) i 0 ≡ get_or xs i 0
-part_front from xs ys i fits lt = part_below from (length xs - from) xs ys i lt fits
+pub part_prefix : (from : ℕ) (xs ys : List ℕ) (i : ℕ) → from ≤ length xs → i < from → get_or (put_mid from (length xs - from) xs ys) i 0 ≡ get_or xs i 0
+part_prefix from xs ys i fits lt = part_below from (length xs - from) xs ys i lt fits
 
 pub part_rises : (from : ℕ) (xs ys : List ℕ) (all : List (List ℕ)) → from ≤ length xs → length ys ≡ length xs - from
     → ((i j : ℕ) (d : ℕ) → i ≤ j → j < length ys → is_lt (key_cmp (key_at all (get_or ys j d)) (key_at all (get_or ys i d))) ≡ false)
@@ -69,8 +69,8 @@ part_rises from xs ys all fits size up i j past le lt =
 
 -- ---- one place of the second part in the first
 
-pub front_rises : (high left : ℕ) (xs : List ℕ) (all : List (List ℕ)) → high ≤ length xs → IsParted high left xs all → Rises (take high xs) all
-front_rises high left xs all fits parted i j le lt =
+pub prefix_rises : (high left : ℕ) (xs : List ℕ) (all : List (List ℕ)) → high ≤ length xs → IsParted high left xs all → Rises (take high xs) all
+prefix_rises high left xs all fits parted i j le lt =
     let size = length-take-le high xs fits in
     let below : j < high = omega (arith, size) in
     subst (λ (p : ℕ). is_gt (key_cmp (key_at all p) (key_at all (get_or (take high xs) j 0))) ≡ false) (sym (get_or-take high xs i 0 (omega arith)))
@@ -78,14 +78,14 @@ front_rises high left xs all fits parted i j le lt =
 
 -- where a place of the new list stood in the old one
 data Stood (at high left : ℕ) (k r : ℕ) : Type 0 where
-  front : k < at → r ≡ k → Stood at high left k r
+  prefix : k < at → r ≡ k → Stood at high left k r
   last : at ≤ k → k < at + left → r + at ≡ high + k → Stood at high left k r
   moved : at + left ≤ k → k < high + left → r + left ≡ k → Stood at high left k r
   back : high + left ≤ k → r ≡ k → Stood at high left k r
 
 module _ (all : List (List ℕ)) (xs ys : List ℕ) (at high left : ℕ) (le : at ≤ high) (fits : high + (left + 1) ≤ length xs) (parted : IsParted high (left + 1) xs all) (x : Exchanged at high (high + (left + 1)) xs ys)
     (before : (j : ℕ) → j < at → is_lt (key_cmp (key_at all (get_or xs j 0)) (key_at all (get_or xs (high + left) 0))) ≡ true)
-    (behind : (j : ℕ) → at ≤ j → j < high → is_lt (key_cmp (key_at all (get_or xs j 0)) (key_at all (get_or xs (high + left) 0))) ≡ false) where
+    (after : (j : ℕ) → at ≤ j → j < high → is_lt (key_cmp (key_at all (get_or xs j 0)) (key_at all (get_or xs (high + left) 0))) ≡ false) where
   abbrev In : ℕ → ℕ → Type 0
   In r s = is_gt (key_cmp (key_at all (get_or xs r 0)) (key_at all (get_or xs s 0))) ≡ false
 
@@ -99,28 +99,28 @@ module _ (all : List (List ℕ)) (xs ys : List ℕ) (at high left : ℕ) (le : a
   stood_from k past (inr le) = stood_past k le (split k (high + (left + 1)))
 
   stood_by : (k : ℕ) → ((k < at) ⊎ (at ≤ k)) → (r : ℕ) × Stood at high (left + 1) k r × (get_or ys k 0 ≡ get_or xs r 0)
-  stood_by k (inl lt) = (k, front lt refl, x.front k lt)
+  stood_by k (inl lt) = (k, prefix lt refl, x.prefix k lt)
   stood_by k (inr le) = stood_from k le (split k (at + (left + 1)))
 
   rise : (i k r s : ℕ) → i ≤ k → k < length xs → (i < at → at ≤ k → at + left ≤ k) → Stood at high (left + 1) i r → Stood at high (left + 1) k s → In r s
-  rise i k r s up lt but (front a is) (front b is') = parted r s (omega arith) (omega arith) (λ p q. absurd (omega arith))
-  rise i k r s up lt but (front a is) (last b c is') =
+  rise i k r s up lt but (prefix a is) (prefix b is') = parted r s (omega arith) (omega arith) (λ p q. absurd (omega arith))
+  rise i k r s up lt but (prefix a is) (last b c is') =
       let here : s ≡ high + left = let past = but a b in omega arith in
       subst (λ (n : ℕ). In r n) (sym here) (not_gt (key_cmp (key_at all (get_or xs r 0)) (key_at all (get_or xs (high + left) 0))) (before r (omega arith)))
-  rise i k r s up lt but (front a is) (moved b c is') = parted r s (omega arith) (omega arith) (λ p q. absurd (omega arith))
-  rise i k r s up lt but (front a is) (back b is') = parted r s (omega arith) (omega arith) (λ p q. omega arith)
-  rise i k r s up lt but (last a b is) (front c is') = absurd (omega arith)
+  rise i k r s up lt but (prefix a is) (moved b c is') = parted r s (omega arith) (omega arith) (λ p q. absurd (omega arith))
+  rise i k r s up lt but (prefix a is) (back b is') = parted r s (omega arith) (omega arith) (λ p q. omega arith)
+  rise i k r s up lt but (last a b is) (prefix c is') = absurd (omega arith)
   rise i k r s up lt but (last a b is) (last c d is') = parted r s (omega arith) (omega arith) (λ p q. absurd (omega arith))
   rise i k r s up lt but (last a b is) (moved c d is') =
       upto key_total (key_at all (get_or xs r 0)) (key_at all (get_or xs (high + left) 0)) (key_at all (get_or xs s 0))
       (parted r (high + left) (omega arith) (omega arith) (λ p q. absurd (omega arith)))
-      (sym (lt_is_gt (key_at all (get_or xs s 0)) (key_at all (get_or xs (high + left) 0))) ∙ behind s (omega arith) (omega arith))
+      (sym (lt_is_gt (key_at all (get_or xs s 0)) (key_at all (get_or xs (high + left) 0))) ∙ after s (omega arith) (omega arith))
   rise i k r s up lt but (last a b is) (back c is') = parted r s (omega arith) (omega arith) (λ p q. absurd (omega arith))
-  rise i k r s up lt but (moved a b is) (front c is') = absurd (omega arith)
+  rise i k r s up lt but (moved a b is) (prefix c is') = absurd (omega arith)
   rise i k r s up lt but (moved a b is) (last c d is') = absurd (omega arith)
   rise i k r s up lt but (moved a b is) (moved c d is') = parted r s (omega arith) (omega arith) (λ p q. absurd (omega arith))
   rise i k r s up lt but (moved a b is) (back c is') = parted r s (omega arith) (omega arith) (λ p q. omega arith)
-  rise i k r s up lt but (back a is) (front c is') = absurd (omega arith)
+  rise i k r s up lt but (back a is) (prefix c is') = absurd (omega arith)
   rise i k r s up lt but (back a is) (last c d is') = absurd (omega arith)
   rise i k r s up lt but (back a is) (moved c d is') = absurd (omega arith)
   rise i k r s up lt but (back a is) (back c is') = parted r s (omega arith) (omega arith) (λ p q. absurd (omega arith))
@@ -149,8 +149,8 @@ module _ (all : List (List ℕ)) (xs ys : List ℕ) (at high left : ℕ) (some :
   pub sunk_last : IsParted high left xs all → Exchanged at high (high + left) xs ys
       → ((j : ℕ) → j < at → is_lt (key_cmp (key_at all (get_or (take high xs) j 0)) (get_or all Last [], Last)) ≡ true)
       → ((j : ℕ) → at ≤ j → j < length (take high xs) → is_lt (key_cmp (key_at all (get_or (take high xs) j 0)) (get_or all Last [], Last)) ≡ false) → IsParted at (left - 1) ys all
-  sunk_last parted x before behind =
+  sunk_last parted x before after =
       let one : left ≡ left - 1 + 1 = omega arith in
       let size : length (take high xs) ≡ high = length-take-le high xs (omega arith) in
       sunk all xs ys at high (left - 1) le (omega arith) (subst (λ (n : ℕ). IsParted high n xs all) one parted) (subst (λ (n : ℕ). Exchanged at high (high + n) xs ys) one x)
-      (λ j lt. at_last true j (omega arith) (before j lt)) (λ j past lt. at_last false j lt (behind j past (omega arith)))
+      (λ j lt. at_last true j (omega arith) (before j lt)) (λ j past lt. at_last false j lt (after j past (omega arith)))

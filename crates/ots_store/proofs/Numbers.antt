@@ -1,4 +1,4 @@
--- Numbers at the front of bytes.
+-- Numbers at the start of bytes.
 use Rattle.std.proofs.Common.{◌≡◌, ◌<◌, ◌≤◌, ◌^◌, ℕ, ◌+◌, zero, suc, List, [], ◌∷◌, ◌++◌, length, take, drop, get_or, refl, sym, ◌∙◌, ap, arith, take-append-drop}
 use Rattle.std.proofs.lemmas.List.{length-take-le, get_or-drop}
 use Rattle.std.proofs.lemmas.Nat.{be_bytes_8}
@@ -29,8 +29,8 @@ number_small (a ∷ b ∷ c ∷ d ∷ e ∷ f ∷ g ∷ h ∷ rest) long small =
     let h_small : h < 256 = small 7 in
     omega arith
 
-pub bytes_behind : (n : ℕ) (bytes : List ℕ) → AreBytes bytes → AreBytes (drop n bytes)
-bytes_behind n bytes small i = rw (get_or-drop n bytes i 0) (small (n + i))
+pub bytes_after : (n : ℕ) (bytes : List ℕ) → AreBytes bytes → AreBytes (drop n bytes)
+bytes_after n bytes small i = rw (get_or-drop n bytes i 0) (small (n + i))
 
 bytes_taken : (n : ℕ) (bytes : List ℕ) → AreBytes bytes → AreBytes (take n bytes)
 bytes_taken zero bytes small i = omega arith
@@ -38,7 +38,7 @@ bytes_taken (suc n) [] small i = omega arith
 bytes_taken (suc n) (b ∷ bytes) small zero = small 0
 bytes_taken (suc n) (b ∷ bytes) small (suc i) = bytes_taken n bytes (λ k. small (suc k)) i
 
--- the spelling of the number at the front, and what lies behind it
+-- the spelling of the number at the start, and what lies after it
 pub number_again : (bytes : List ℕ) → 8 ≤ length bytes → AreBytes bytes → bytes ≡ to_be_bytes w64 (number bytes) ++ drop 8 bytes
 number_again bytes long small =
     sym (take-append-drop 8 bytes) ∙ ap (λ (l : List ℕ). l ++ drop 8 bytes) (sym (be_bytes_8 (take 8 bytes) (number bytes) (length-take-le 8 bytes long) (bytes_taken 8 bytes small) refl))

@@ -47,7 +47,7 @@ least_is q (c ∷ all) (suc i) lt is never =
 
 module _ (q : List ℕ) (all : List (List ℕ)) (places : List ℕ) (at : ℕ) (index : Indexes (length all) places all)
     (before : (j : ℕ) → j < at → is_lt (key_cmp (key_at all (get_or places j 0)) (q, 0)) ≡ true)
-    (behind : (j : ℕ) → at ≤ j → j < length places → is_lt (key_cmp (key_at all (get_or places j 0)) (q, 0)) ≡ false) where
+    (after : (j : ℕ) → at ≤ j → j < length places → is_lt (key_cmp (key_at all (get_or places j 0)) (q, 0)) ≡ false) where
   -- a place of this commitment is not before where the search ended
   not_before : (m j : ℕ) → get_or places j 0 ≡ m → get_or all m nothing ≡ q → j < at → ⊥
   not_before m j is there lt = none_before q m (subst (λ (c : List ℕ). is_lt (key_cmp (c, m) (q, 0)) ≡ true) there (subst (λ (p : ℕ). is_lt (key_cmp (key_at all p) (q, 0)) ≡ true) is (before j lt)))
@@ -70,12 +70,12 @@ module _ (q : List ℕ) (all : List (List ℕ)) (places : List ℕ) (at : ℕ) (
   no_other : (m j : ℕ) → (at < length places → get_or all (get_or places at 0) nothing ≡ q → ⊥) → get_or all m nothing ≡ q → j < length places → get_or places j 0 ≡ m → ((j < at) ⊎ (at ≤ j)) → ⊥
   no_other m j other same lt here (inl earlier) = not_before m j here same earlier
   no_other m j other same lt here (inr le) =
-      other (omega arith) (same_commitment (get_or all (get_or places at 0) nothing) q (get_or places at 0) m (behind at (omega arith) (omega arith)) (up_to m j here same le lt))
+      other (omega arith) (same_commitment (get_or all (get_or places at 0) nothing) q (get_or places at 0) m (after at (omega arith) (omega arith)) (up_to m j here same le lt))
 
   pub found_none : (at < length places → get_or all (get_or places at 0) nothing ≡ q → ⊥) → None ≡ least q all
   found_none other = sym (least_none q all (λ m lt same. let e = index.are.each m lt in no_other m e.0 other same e.1 e.2 (split e.0 at)))
 
--- ---- more commitments behind those that are indexed
+-- ---- more commitments after those that are indexed
 
 pub longer : (n : ℕ) (places : List ℕ) (all more : List (List ℕ)) → n ≤ length all → Indexes n places all → Indexes n places (all ++ more)
 longer n places all more le index = record {

@@ -5,27 +5,27 @@ use Rattle.std.specs.Prelude.{None, Some, find, ◌==◌}
 use Rattle.std.specs.List.{AllByRecursion}
 use Rattle.ots_store.specs.declared.anchor.Anchor.{Anchor}
 use Rattle.ots_store.specs.Order.{anchor_end, covers, covered_by}
-use Rattle.ots_store.specs.Ranges.{RisesFrom, EndsBy, BeginsBehind, reach}
+use Rattle.ots_store.specs.Ranges.{RisesFrom, EndsBy, BeginsAfter, reach}
 use Rattle.ots_store.proofs.Ordered.{reach_is}
 
--- each ends behind the base
-behind_base : (base : ℕ) (anchors : List Anchor) (m : ℕ) (d : Anchor) → m < length anchors → RisesFrom base anchors → base < anchor_end (get_or anchors m d)
-behind_base base [] m d lt rises = absurd (omega arith)
-behind_base base (a ∷ anchors) zero d lt rises = rises.1
-behind_base base (a ∷ anchors) (suc m) d lt rises = let later = behind_base (anchor_end a) anchors m d (omega arith) rises.2 in omega (arith, rises.1)
+-- each ends after the base
+after_base : (base : ℕ) (anchors : List Anchor) (m : ℕ) (d : Anchor) → m < length anchors → RisesFrom base anchors → base < anchor_end (get_or anchors m d)
+after_base base [] m d lt rises = absurd (omega arith)
+after_base base (a ∷ anchors) zero d lt rises = rises.1
+after_base base (a ∷ anchors) (suc m) d lt rises = let later = after_base (anchor_end a) anchors m d (omega arith) rises.2 in omega (arith, rises.1)
 
 -- where one ends by an index, so do those before it
 pub up_to : (base i : ℕ) (anchors : List Anchor) (m : ℕ) (d : Anchor) → m < length anchors → RisesFrom base anchors → anchor_end (get_or anchors m d) ≤ i → AllByRecursion (EndsBy i) (take (suc m) anchors)
 up_to base i [] m d lt rises le = absurd (omega arith)
 up_to base i (a ∷ anchors) zero d lt rises le = (le, tt)
 up_to base i (a ∷ anchors) (suc m) d lt rises le =
-    let later = behind_base (anchor_end a) anchors m d (omega arith) rises.2 in
+    let later = after_base (anchor_end a) anchors m d (omega arith) rises.2 in
     (omega arith, up_to (anchor_end a) i anchors m d (omega arith) rises.2 le)
 
-pub begins_at : (i : ℕ) (anchors : List Anchor) (m : ℕ) (d : Anchor) → m < length anchors → i < anchor_end (get_or anchors m d) → BeginsBehind i (drop m anchors)
-begins_at i [] m d lt behind = absurd (omega arith)
-begins_at i (a ∷ anchors) zero d lt behind = behind
-begins_at i (a ∷ anchors) (suc m) d lt behind = begins_at i anchors m d (omega arith) behind
+pub begins_at : (i : ℕ) (anchors : List Anchor) (m : ℕ) (d : Anchor) → m < length anchors → i < anchor_end (get_or anchors m d) → BeginsAfter i (drop m anchors)
+begins_at i [] m d lt after = absurd (omega arith)
+begins_at i (a ∷ anchors) zero d lt after = after
+begins_at i (a ∷ anchors) (suc m) d lt after = begins_at i anchors m d (omega arith) after
 
 covers_it : (i : ℕ) (a : Anchor) → a.first ≤ i → i < anchor_end a → covers i a ≡ true
 covers_it i a begins ends = grind (arith, nat_tests)
@@ -33,8 +33,8 @@ covers_it i a begins ends = grind (arith, nat_tests)
 covers_not : (i : ℕ) (a : Anchor) → anchor_end a ≤ i → covers i a ≡ false
 covers_not i a ends = grind (arith, nat_tests)
 
--- the first that ends behind an index is the first that covers it
-pub found_at : (base i : ℕ) (anchors : List Anchor) (n : ℕ) (d : Anchor) → base ≤ i → RisesFrom base anchors → n < length anchors → AllByRecursion (EndsBy i) (take n anchors) → BeginsBehind i (drop n anchors)
+-- the first that ends after an index is the first that covers it
+pub found_at : (base i : ℕ) (anchors : List Anchor) (n : ℕ) (d : Anchor) → base ≤ i → RisesFrom base anchors → n < length anchors → AllByRecursion (EndsBy i) (take n anchors) → BeginsAfter i (drop n anchors)
     → find (covers i) anchors ≡ Some (get_or anchors n d)
 found_at base i [] n d le rises lt all begins = absurd (omega arith)
 found_at base i (a ∷ anchors) zero d le rises lt all begins = ap (λ (b : Bool). cond b (Some a) (find (covers i) anchors)) (covers_it i a (omega (arith, rises.0)) begins)

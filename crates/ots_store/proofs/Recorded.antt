@@ -2,6 +2,7 @@
 use Rattle.std.proofs.Common.{◌≡◌, ◌<◌, ◌≤◌, ◌^◌, ℕ, ◌+◌, List, ◌++◌, length, drop, refl, sym, ◌∙◌, ap, subst, arith, take-append-drop, length-drop}
 use Rattle.std.proofs.lemmas.List.{drop-drop, length-take-le}
 use Rattle.std.specs.List.{AllByRecursion}
+use Rattle.ots_base.specs.declared.limits.TheConstants.{MAX_MESSAGE}
 use Rattle.ots_merkle.specs.declared.branch.Side.{Side}
 use Rattle.std.specs.Int.{w64, to_be_bytes}
 use Rattle.ots_journal.specs.declared.entry.Entry.{Entry}
@@ -9,7 +10,7 @@ use Rattle.ots_store.specs.Records.{Record, CommitRecord, TipRecord, AnchorRecor
 use Rattle.ots_store.specs.declared.form.Form.TheVariants as Form
 use Rattle.ots_store.specs.declared.form.Span.{Span}
 use Rattle.ots_store.specs.Forms.{IsAnchor, IsBranch, IsForm}
-use Rattle.ots_store.proofs.Numbers.{AreBytes, number_small, bytes_behind, number_again}
+use Rattle.ots_store.proofs.Numbers.{AreBytes, number_small, bytes_after, number_again}
 
 abbrev pub entry : ℕ → List ℕ → Entry
 entry kind payload = record { kind = kind; payload = payload }
@@ -23,7 +24,7 @@ no_commit kind payload is un r = un ((subst (λ (k : ℕ). IsRecord (entry k pay
 tip_spelled : (payload : List ℕ) → length payload ≡ 48 → AreBytes payload → payload ≡ tip_payload (tip_at payload)
 tip_spelled payload size small =
     number_again payload (omega arith) small
-    ∙ ap (λ (l : List ℕ). to_be_bytes w64 (number payload) ++ l) (number_again (drop 8 payload) (omega (arith, length-drop 8 payload)) (bytes_behind 8 payload small)
+    ∙ ap (λ (l : List ℕ). to_be_bytes w64 (number payload) ++ l) (number_again (drop 8 payload) (omega (arith, length-drop 8 payload)) (bytes_after 8 payload small)
     ∙ ap (λ (l : List ℕ). to_be_bytes w64 (number (drop 8 payload)) ++ l) (drop-drop 8 8 payload))
 
 pub tip_is : (kind : ℕ) (payload : List ℕ) → kind ≡ 2 → length payload ≡ 48 → AreBytes payload → IsRecord (entry kind payload)
@@ -31,7 +32,7 @@ tip_is kind payload is size small = subst (λ (k : ℕ). IsRecord (entry k paylo
   spelled = ap (λ (l : List ℕ). entry 2 l) (tip_spelled payload size small);
   form = record {
     first = number_small payload (omega arith) small;
-    count = number_small (drop 8 payload) (omega (arith, length-drop 8 payload)) (bytes_behind 8 payload small);
+    count = number_small (drop 8 payload) (omega (arith, length-drop 8 payload)) (bytes_after 8 payload small);
     root = omega (arith, length-drop 16 payload);
   };
 })
@@ -64,18 +65,18 @@ no_record kind payload one two three r =
     kind_of (record_of (entry kind payload)) (λ is. one (same ∙ is)) (λ is. two (same ∙ is)) (λ is. three (same ∙ is))
 
 -- an anchor's payload, piece by piece
-pub anchor_whole : (payload prefix behind suffix branch : List ℕ) → 56 ≤ length payload → AreBytes payload → number (drop 16 payload) < 2 ^ 63
-    → drop 56 payload ≡ sized prefix ++ behind → prefix ≡ part (drop 56 payload) → behind ≡ after (drop 56 payload)
-    → behind ≡ sized suffix ++ branch → suffix ≡ part behind → branch ≡ after behind
-    → length prefix + length suffix + 32 ≤ 4096 → IsBranch branch → IsAnchor payload
-anchor_whole payload prefix behind suffix branch long small height prefix_there prefix_is behind_is suffix_there suffix_is branch_is message steps =
+pub anchor_whole : (payload prefix following suffix branch : List ℕ) → 56 ≤ length payload → AreBytes payload → number (drop 16 payload) < 2 ^ 63
+    → drop 56 payload ≡ sized prefix ++ following → prefix ≡ part (drop 56 payload) → following ≡ after (drop 56 payload)
+    → following ≡ sized suffix ++ branch → suffix ≡ part following → branch ≡ after following
+    → length prefix + length suffix + 32 ≤ MAX_MESSAGE → IsBranch branch → IsAnchor payload
+anchor_whole payload prefix following suffix branch long small height prefix_there prefix_is after_is suffix_there suffix_is branch_is message steps =
     let anchor = anchor_at payload in
     let size_8 : 8 ≤ length (drop 8 payload) = omega (arith, length-drop 8 payload) in
     let size_16 : 8 ≤ length (drop 16 payload) = omega (arith, length-drop 16 payload) in
     let size_24 : 32 ≤ length (drop 24 payload) = omega (arith, length-drop 24 payload) in
     let prefix_at : prefix ≡ anchor.prefix = prefix_is in
-    let suffix_at : suffix ≡ anchor.suffix = suffix_is ∙ ap part behind_is in
-    let steps_at : branch_at branch ≡ anchor.branch = ap branch_at (branch_is ∙ ap after behind_is) in
+    let suffix_at : suffix ≡ anchor.suffix = suffix_is ∙ ap part after_is in
+    let steps_at : branch_at branch ≡ anchor.branch = ap branch_at (branch_is ∙ ap after after_is) in
     let rest : drop 56 payload ≡ anchor_rest anchor =
     prefix_there ∙ ap (λ (l : List ℕ). sized prefix ++ l) (suffix_there ∙ ap (λ (l : List ℕ). sized suffix ++ l) (steps.whole ∙ ap branch_bytes steps_at))
     ∙ ap (λ (l : List ℕ). sized prefix ++ (sized l ++ branch_bytes anchor.branch)) suffix_at
@@ -85,15 +86,15 @@ anchor_whole payload prefix behind suffix branch long small height prefix_there 
     record {
       whole =
           number_again payload (omega arith) small
-          ∙ ap (λ (l : List ℕ). to_be_bytes w64 (number payload) ++ l) (number_again (drop 8 payload) size_8 (bytes_behind 8 payload small)
-          ∙ ap (λ (l : List ℕ). to_be_bytes w64 (number (drop 8 payload)) ++ l) (drop-drop 8 8 payload ∙ number_again (drop 16 payload) size_16 (bytes_behind 16 payload small)
+          ∙ ap (λ (l : List ℕ). to_be_bytes w64 (number payload) ++ l) (number_again (drop 8 payload) size_8 (bytes_after 8 payload small)
+          ∙ ap (λ (l : List ℕ). to_be_bytes w64 (number (drop 8 payload)) ++ l) (drop-drop 8 8 payload ∙ number_again (drop 16 payload) size_16 (bytes_after 16 payload small)
           ∙ ap (λ (l : List ℕ). to_be_bytes w64 (number (drop 16 payload)) ++ l) (drop-drop 8 16 payload ∙ root)));
       fits = record {
         first = number_small payload (omega arith) small;
-        count = number_small (drop 8 payload) size_8 (bytes_behind 8 payload small);
+        count = number_small (drop 8 payload) size_8 (bytes_after 8 payload small);
         height = height;
         root = length-take-le 32 (drop 24 payload) size_24;
-        message = subst (λ (l : List ℕ). length l + length anchor.suffix + 32 ≤ 4096) prefix_at (subst (λ (l : List ℕ). length prefix + length l + 32 ≤ 4096) suffix_at message);
+        message = subst (λ (l : List ℕ). length l + length anchor.suffix + 32 ≤ MAX_MESSAGE) prefix_at (subst (λ (l : List ℕ). length prefix + length l + 32 ≤ MAX_MESSAGE) suffix_at message);
         steps = subst (λ (b : List (Side × List ℕ)). length b ≤ 32) steps_at steps.steps;
         hashes = subst (λ (b : List (Side × List ℕ)). AllByRecursion HasHash b) steps_at steps.hashes;
       };

@@ -83,10 +83,10 @@ group_ends covered group i d lt before here =
 pub record_there : (group : List Entry) (i : ℕ) (d : Entry) → i < length group → AllByRecursion IsRecord group → IsRecord (get_or group i d)
 record_there group i d lt each = All-from_recursion IsRecord group each i d lt
 
-pub each_behind : (group : List Entry) (i : ℕ) → AllByRecursion IsRecord group → AllByRecursion IsRecord (drop i group)
-each_behind group zero each = each
-each_behind [] (suc i) each = tt
-each_behind (e ∷ group) (suc i) each = each_behind group i each.1
+pub each_after : (group : List Entry) (i : ℕ) → AllByRecursion IsRecord group → AllByRecursion IsRecord (drop i group)
+each_after group zero each = each
+each_after [] (suc i) each = tt
+each_after (e ∷ group) (suc i) each = each_after group i each.1
 
 -- none of the tips that were passed, and none of the others
 pub not_there : (first count covered : ℕ) (tips : List Tip) (i : ℕ) → covered < first + count → AllByRecursion (TipEndsBy covered) (take i tips) → (HasSpan first count (drop i tips) → ⊥) → HasSpan first count tips → ⊥
@@ -98,8 +98,8 @@ pub not_in_group : (first count covered : ℕ) (group : List Entry) (i : ℕ) �
 not_in_group first count covered group i past ends others has =
     has_neither first count (tips_of (records_of (take i group))) (tips_of (records_of (drop i group))) (none_ends first count covered (tips_of (records_of (take i group))) past ends) others (subst (HasSpan first count) (tips_split group i) has)
 
-pub there_behind : (first count : ℕ) (tips : List Tip) (i : ℕ) → HasSpan first count (drop i tips) → HasSpan first count tips
-there_behind first count tips i has = subst (HasSpan first count) (take-append-drop i tips) (has_right first count (take i tips) (drop i tips) has)
+pub there_after : (first count : ℕ) (tips : List Tip) (i : ℕ) → HasSpan first count (drop i tips) → HasSpan first count tips
+there_after first count tips i has = subst (HasSpan first count) (take-append-drop i tips) (has_right first count (take i tips) (drop i tips) has)
 
 pub there_in_group : (first count : ℕ) (group : List Entry) (i : ℕ) → HasSpan first count (tips_of (records_of (drop i group))) → HasSpan first count (tips_of (records_of group))
 there_in_group first count group i has = subst (HasSpan first count) (sym (tips_split group i)) (has_right first count (tips_of (records_of (take i group))) (tips_of (records_of (drop i group))) has)

@@ -3,7 +3,8 @@ use Rattle.std.specs.Prelude.{◌≡◌, ◌≤◌, ℕ, List, length}
 use Rattle.std.specs.List.{flat_map, AllByRecursion}
 use Rattle.ots_store.specs.declared.form.Form.{Form}
 use Rattle.ots_store.specs.declared.form.Form.TheVariants.{Commit, Tip, Anchor}
-use Rattle.ots_store.specs.Records.{Record, CommitRecord, TipRecord, AnchorRecord, step_bytes, branch_bytes, steps_at, branch_at, anchor_payload, anchor_at, FitsAnchor, HasHash}
+use Rattle.ots_store.specs.Records.{Record, CommitRecord, TipRecord, AnchorRecord, step_bytes, branch_bytes, steps_at}
+use Rattle.ots_store.specs.Records.{branch_at, anchor_payload, anchor_at, FitsAnchor, HasHash}
 
 -- the kind, and of a tip and an anchor the first index and the count
 abbrev pub IsForm : Form → Record → Type 0

@@ -13,7 +13,7 @@ pub record HeldTold : Type 0 where
   -- how many commitments or tips more can be put in flight without taking memory
   pub spare : ℕ
 
--- These records are acknowledged, and those in flight behind them.
+-- These records are acknowledged, and those in flight after them.
 pub record Holds (kept flight : List Record) (held : HeldTold) : Type 0 where
   pub commitments : held.commitments.kept ≡ commits_of kept
   pub commitments_flight : held.commitments.flight ≡ commits_of flight

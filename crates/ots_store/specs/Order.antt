@@ -1,5 +1,6 @@
 -- The order of a calendar's records.
-use Rattle.std.specs.Prelude.{◌≡◌, ◌⊎◌, ◌<◌, ◌≤◌, ℕ, ◌+◌, max, Bool, nat_le, nat_lt, ◌&&◌, List, [], ◌∷◌, ◌++◌, length, take, map, slice_get, Some}
+use Rattle.std.specs.Prelude.{◌≡◌, ◌⊎◌, ◌<◌, ◌≤◌, ℕ, ◌+◌, max, Bool, nat_le, nat_lt, ◌&&◌, List, [], ◌∷◌, ◌++◌, length}
+use Rattle.std.specs.Prelude.{take, map, slice_get, Some}
 use Rattle.std.specs.List.{flat_map, AllByRecursion}
 use Rattle.ots_journal.specs.declared.entry.Entry.{Entry}
 use Rattle.ots_store.specs.declared.anchor.Anchor.{Anchor}
@@ -31,7 +32,7 @@ tips_of records = flat_map tip_in records
 abbrev pub anchors_of : List Record → List Anchor
 anchors_of records = flat_map anchor_in records
 
--- The index behind the last one of a tip, and of an anchor.
+-- The index after the last one of a tip, and of an anchor.
 abbrev pub tip_end : Tip → ℕ
 tip_end tip = tip.first + tip.count
 
@@ -80,13 +81,14 @@ InOrder before (r ∷ records) = Follows before r × InOrder (before ++ r ∷ []
 abbrev pub records_of : List Entry → List Record
 records_of entries = map record_of entries
 
--- Behind these records, entries spell records, in order.
+-- After these records, entries spell records, in order.
 pub record AreRecords (before : List Record) (entries : List Entry) : Type 0 where
   pub each : AllByRecursion IsRecord entries
   pub order : InOrder before (records_of entries)
 
--- Behind these records, this entry is the first that spells none, or none that may follow.
+-- After these records, this entry is the first that spells none, or none that may follow.
 pub record FirstBad (before : List Record) (entries : List Entry) (i : ℕ) : Type 0 where
   pub good : AreRecords before (take i entries)
   pub there : i < length entries
-  pub bad : (entry : Entry) → slice_get entries i ≡ Some entry → IsRecord entry → Follows (before ++ records_of (take i entries)) (record_of entry) → ⊥
+  pub bad : (entry : Entry) → slice_get entries i ≡ Some entry → IsRecord entry
+      → Follows (before ++ records_of (take i entries)) (record_of entry) → ⊥

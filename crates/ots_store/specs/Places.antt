@@ -18,9 +18,10 @@ key_cmp = then_cmp (on (λ (k : List ℕ × ℕ). k.0) (slice_cmp nat_cmp)) (on 
 abbrev pub IsWithin : ℕ → List ℕ → Type 0
 IsWithin n places = (j : ℕ) → j < length places → slice_index places j < n
 
--- No place is behind a later one.
+-- No place is after a later one.
 abbrev pub Rises : List ℕ → List (List ℕ) → Type 0
-Rises places all = (i j : ℕ) → i ≤ j → j < length places → is_gt (key_cmp (key_at all (slice_index places i)) (key_at all (slice_index places j))) ≡ false
+Rises places all = (i j : ℕ) → i ≤ j → j < length places → is_gt
+    (key_cmp (key_at all (slice_index places i)) (key_at all (slice_index places j))) ≡ false
 
 -- So many places, each once.
 pub record Are (n : ℕ) (places : List ℕ) : Type 0 where
@@ -35,14 +36,15 @@ pub record Indexes (n : ℕ) (places : List ℕ) (all : List (List ℕ)) : Type 
 
 -- ---- two parts that are merged
 
--- No place is behind a later one, but one before `high` may be behind one of the next `left`.
+-- No place is after a later one, but one before `high` may be after one of the next `left`.
 abbrev pub IsParted : ℕ → ℕ → List ℕ → List (List ℕ) → Type 0
-IsParted high left places all = (i j : ℕ) → i ≤ j → j < length places → (i < high → high ≤ j → high + left ≤ j) → is_gt (key_cmp (key_at all (slice_index places i)) (key_at all (slice_index places j))) ≡ false
+IsParted high left places all = (i j : ℕ) → i ≤ j → j < length places → (i < high → high ≤ j → high + left ≤ j)
+    → is_gt (key_cmp (key_at all (slice_index places i)) (key_at all (slice_index places j))) ≡ false
 
 -- What stood from `low` up to `middle` and from there up to `high` is exchanged.
 pub record Exchanged (low middle high : ℕ) (old new : List ℕ) : Type 0 where
   pub count : length new ≡ length old
-  pub front : (i : ℕ) → i < low → slice_index new i ≡ slice_index old i
+  pub prefix : (i : ℕ) → i < low → slice_index new i ≡ slice_index old i
   pub first : (i : ℕ) → i + middle < high → slice_index new (low + i) ≡ slice_index old (middle + i)
   pub second : (i : ℕ) → i + low < middle → slice_index new (low + (high - middle) + i) ≡ slice_index old (low + i)
   pub back : (i : ℕ) → high ≤ i → slice_index new i ≡ slice_index old i

@@ -6,10 +6,11 @@ use Rattle.ots_store.specs.declared.tip.Tip.{Tip}
 use Rattle.ots_store.specs.Records.{Record}
 use Rattle.ots_store.specs.Order.{commits_of, tips_of, anchors_of, tip_end, anchor_end, covered_of}
 
--- Each anchor begins at or before the end of the one before it, and ends behind that.
+-- Each anchor begins at or before the end of the one before it, and ends after that.
 abbrev pub RisesFrom : ℕ → List Anchor → Type 0
 RisesFrom base [] = Unit {0}
-RisesFrom base (anchor ∷ anchors) = (anchor.first ≤ base) × (base < anchor_end anchor) × RisesFrom (anchor_end anchor) anchors
+RisesFrom base (anchor ∷ anchors) = (anchor.first ≤ base) × (base < anchor_end anchor)
+    × RisesFrom (anchor_end anchor) anchors
 
 -- The end of the last anchor.
 abbrev pub reach : ℕ → List Anchor → ℕ
@@ -19,10 +20,10 @@ reach base (anchor ∷ anchors) = reach (anchor_end anchor) anchors
 abbrev pub EndsBy : ℕ → Anchor → Type 0
 EndsBy i anchor = anchor_end anchor ≤ i
 
--- The first of these, where there is one, ends behind an index.
-abbrev pub BeginsBehind : ℕ → List Anchor → Type 0
-BeginsBehind i [] = Unit {0}
-BeginsBehind i (anchor ∷ anchors) = i < anchor_end anchor
+-- The first of these, where there is one, ends after an index.
+abbrev pub BeginsAfter : ℕ → List Anchor → Type 0
+BeginsAfter i [] = Unit {0}
+BeginsAfter i (anchor ∷ anchors) = i < anchor_end anchor
 
 -- A tip begins by what is covered, and ends by the last commitment.
 abbrev pub IsWithin : ℕ → ℕ → Tip → Type 0

@@ -1,7 +1,9 @@
 -- The records of a calendar, and the entry of the journal that each is spelled as.
-use Rattle.std.specs.Prelude.{◌≡◌, ◌<◌, ◌≤◌, ◌==◌, ℕ, ◌+◌, ◌^◌, zero, suc, if◌then◌else◌, List, [], ◌∷◌, ◌++◌, length, take, drop, slice_index}
+use Rattle.std.specs.Prelude.{◌≡◌, ◌<◌, ◌≤◌, ◌==◌, ℕ, ◌+◌, ◌^◌, zero, suc, if◌then◌else◌, List, [], ◌∷◌, ◌++◌, length}
+use Rattle.std.specs.Prelude.{take, drop, slice_index}
 use Rattle.std.specs.Int.{w16, w64, to_be_bytes, from_be_bytes}
 use Rattle.std.specs.List.{flat_map, AllByRecursion}
+use Rattle.ots_base.specs.declared.limits.TheConstants.{MAX_MESSAGE}
 use Rattle.ots_journal.specs.declared.entry.Entry.{Entry}
 use Rattle.ots_merkle.specs.declared.branch.Side.{Side}
 use Rattle.ots_merkle.specs.declared.branch.Side.TheVariants.{Left, Right}
@@ -59,20 +61,20 @@ pub record FitsTip (tip : Tip) : Type 0 where
 abbrev pub HasHash : Side × List ℕ → Type 0
 HasHash step = length step.1 ≡ 32
 
--- A transaction is hashed as a message of at most 4096 bytes, the root among them.
+-- A transaction is hashed as a message of at most MAX_MESSAGE bytes, the root among them.
 pub record FitsAnchor (anchor : Anchor) : Type 0 where
   pub first : anchor.first < 2 ^ 64
   pub count : anchor.count < 2 ^ 64
   pub height : anchor.height < 2 ^ 63
   pub root : length anchor.root ≡ 32
-  pub message : length anchor.prefix + length anchor.suffix + 32 ≤ 4096
+  pub message : length anchor.prefix + length anchor.suffix + 32 ≤ MAX_MESSAGE
   pub steps : length anchor.branch ≤ 32
   pub hashes : AllByRecursion HasHash anchor.branch
 
 -- What the type of an anchor leaves open of this.
 pub record FitsLimits (anchor : Anchor) : Type 0 where
   pub height : anchor.height < 2 ^ 63
-  pub message : length anchor.prefix + length anchor.suffix + 32 ≤ 4096
+  pub message : length anchor.prefix + length anchor.suffix + 32 ≤ MAX_MESSAGE
   pub steps : length anchor.branch ≤ 32
 
 abbrev pub HasForm : Record → Type 0
@@ -91,7 +93,7 @@ tip_at payload = record { first = number payload; count = number (drop 8 payload
 abbrev pub short : List ℕ → ℕ
 short bytes = from_be_bytes w16 (take 2 bytes)
 
--- The bytes that lie sized at the front, and what lies behind them.
+-- The bytes that lie sized at the start, and what lies after them.
 abbrev pub part : List ℕ → List ℕ
 part bytes = take (short bytes) (drop 2 bytes)
 
@@ -121,7 +123,8 @@ anchor_at payload = record {
 
 abbrev pub record_of : Entry → Record
 record_of entry =
-    if entry.kind == 1 then CommitRecord entry.payload else (if entry.kind == 2 then TipRecord (tip_at entry.payload) else AnchorRecord (anchor_at entry.payload))
+    if entry.kind == 1 then CommitRecord entry.payload else (if entry.kind == 2 then TipRecord (tip_at entry.payload)
+    else AnchorRecord (anchor_at entry.payload))
 
 -- An entry is the spelling of a record of good form.
 pub record IsRecord (entry : Entry) : Type 0 where

@@ -1,11 +1,13 @@
 -- What contracts see of a store.
-use Rattle.std.specs.Prelude.{◌≡◌, ◌⊎◌, ◌<◌, ◌≤◌, ℕ, ◌/◌, min, true, false, List, [], ◌++◌, length, Option, Result, Ok, Err}
+use Rattle.std.specs.Prelude.{◌≡◌, ◌⊎◌, ◌<◌, ◌≤◌, ℕ, ◌/◌, min, true, false, List, [], ◌++◌, length, Option, Result, Ok}
+use Rattle.std.specs.Prelude.{Err}
 use Rattle.ots_disk.specs.Disk.{LeavesOnly}
 use Rattle.ots_journal.specs.declared.entry.Entry.{Entry}
 use Rattle.ots_journal.specs.declared.errors.AppendError.{AppendError}
 use Rattle.ots_journal.specs.declared.errors.AppendError.TheVariants.{DiskFault, Full, OutOfMemory}
 use Rattle.ots_journal.specs.Image.{Stands}
-use Rattle.ots_journal.specs.Journal.{JournalTold, StandsForEither, StandsNow, Refreshed, Unrefreshed, Put, InFlight, size_with}
+use Rattle.ots_journal.specs.Journal.{JournalTold, StandsForEither, StandsNow, Refreshed, Unrefreshed, Put, InFlight}
+use Rattle.ots_journal.specs.Journal.{size_with}
 use Rattle.ots_store.specs.Held.{HeldTold, Holds}
 use Rattle.ots_store.specs.Order.{AreRecords, records_of}
 use Rattle.ots_store.specs.Records.{Record}
@@ -27,28 +29,33 @@ pub record StandsForRecords (bytes : List ℕ) : Type 0 where
   pub stands : Stands bytes entries
   pub records : InRecords entries
 
--- What every store keeps: its entries spell records in order, and so do these with the group in flight. Every image of the
--- disk stands for one of the two.
-pub record StoreStands {D : Type 0} (bytes : D → Option (List ℕ)) (images : D → List ℕ → Type 0) (s : StoreTold D) : Type 0 where
+-- What every store keeps: its entries spell records in order, and so do these with the group in flight. Every image of
+-- the disk stands for one of the two.
+pub record StoreStands {D : Type 0} (bytes : D → Option (List ℕ)) (images : D → List ℕ → Type 0)
+    (s : StoreTold D) : Type 0 where
   pub journal : StandsNow bytes images s.journal
   pub records : s.records ≡ records_of s.journal.entries
   pub are : InRecords s.journal.entries
   pub flying : s.journal.is_sure ≡ false → InRecords (s.journal.entries ++ s.journal.flight)
   pub each : (c : List ℕ) → images s.journal.disk c → StandsForRecords c
 
--- The records in memory are those of the journal's entries, and behind them those of the group in flight.
+-- The records in memory are those of the journal's entries, and after them those of the group in flight.
 pub record Keeps {D : Type 0} (journal : JournalTold D) (held : HeldTold) : Type 0 where
   pub are : InRecords journal.entries
   pub flight : List Record
   pub holds : Holds (records_of journal.entries) flight held
   pub settled : journal.is_sure ≡ true → flight ≡ []
-  pub flying : journal.is_sure ≡ false → AreRecords (records_of journal.entries) journal.flight × (flight ≡ records_of journal.flight)
+  pub flying : journal.is_sure ≡ false → AreRecords (records_of journal.entries) journal.flight
+      × (flight ≡ records_of journal.flight)
 
 -- ---- room
 
 -- The journal with so much room.
 abbrev pub with_room : {D : Type 0} → JournalTold D → ℕ → ℕ → JournalTold D
-with_room journal spare_entries spare_bytes = record journal { spare_entries = spare_entries; spare_bytes = spare_bytes }
+with_room journal spare_entries spare_bytes = record journal {
+  spare_entries = spare_entries;
+  spare_bytes = spare_bytes;
+}
 
 -- A journal may have more room, and else it is as before: its disk made no call.
 pub record MakesRoom {D : Type 0} (old new : JournalTold D) : Type 0 where
@@ -66,18 +73,23 @@ spare_in journal held = min held.spare (min journal.spare_entries (journal.spare
 abbrev pub AddOutcome : {D A : Type 0} → JournalTold D → JournalTold D → List Entry → Result A AppendError → Type 0
 AddOutcome old new group (Ok x) = Put old new group (length old.entries)
 AddOutcome old new group (Err DiskFault) = InFlight old new group
-AddOutcome old new group (Err (Full need limit)) = (new ≡ old) × (need ≡ size_with old.gate group) × (limit ≡ old.limit) × (old.limit < size_with old.gate group)
+AddOutcome old new group (Err (Full need limit)) = (new ≡ old) × (need ≡ size_with old.gate group) × (limit ≡ old.limit)
+    × (old.limit < size_with old.gate group)
 AddOutcome old new group (Err OutOfMemory) = new ≡ old
 
 -- A group is added to a sure journal. Where it does not fit the limit, the answer says so, or memory ran out. At every
 -- moment each image stands for the entries before, or for these and all of the group.
-pub record Added {D A : Type 0} (clock : D → ℕ) (images_since : D → ℕ → List ℕ → Type 0) (old new : JournalTold D) (group : List Entry) (result : Result A AppendError) : Type 0 where
+pub record Added {D A : Type 0} (clock : D → ℕ) (images_since : D → ℕ → List ℕ → Type 0) (old new : JournalTold D)
+    (group : List Entry) (result : Result A AppendError) : Type 0 where
   pub outcome : AddOutcome old new group result
-  pub full : old.limit < size_with old.gate group → (result ≡ Err (Full (size_with old.gate group) old.limit)) ⊎ (result ≡ Err OutOfMemory)
+  pub full : old.limit < size_with old.gate group → (result ≡ Err (Full (size_with old.gate group) old.limit))
+      ⊎ (result ≡ Err OutOfMemory)
   pub at_any_moment : LeavesOnly clock images_since old.disk new.disk (StandsForEither old.entries group)
 
--- The same behind a refresh of its own that answered Ok, before which it took the memory that it needs.
-pub record AddsAfter {D A : Type 0} (bytes : D → Option (List ℕ)) (clock : D → ℕ) (images_since : D → ℕ → List ℕ → Type 0) (old new : JournalTold D) (group : List Entry) (result : Result A AppendError) : Type 0 where
+-- The same after a refresh of its own that answered Ok, before which it took the memory that it needs.
+pub record AddsAfter {D A : Type 0} (bytes : D → Option (List ℕ)) (clock : D → ℕ)
+    (images_since : D → ℕ → List ℕ → Type 0) (old new : JournalTold D) (group : List Entry)
+    (result : Result A AppendError) : Type 0 where
   -- the room that the journal has at the refresh
   pub spare_entries : ℕ
   pub spare_bytes : ℕ
@@ -89,7 +101,8 @@ pub record AddsAfter {D A : Type 0} (bytes : D → Option (List ℕ)) (clock : D
   pub has_room : result ≡ Err OutOfMemory → ⊥
 
 -- A refresh of its own that failed adds nothing, and puts nothing in flight.
-pub record AddsNothing {D A : Type 0} (bytes : D → Option (List ℕ)) (clock : D → ℕ) (images_since : D → ℕ → List ℕ → Type 0) (old new : JournalTold D) (result : Result A AppendError) : Type 0 where
+pub record AddsNothing {D A : Type 0} (bytes : D → Option (List ℕ)) (clock : D → ℕ)
+    (images_since : D → ℕ → List ℕ → Type 0) (old new : JournalTold D) (result : Result A AppendError) : Type 0 where
   -- the room that the journal has at the refresh
   pub spare_entries : ℕ
   pub spare_bytes : ℕ
@@ -102,13 +115,18 @@ pub record AddsUntouched {D A : Type 0} (old new : JournalTold D) (result : Resu
   pub room : MakesRoom old new
   pub no_memory : result ≡ Err OutOfMemory
 
-abbrev pub Adds : {D A : Type 0} → (D → Option (List ℕ)) → (D → ℕ) → (D → ℕ → List ℕ → Type 0) → JournalTold D → JournalTold D → List Entry → Result A AppendError → Type 0
+abbrev pub Adds : {D A : Type 0} → (D → Option (List ℕ)) → (D → ℕ) → (D → ℕ → List ℕ → Type 0) → JournalTold D
+    → JournalTold D → List Entry → Result A AppendError → Type 0
 Adds bytes clock images_since old new group result =
-    AddsAfter bytes clock images_since old new group result ⊎ AddsNothing bytes clock images_since old new result ⊎ AddsUntouched old new result
+    AddsAfter bytes clock images_since old new group result ⊎ AddsNothing bytes clock images_since old new result
+    ⊎ AddsUntouched old new result
 
 -- What is in flight in memory after an append: all of it is acknowledged, or stays in flight, or is taken away.
 abbrev pub Settles : Result ℕ AppendError → Result (Unit {0}) AppendError → HeldTold → HeldTold → Type 0
-Settles (Ok first) result old new = (result ≡ Ok tt) × ((kept flight : List Record) → Holds kept flight old → Holds (kept ++ flight) [] new)
+Settles (Ok first) result old new = (result ≡ Ok tt) × ((kept flight : List Record) → Holds kept flight old
+    → Holds (kept ++ flight) [] new)
 Settles (Err DiskFault) result old new = (result ≡ Err DiskFault) × (new ≡ old)
-Settles (Err (Full need limit)) result old new = (result ≡ Err (Full need limit)) × ((kept flight : List Record) → Holds kept flight old → Holds kept [] new)
-Settles (Err OutOfMemory) result old new = (result ≡ Err OutOfMemory) × ((kept flight : List Record) → Holds kept flight old → Holds kept [] new)
+Settles (Err (Full need limit)) result old new = (result ≡ Err (Full need limit))
+    × ((kept flight : List Record) → Holds kept flight old → Holds kept [] new)
+Settles (Err OutOfMemory) result old new = (result ≡ Err OutOfMemory)
+    × ((kept flight : List Record) → Holds kept flight old → Holds kept [] new)

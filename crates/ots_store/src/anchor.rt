@@ -14,7 +14,7 @@ pub struct Anchor {
     pub root: [u8; 32],
     /// What stands before the root in the transaction.
     pub prefix: Bytes,
-    /// What stands behind it.
+    /// What stands after it.
     pub suffix: Bytes,
     /// The way from the transaction to the block's root.
     pub branch: Branch,

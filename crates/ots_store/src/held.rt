@@ -1,5 +1,6 @@
 //! The records in memory, and the index of their commitments.
-ghost use Rattle.std.specs.Prelude.{◌≡◌, ◌≢◌, ◌≤◌, ◌<◌, ◌^◌, ◌++◌, ◌∷◌, [], List, length, find, IsOk, IfOk, OnOk, OnErr};
+ghost use Rattle.std.specs.Prelude.{◌≡◌, ◌≢◌, ◌≤◌, ◌<◌, ◌^◌, ◌++◌, ◌∷◌, [], List, length, find, IsOk, IfOk, OnOk};
+ghost use Rattle.std.specs.Prelude.{OnErr};
 ghost use Rattle.std.specs.Option.{option_copied};
 ghost use Rattle.ots_store.specs.Records.{Record, record_of, IsRecord};
 ghost use Rattle.ots_store.specs.Order.{covers, covered_by};
@@ -31,7 +32,8 @@ impl Model for Held {
     ghost Value = { HeldTold };
 
     ghost view = { λ h. record h.lists {
-      spare = min h.lists.spare (vec_capacity h.index.places - (length h.lists.commitments.kept + length h.lists.commitments.flight));
+      spare = min h.lists.spare (vec_capacity h.index.places -
+          (length h.lists.commitments.kept + length h.lists.commitments.flight));
     } };
 
     ghost invariant = { λ h. Indexes (length h.lists.commitments.kept) h.index.places.items h.lists.commitments.kept
@@ -97,12 +99,14 @@ impl Held {
         self.index.reserve(more)
     }
 
-    /// Puts a record in flight behind those that are. A commitment and a tip take memory only where
+    /// Puts a record in flight after those that are. A commitment and a tip take memory only where
     /// none is spare.
     pub fn stage(&mut self, kind: u8, payload: &[u8]) -> Result<(), OutOfMemory>
         requires { IsRecord (record { kind = kind; payload = payload.now }) }
-        ensures ok { OnOk result ((kept flight : List Record) → Holds kept flight self.old → Holds kept (flight ++ record_of (record { kind = kind; payload = payload.now }) ∷ []) self.new) }
-        ensures err { OnErr result ((kept flight : List Record) → Holds kept flight self.old → Holds kept flight self.new) }
+        ensures ok { OnOk result ((kept flight : List Record) → Holds kept flight self.old
+            → Holds kept (flight ++ record_of (record { kind = kind; payload = payload.now }) ∷ []) self.new) }
+        ensures err { OnErr result ((kept flight : List Record) → Holds kept flight self.old
+            → Holds kept flight self.new) }
         ensures not_refused { 0 < self.old.spare → kind ≢ 3 → IsOk result }
     {
         let more = self.lists.commitments_in_flight() + 1;

@@ -1,5 +1,6 @@
 //! The commitments in order, each as the place at which it stands.
-ghost use Rattle.std.specs.Prelude.{◌≡◌, ◌≤◌, ◌<◌, ◌+◌, ◌-◌, ◌^◌, ℕ, length, true, false, vec_len, vec_capacity, IsOk, IfOk, OnOk, OnErr, slice_index, slice_index_or};
+ghost use Rattle.std.specs.Prelude.{◌≡◌, ◌≤◌, ◌<◌, ◌+◌, ◌-◌, ◌^◌, ℕ, length, true, false, vec_len, vec_capacity, IsOk};
+ghost use Rattle.std.specs.Prelude.{IfOk, OnOk, OnErr, slice_index, slice_index_or};
 ghost use Rattle.std.specs.List.Sorted.{IsPermutation};
 ghost use Rattle.std.specs.Ordering.{is_lt, is_gt};
 ghost use Rattle.ots_store.specs.Index.{least};
@@ -53,7 +54,7 @@ impl Index {
         Ok(())
     }
 
-    /// Adds the commitments behind those that are indexed. It takes no memory.
+    /// Adds the commitments after those that are indexed. It takes no memory.
     pub fn catch_up(&mut self, all: &[[u8; 44]])
         requires few { length all.now ≤ 2 ^ 32 }
         requires room { length all.now ≤ vec_capacity self.old.places }
@@ -68,12 +69,12 @@ impl Index {
             let _ = self.places.push(place as u32);
         }
         let places = self.places.as_mut_slice();
-        sort_behind(places, all, indexed);
+        sort_after(places, all, indexed);
         merge(places, all, indexed);
     }
 }
 
-// So many places, in turn.
+/// So many places, in turn.
 fn in_turn(alloc: Global, count: usize) -> Result<Vec<u32>, OutOfMemory>
     requires { count ≤ 2 ^ 32 }
     ensures count { IfOk result (λ places. vec_len places ≡ count) }
@@ -86,18 +87,20 @@ fn in_turn(alloc: Global, count: usize) -> Result<Vec<u32>, OutOfMemory>
     Ok(places)
 }
 
-// Sorts the places from one on.
-fn sort_behind(places: &mut [u32], all: &[[u8; 44]], from: usize)
+/// Sorts the places from one on.
+fn sort_after(places: &mut [u32], all: &[[u8; 44]], from: usize)
     requires { from ≤ length places.old }
     ensures moves { IsPermutation places.old places.new }
-    ensures front { (i : ℕ) → i < from → slice_index places.new i ≡ slice_index places.old i }
-    ensures behind { (i j : ℕ) → from ≤ i → i ≤ j → j < length places.old → is_gt (key_cmp (key_at all.now (slice_index places.new i)) (key_at all.now (slice_index places.new j))) ≡ false }
+    ensures prefix { (i : ℕ) → i < from → slice_index places.new i ≡ slice_index places.old i }
+    ensures after { (i j : ℕ) → from ≤ i → i ≤ j → j < length places.old
+        → is_gt (key_cmp (key_at all.now (slice_index places.new i)) (key_at all.now (slice_index places.new j)))
+        ≡ false }
 {
     places[from..].sort_unstable_by(|a, b| order(all, *a, *b));
 }
 
-// Merges the places from one on with those before it, the last of them first: so each of the others
-// is moved once, whatever their number.
+/// Merges the places from one on with those before it, the last of them first: so each of the others
+/// is moved once, whatever their number.
 fn merge(places: &mut [u32], all: &[[u8; 44]], from: usize)
     requires from { from ≤ length places.old }
     requires are { Are (length places.old) places.old }
@@ -113,8 +116,8 @@ fn merge(places: &mut [u32], all: &[[u8; 44]], from: usize)
     }
 }
 
-// Moves the `left` places from `high` on in front of those before them that are behind the last one,
-// which then stands where it belongs. It answers where they begin.
+/// Moves the `left` places from `high` on before those before them that are after the last one,
+/// which then stands where it belongs. It answers where they begin.
 fn sink(places: &mut [u32], all: &[[u8; 44]], high: usize, left: usize) -> usize
     requires some { 0 < left }
     requires there { high + left ≤ length places.old }
@@ -130,7 +133,7 @@ fn sink(places: &mut [u32], all: &[[u8; 44]], high: usize, left: usize) -> usize
     at
 }
 
-// Exchanges what stands from `low` up to `middle` and from there up to `high`.
+/// Exchanges what stands from `low` up to `middle` and from there up to `high`.
 fn exchange(places: &mut [u32], low: usize, middle: usize, high: usize)
     requires low { low ≤ middle }
     requires middle { middle ≤ high }
@@ -141,13 +144,15 @@ fn exchange(places: &mut [u32], low: usize, middle: usize, high: usize)
     places[low..high].rotate_left(middle - low);
 }
 
-// Where the first place stands that is not before this one of a commitment.
+/// Where the first place stands that is not before this one of a commitment.
 fn first_from(places: &[u32], all: &[[u8; 44]], commitment: &[u8; 44], place: u32) -> usize
     requires within { IsWithin (length all.now) places.now }
     requires rises { Rises places.now all.now }
     ensures bound { result ≤ length places.now }
-    ensures before { (j : ℕ) → j < result → is_lt (key_cmp (key_at all.now (slice_index places.now j)) (commitment.now, place)) ≡ true }
-    ensures behind { (j : ℕ) → result ≤ j → j < length places.now → is_lt (key_cmp (key_at all.now (slice_index places.now j)) (commitment.now, place)) ≡ false }
+    ensures before { (j : ℕ) → j < result
+        → is_lt (key_cmp (key_at all.now (slice_index places.now j)) (commitment.now, place)) ≡ true }
+    ensures after { (j : ℕ) → result ≤ j → j < length places.now
+        → is_lt (key_cmp (key_at all.now (slice_index places.now j)) (commitment.now, place)) ≡ false }
 {
     let mut low = 0;
     let mut high = places.len();
@@ -162,7 +167,7 @@ fn first_from(places: &[u32], all: &[[u8; 44]], commitment: &[u8; 44], place: u3
     low
 }
 
-// Whether a place is before another one, of a commitment that may be any.
+/// Whether a place is before another one, of a commitment that may be any.
 fn is_before(all: &[[u8; 44]], place: u32, commitment: &[u8; 44], other: u32) -> bool
     requires { place < length all.now }
     ensures { result ≡ is_lt (key_cmp (key_at all.now place) (commitment.now, other)) }
@@ -173,7 +178,7 @@ fn is_before(all: &[[u8; 44]], place: u32, commitment: &[u8; 44], other: u32) ->
         .is_lt()
 }
 
-// The order of two places.
+/// The order of two places.
 fn order(all: &[[u8; 44]], a: u32, b: u32) -> Ordering
     ensures { result ≡ key_cmp (key_at all.now a) (key_at all.now b) }
 {
@@ -182,7 +187,7 @@ fn order(all: &[[u8; 44]], a: u32, b: u32) -> Ordering
         .then(a.cmp(&b))
 }
 
-// What stands at a place that is none.
+/// What stands at a place that is none.
 static NOTHING: [u8; 44] = [0; 44];
 
 fn commitment_at(all: &[[u8; 44]], place: u32) -> &[u8; 44]

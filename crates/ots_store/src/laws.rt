@@ -7,7 +7,8 @@ ghost use Rattle.ots_store.specs.Ranges.{Orderly};
 
 /// A record's spelling determines it.
 pub fn one_record()
-    ensures { (first second : Record) → HasForm first → HasForm second → entry_of first ≡ entry_of second → first ≡ second }
+    ensures { (first second : Record) → HasForm first → HasForm second → entry_of first ≡ entry_of second
+        → first ≡ second }
 {}
 
 /// An entry spells a record exactly where it is the spelling of one.
@@ -17,12 +18,14 @@ pub fn records_are_spelled()
 
 /// Among entries that spell records in order there is no first bad one.
 pub fn records_are_not_bad()
-    ensures { (before : List Record) (entries : List Entry) (i : ℕ) → AreRecords before entries → FirstBad before entries i → ⊥ }
+    ensures { (before : List Record) (entries : List Entry) (i : ℕ) → AreRecords before entries
+        → FirstBad before entries i → ⊥ }
 {}
 
 /// There is one first bad entry at most.
 pub fn one_first_bad()
-    ensures { (before : List Record) (entries : List Entry) (first second : ℕ) → FirstBad before entries first → FirstBad before entries second → first ≡ second }
+    ensures { (before : List Record) (entries : List Entry) (first second : ℕ) → FirstBad before entries first
+        → FirstBad before entries second → first ≡ second }
 {}
 
 /// Records in order have ranges that rise.

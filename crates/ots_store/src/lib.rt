@@ -13,7 +13,7 @@
 //! | [`Store::refresh`] | after a fault: whether the records in flight are kept |
 //! | [`Store::index_of`], [`Store::anchor_of`] | by the index and the ranges, with no walk |
 //!
-//! The records in flight lie in memory behind the acknowledged ones, and the index has room for
+//! The records in flight lie in memory after the acknowledged ones, and the index has room for
 //! them, so that a refresh takes no memory. Beside the entries themselves each commitment is held
 //! once, and the index is the list of their places in the order of the commitments, four bytes each.
 #![tactic(auto)]

@@ -15,7 +15,7 @@ use ots_base::OutOfMemory;
 use std::alloc::Global;
 use std::marker::Model;
 
-/// The records of a store by kind, those in flight behind the acknowledged ones.
+/// The records of a store by kind, those in flight after the acknowledged ones.
 #[derive(Drop)]
 pub struct Lists {
     alloc: Global,
@@ -105,12 +105,14 @@ impl Lists {
         self.tips.reserve(more)
     }
 
-    /// Puts a record in flight behind those that are. A commitment and a tip take memory only where
+    /// Puts a record in flight after those that are. A commitment and a tip take memory only where
     /// none is spare.
     pub fn stage(&mut self, kind: u8, payload: &[u8]) -> Result<(), OutOfMemory>
         requires { IsRecord (record { kind = kind; payload = payload.now }) }
-        ensures ok { OnOk result ((kept flight : List Record) → Holds kept flight self.old → Holds kept (flight ++ record_of (record { kind = kind; payload = payload.now }) ∷ []) self.new) }
-        ensures err { OnErr result ((kept flight : List Record) → Holds kept flight self.old → Holds kept flight self.new) }
+        ensures ok { OnOk result ((kept flight : List Record) → Holds kept flight self.old
+            → Holds kept (flight ++ record_of (record { kind = kind; payload = payload.now }) ∷ []) self.new) }
+        ensures err { OnErr result ((kept flight : List Record) → Holds kept flight self.old
+            → Holds kept flight self.new) }
         ensures kept { self.new.commitments.kept ≡ self.old.commitments.kept }
         ensures one { length self.new.commitments.flight ≤ length self.old.commitments.flight + 1 }
         ensures not_refused { 0 < self.old.spare → kind ≢ 3 → IsOk result }

@@ -1,11 +1,12 @@
 //! A list whose last items are not acknowledged yet.
-ghost use Rattle.std.specs.Prelude.{◌≡◌, ◌≤◌, ◌<◌, ◌+◌, ◌++◌, ◌∷◌, [], ◌^◌, length, IsOk, IfOk, OnOk, OnErr, MatchOption};
+ghost use Rattle.std.specs.Prelude.{◌≡◌, ◌≤◌, ◌<◌, ◌+◌, ◌++◌, ◌∷◌, [], ◌^◌, length, IsOk, IfOk, OnOk, OnErr};
+ghost use Rattle.std.specs.Prelude.{MatchOption};
 
 use ots_base::OutOfMemory;
 use std::alloc::Global;
 use std::marker::Model;
 
-/// Items that are acknowledged, and behind them some that are in flight.
+/// Items that are acknowledged, and after them some that are in flight.
 #[derive(Drop)]
 pub struct Marked<T: Drop> {
     items: Vec<T>,

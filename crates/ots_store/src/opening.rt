@@ -1,5 +1,6 @@
 //! Entries taken as records, one after another.
-ghost use Rattle.std.specs.Prelude.{◌≡◌, ◌≤◌, ◌<◌, ◌+◌, ◌^◌, ◌++◌, ◌∷◌, [], List, ℕ, length, true, false, IfOk, IfErr, OnOk, OnErr, MatchOption};
+ghost use Rattle.std.specs.Prelude.{◌≡◌, ◌≤◌, ◌<◌, ◌+◌, ◌^◌, ◌++◌, ◌∷◌, [], List, ℕ, length, true, false, IfOk, IfErr};
+ghost use Rattle.std.specs.Prelude.{OnOk, OnErr, MatchOption};
 ghost use Rattle.std.specs.List.{AllByRecursion};
 ghost use Rattle.ots_store.specs.Records.{Record, record_of, IsRecord};
 ghost use Rattle.ots_store.specs.Order.{Follows, InOrder, AreRecords, FirstBad, records_of};
@@ -39,7 +40,7 @@ pub fn hold_records<D: Disk>(alloc: Global, journal: &Journal<D>) -> Result<Held
     Ok(Held::of(alloc, lists)?)
 }
 
-// Holds one entry more, where it spells a record that may follow.
+/// Holds one entry more, where it spells a record that may follow.
 fn hold_next(
     lists: &mut Lists,
     progress: &mut Progress,
@@ -49,8 +50,11 @@ fn hold_next(
     requires passed { Passed lists.old.tips.kept [] progress.old }
     requires few { progress.old.commits < 2 ^ 63 }
     ensures few { progress.new.commits ≤ progress.old.commits + 1 }
-    ensures yes { IfOk result (λ follows. follows ≡ true → (before : List Record) → HeldTo before lists.old progress.old → HeldNext before (record { kind = kind; payload = payload.now }) lists.new progress.new) }
-    ensures no { IfOk result (λ follows. follows ≡ false → (before : List Record) → HeldTo before lists.old progress.old → IsRecord (record { kind = kind; payload = payload.now }) → Follows before (record_of (record { kind = kind; payload = payload.now })) → ⊥) }
+    ensures yes { IfOk result (λ follows. follows ≡ true → (before : List Record) → HeldTo before lists.old progress.old
+        → HeldNext before (record { kind = kind; payload = payload.now }) lists.new progress.new) }
+    ensures no { IfOk result (λ follows. follows ≡ false → (before : List Record) → HeldTo before lists.old progress.old
+        → IsRecord (record { kind = kind; payload = payload.now })
+        → Follows before (record_of (record { kind = kind; payload = payload.now })) → ⊥) }
 {
     let Some(form) = form_of(kind, payload) else {
         return Ok(false);
@@ -63,11 +67,13 @@ fn hold_next(
     Ok(true)
 }
 
-/// Puts entries in flight, all or some front of them.
+/// Puts entries in flight, all or some prefix of them.
 pub fn stage_entries(held: &mut Held, entries: &[Entry]) -> Result<(), OutOfMemory>
     requires { AllByRecursion IsRecord entries.now }
-    ensures ok { OnOk result ((kept flight : List Record) → Holds kept flight held.old → Holds kept (flight ++ records_of entries.now) held.new) }
-    ensures err { OnErr result ((kept flight : List Record) → Holds kept flight held.old → (some : List Record) × Holds kept some held.new) }
+    ensures ok { OnOk result ((kept flight : List Record) → Holds kept flight held.old
+        → Holds kept (flight ++ records_of entries.now) held.new) }
+    ensures err { OnErr result ((kept flight : List Record) → Holds kept flight held.old
+        → (some : List Record) × Holds kept some held.new) }
 {
     for entry in entries {
         held.stage(entry.kind, entry.payload.items())?;
@@ -80,7 +86,8 @@ pub fn first_bad(tips: &[Tip], before: &Progress, entries: &[Entry]) -> Option<u
     requires tips { before.now.tips ≡ 0 }
     requires group { before.now.group ≡ 0 }
     requires few { before.now.commits < 2 ^ 32 }
-    ensures { (records : List Record) → InOrder [] records → IsProgress records tips.now [] before.now → MatchOption result (AreRecords records entries.now) (FirstBad records entries.now) }
+    ensures { (records : List Record) → InOrder [] records → IsProgress records tips.now [] before.now
+        → MatchOption result (AreRecords records entries.now) (FirstBad records entries.now) }
 {
     let mut progress = *before;
     for (i, entry) in entries.iter().enumerate() {
@@ -91,7 +98,7 @@ pub fn first_bad(tips: &[Tip], before: &Progress, entries: &[Entry]) -> Option<u
     None
 }
 
-// Whether an entry spells a record that may follow.
+/// Whether an entry spells a record that may follow.
 fn follows_next(progress: &mut Progress, tips: &[Tip], group: &[Entry], entry: &Entry) -> bool
     requires passed { Passed tips.now group.now progress.old }
     requires each { AllByRecursion IsRecord group.now }
@@ -99,8 +106,12 @@ fn follows_next(progress: &mut Progress, tips: &[Tip], group: &[Entry], entry: &
     ensures few { progress.new.commits ≤ progress.old.commits + 1 }
     ensures passed { Passed tips.now group.now progress.new }
     ensures is { result ≡ true → IsRecord entry.now }
-    ensures yes { result ≡ true → (before : List Record) → InOrder [] before → FollowTo before group.now tips.now progress.old → FollowTo before (group.now ++ entry.now ∷ []) tips.now progress.new }
-    ensures no { result ≡ false → (before : List Record) → InOrder [] before → FollowTo before group.now tips.now progress.old → IsRecord entry.now → Follows (before ++ records_of group.now) (record_of entry.now) → ⊥ }
+    ensures yes { result ≡ true → (before : List Record) → InOrder [] before
+        → FollowTo before group.now tips.now progress.old → FollowTo before (group.now ++ entry.now ∷ []) tips.now
+        progress.new }
+    ensures no { result ≡ false → (before : List Record) → InOrder [] before
+        → FollowTo before group.now tips.now progress.old → IsRecord entry.now
+        → Follows (before ++ records_of group.now) (record_of entry.now) → ⊥ }
 {
     match form_of(entry.kind, entry.payload.items()) {
         Some(form) => may_follow(&form, tips, group, progress),

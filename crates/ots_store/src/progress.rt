@@ -31,10 +31,16 @@ pub fn may_follow(form: &Form, tips: &[Tip], group: &[Entry], progress: &mut Pro
     requires few { progress.old.commits < 2 ^ 63 }
     ensures passed { Passed tips.now group.now progress.new }
     ensures few { progress.new.commits ≤ progress.old.commits + 1 }
-    ensures yes { result ≡ true → (before : List Record) (r : Record) → Orderly before → IsProgress before tips.now group.now progress.old → IsForm form.now r → Follows before r }
-    ensures commits { result ≡ true → (before : List Record) (r : Record) → IsProgress before tips.now group.now progress.old → IsForm form.now r → progress.new.commits ≡ length (commits_of (before ++ r ∷ [])) }
-    ensures covered { result ≡ true → (before : List Record) (r : Record) → Orderly before → IsProgress before tips.now group.now progress.old → IsForm form.now r → progress.new.covered ≡ covered_of (before ++ r ∷ []) }
-    ensures no { result ≡ false → (before : List Record) (r : Record) → Orderly before → IsProgress before tips.now group.now progress.old → IsForm form.now r → Follows before r → ⊥ }
+    ensures yes { result ≡ true → (before : List Record) (r : Record) → Orderly before
+        → IsProgress before tips.now group.now progress.old → IsForm form.now r → Follows before r }
+    ensures commits { result ≡ true → (before : List Record) (r : Record)
+        → IsProgress before tips.now group.now progress.old → IsForm form.now r
+        → progress.new.commits ≡ length (commits_of (before ++ r ∷ [])) }
+    ensures covered { result ≡ true → (before : List Record) (r : Record) → Orderly before
+        → IsProgress before tips.now group.now progress.old → IsForm form.now r
+        → progress.new.covered ≡ covered_of (before ++ r ∷ []) }
+    ensures no { result ≡ false → (before : List Record) (r : Record) → Orderly before
+        → IsProgress before tips.now group.now progress.old → IsForm form.now r → Follows before r → ⊥ }
 {
     match form {
         Form::Commit => {
@@ -46,10 +52,12 @@ pub fn may_follow(form: &Form, tips: &[Tip], group: &[Entry], progress: &mut Pro
     }
 }
 
-// Whether a tip begins with the first commitment that is not covered, and runs to the last one.
+/// Whether a tip begins with the first commitment that is not covered, and runs to the last one.
 fn is_next_tip(span: &Span, progress: &Progress) -> bool
-    ensures yes { result ≡ true → (span.now.first ≡ progress.now.covered) × (1 ≤ span.now.count) × (span.now.first + span.now.count ≡ progress.now.commits) }
-    ensures no { result ≡ false → span.now.first ≡ progress.now.covered → 1 ≤ span.now.count → span.now.first + span.now.count ≡ progress.now.commits → ⊥ }
+    ensures yes { result ≡ true → (span.now.first ≡ progress.now.covered) × (1 ≤ span.now.count)
+        × (span.now.first + span.now.count ≡ progress.now.commits) }
+    ensures no { result ≡ false → span.now.first ≡ progress.now.covered → 1 ≤ span.now.count
+        → span.now.first + span.now.count ≡ progress.now.commits → ⊥ }
 {
     span.first == progress.covered
         && span.count >= 1
@@ -57,7 +65,7 @@ fn is_next_tip(span: &Span, progress: &Progress) -> bool
         && span.count == progress.commits - span.first
 }
 
-// Whether an anchor is of one of the tips and reaches past what is covered. If so, that is covered.
+/// Whether an anchor is of one of the tips and reaches past what is covered. If so, that is covered.
 fn pass_anchor(span: &Span, tips: &[Tip], group: &[Entry], progress: &mut Progress) -> bool
     requires passed { Passed tips.now group.now progress.old }
     requires each { AllByRecursion IsRecord group.now }
@@ -65,8 +73,10 @@ fn pass_anchor(span: &Span, tips: &[Tip], group: &[Entry], progress: &mut Progre
     ensures commits { progress.new.commits ≡ progress.old.commits }
     ensures tip { result ≡ true → HasSpan span.now.first span.now.count (tips.now ++ tips_of (records_of group.now)) }
     ensures past { result ≡ true → progress.old.covered < span.now.first + span.now.count }
-    ensures covered { result ≡ true → span.now.first + span.now.count < 2 ^ 64 → progress.new.covered ≡ span.now.first + span.now.count }
-    ensures no { result ≡ false → HasSpan span.now.first span.now.count (tips.now ++ tips_of (records_of group.now)) → progress.old.covered < span.now.first + span.now.count → ⊥ }
+    ensures covered { result ≡ true → span.now.first + span.now.count < 2 ^ 64
+        → progress.new.covered ≡ span.now.first + span.now.count }
+    ensures no { result ≡ false → HasSpan span.now.first span.now.count (tips.now ++ tips_of (records_of group.now))
+        → progress.old.covered < span.now.first + span.now.count → ⊥ }
 {
     if !reaches_past(span.first, span.count, progress.covered) {
         return false;

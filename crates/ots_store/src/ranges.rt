@@ -3,7 +3,7 @@ ghost use Rattle.std.specs.Prelude.{◌≡◌, ◌≤◌, ◌<◌, ◌+◌, true
 ghost use Rattle.std.specs.Option.{option_copied};
 ghost use Rattle.std.specs.List.{AllByRecursion};
 ghost use Rattle.ots_store.specs.Order.{anchor_end, covers};
-ghost use Rattle.ots_store.specs.Ranges.{RisesFrom, EndsBy, BeginsBehind};
+ghost use Rattle.ots_store.specs.Ranges.{RisesFrom, EndsBy, BeginsAfter};
 
 use crate::Anchor;
 
@@ -12,7 +12,7 @@ pub fn find_range(anchors: &[Anchor], i: u64) -> Option<&Anchor>
     requires { RisesFrom 0 anchors.now }
     ensures { option_copied result ≡ find (covers i) anchors.now }
 {
-    let place = first_behind(anchors, i);
+    let place = first_after(anchors, i);
     if place < anchors.len() {
         Some(&anchors[place])
     } else {
@@ -20,12 +20,12 @@ pub fn find_range(anchors: &[Anchor], i: u64) -> Option<&Anchor>
     }
 }
 
-// Where the first anchor stands that ends behind an index.
-fn first_behind(anchors: &[Anchor], i: u64) -> usize
+/// Where the first anchor stands that ends after an index.
+fn first_after(anchors: &[Anchor], i: u64) -> usize
     requires { RisesFrom 0 anchors.now }
     ensures within { result ≤ length anchors.now }
     ensures before { AllByRecursion (EndsBy i) (take result anchors.now) }
-    ensures behind { BeginsBehind i (drop result anchors.now) }
+    ensures after { BeginsAfter i (drop result anchors.now) }
 {
     let mut low = 0;
     let mut high = anchors.len();
@@ -40,7 +40,7 @@ fn first_behind(anchors: &[Anchor], i: u64) -> usize
     low
 }
 
-// Whether an anchor ends at an index or before it.
+/// Whether an anchor ends at an index or before it.
 fn ends_by(anchor: &Anchor, i: u64) -> bool
     ensures yes { result ≡ true → anchor_end anchor.now ≤ i }
     ensures no { result ≡ false → i < anchor_end anchor.now }

@@ -31,8 +31,8 @@ pub fn read_anchor(alloc: Global, payload: &[u8]) -> Result<Anchor, OutOfMemory>
 {
     let mut root = [0; 32];
     root.copy_from_slice(&payload[24..56]);
-    let (prefix, behind) = split_part(&payload[56..]).unwrap();
-    let (suffix, branch) = split_part(behind).unwrap();
+    let (prefix, following) = split_part(&payload[56..]).unwrap();
+    let (suffix, branch) = split_part(following).unwrap();
     Ok(Anchor {
         first: number(payload),
         count: number(&payload[8..]),
@@ -44,14 +44,14 @@ pub fn read_anchor(alloc: Global, payload: &[u8]) -> Result<Anchor, OutOfMemory>
     })
 }
 
-// These bytes, in memory of their own.
+/// These bytes, in memory of their own.
 fn bytes_of(alloc: Global, bytes: &[u8]) -> Result<Bytes, OutOfMemory>
     ensures { IfOk result (λ copied. copied ≡ bytes.now) }
 {
     Ok(Bytes::from_vec(Vec::from_slice(alloc, bytes)?))
 }
 
-// The branch that bytes are.
+/// The branch that bytes are.
 fn read_branch(alloc: Global, bytes: &[u8]) -> Result<Branch, OutOfMemory>
     requires { IsBranch bytes.now }
     ensures { IfOk result (λ branch. branch ≡ branch_at bytes.now) }
@@ -59,7 +59,7 @@ fn read_branch(alloc: Global, bytes: &[u8]) -> Result<Branch, OutOfMemory>
     read_steps(alloc, &bytes[1..], bytes[0] as usize)
 }
 
-// So many steps at the front.
+/// So many steps at the start.
 fn read_steps(alloc: Global, bytes: &[u8], count: usize) -> Result<Branch, OutOfMemory>
     requires some { count ≤ 32 }
     requires long { 33 * count ≤ length bytes.now }
@@ -72,7 +72,7 @@ fn read_steps(alloc: Global, bytes: &[u8], count: usize) -> Result<Branch, OutOf
     Ok(branch)
 }
 
-// The step at the front.
+/// The step at the start.
 fn step_at(bytes: &[u8]) -> (Side, [u8; 32])
     requires { 33 ≤ length bytes.now }
     ensures side { result.0 ≡ side_at bytes.now }

@@ -1,7 +1,8 @@
 //! How a tip and an anchor are spelled.
 ghost use Rattle.std.specs.Prelude.{◌≡◌, ◌≤◌, ◌<◌, ◌++◌, ◌^◌, length, true, false, IfOk, OnOk};
 ghost use Rattle.std.specs.List.{flat_map, AllByRecursion};
-ghost use Rattle.ots_store.specs.Records.{tip_payload, anchor_payload, sized, step_bytes, branch_bytes, FitsTip, FitsAnchor, FitsLimits, HasHash};
+ghost use Rattle.ots_store.specs.Records.{tip_payload, anchor_payload, sized, step_bytes, branch_bytes, FitsTip};
+ghost use Rattle.ots_store.specs.Records.{FitsAnchor, FitsLimits, HasHash};
 
 use crate::form::TIP_PAYLOAD;
 use crate::{Anchor, Tip};
@@ -52,7 +53,7 @@ pub fn spell_anchor(alloc: Global, anchor: &Anchor) -> Result<Vec<u8>, OutOfMemo
     Ok(payload)
 }
 
-// Adds the length of bytes and the bytes.
+/// Adds the length of bytes and the bytes.
 fn add_sized(payload: &mut Vec<u8>, bytes: &[u8]) -> Result<(), OutOfMemory>
     requires { length bytes.now < 2 ^ 16 }
     ensures { OnOk result (payload.new.items ≡ payload.old.items ++ sized bytes.now) }
@@ -63,7 +64,7 @@ fn add_sized(payload: &mut Vec<u8>, bytes: &[u8]) -> Result<(), OutOfMemory>
     Ok(())
 }
 
-// Adds the number of steps and the steps.
+/// Adds the number of steps and the steps.
 fn add_branch(payload: &mut Vec<u8>, branch: &[(Side, [u8; 32])]) -> Result<(), OutOfMemory>
     requires { length branch.now ≤ 32 }
     ensures spelled { OnOk result (payload.new.items ≡ payload.old.items ++ branch_bytes branch.now) }
@@ -76,7 +77,7 @@ fn add_branch(payload: &mut Vec<u8>, branch: &[(Side, [u8; 32])]) -> Result<(), 
     Ok(())
 }
 
-// Adds a step.
+/// Adds a step.
 fn add_step(payload: &mut Vec<u8>, step: &(Side, [u8; 32])) -> Result<(), OutOfMemory>
     ensures spelled { OnOk result (payload.new.items ≡ payload.old.items ++ step_bytes step.now) }
     ensures hash { OnOk result (HasHash step.now) }

@@ -1,4 +1,5 @@
-ghost use Rattle.std.specs.Prelude.{◌≡◌, ◌≢◌, ◌≤◌, ◌<◌, ◌+◌, ◌^◌, ◌++◌, ◌∷◌, [], ℕ, List, length, true, false, find, slice_get, Some, Err, IfOk, IfErr, OnOk, OnErr, MatchOption, IsErrOf};
+ghost use Rattle.std.specs.Prelude.{◌≡◌, ◌≢◌, ◌≤◌, ◌<◌, ◌+◌, ◌^◌, ◌++◌, ◌∷◌, [], ℕ, List, length, true, false, find};
+ghost use Rattle.std.specs.Prelude.{slice_get, Some, Err, IfOk, IfErr, OnOk, OnErr, MatchOption, IsErrOf};
 ghost use Rattle.std.specs.Option.{option_copied};
 ghost use Rattle.std.specs.List.{AllByRecursion};
 ghost use Rattle.ots_base.specs.Cause.{HasCause, HasCauseWhere};
@@ -6,8 +7,10 @@ ghost use Rattle.ots_disk.specs.Disk.{LeavesOnly};
 ghost use Rattle.ots_journal.specs.Image.{Stands, FitsGroup};
 ghost use Rattle.ots_journal.specs.Journal.{StandsForEither, Refreshed, Unrefreshed};
 ghost use Rattle.ots_journal.specs.Within.{StaysWithin};
-ghost use Rattle.ots_store.specs.Records.{Record, CommitRecord, TipRecord, AnchorRecord, entry_of, record_of, FitsLimits, IsRecord};
-ghost use Rattle.ots_store.specs.Order.{commits_of, tips_of, anchors_of, covers, covered_of, Follows, AreRecords, FirstBad, records_of};
+ghost use Rattle.ots_store.specs.Records.{Record, CommitRecord, TipRecord, AnchorRecord, entry_of, record_of};
+ghost use Rattle.ots_store.specs.Records.{FitsLimits, IsRecord};
+ghost use Rattle.ots_store.specs.Order.{commits_of, tips_of, anchors_of, covers, covered_of, Follows, AreRecords};
+ghost use Rattle.ots_store.specs.Order.{FirstBad, records_of};
 ghost use Rattle.ots_store.specs.Index.{least};
 ghost use Rattle.ots_store.specs.Opening.{IfBad};
 ghost use Rattle.ots_store.specs.Store.{InRecords, StandsForRecords, StoreStands, MakesRoom, Added, Adds, Settles};
@@ -39,7 +42,11 @@ impl<D: Disk> Model for Store<D> {
 
     ghost Value = { StoreTold D };
 
-    ghost view = { λ s. record { journal = s.journal; records = records_of s.journal.entries; spare = spare_in s.journal s.held } };
+    ghost view = { λ s. record {
+      journal = s.journal;
+      records = records_of s.journal.entries;
+      spare = spare_in s.journal s.held;
+    } };
 
     ghost invariant = { λ s. Keeps s.journal s.held };
 }
@@ -183,7 +190,7 @@ impl<D: Disk> Store<D> {
             && reaches_past(anchor.first, anchor.count, self.covered())
     }
 
-    /// The place of the closed gate behind the acknowledged entries.
+    /// The place of the closed gate after the acknowledged entries.
     pub fn gate(&self) -> u64
         ensures { result ≡ self.now.journal.gate }
     {
@@ -219,7 +226,7 @@ impl<D: Disk> Store<D> {
     }
 
     /// Takes the memory for one commitment or one tip, which is then added without taking any, also
-    /// behind a `refresh`. It does not call the disk.
+    /// after a `refresh`. It does not call the disk.
     pub fn reserve(&mut self) -> Result<(), OutOfMemory>
         ensures room { MakesRoom self.old.journal self.new.journal }
         ensures ok { OnOk result (0 < self.new.spare) }
@@ -234,8 +241,10 @@ impl<D: Disk> Store<D> {
     pub fn refresh(&mut self) -> Result<(), DiskFault>
         ensures ok { OnOk result (Refreshed D.bytes self.old.journal self.new.journal) }
         ensures err { OnErr result (Unrefreshed D.bytes self.old.journal self.new.journal) }
-        ensures any_moment { LeavesOnly D.clock D.images_since self.old.journal.disk self.new.journal.disk (StandsForEither self.old.journal.entries self.old.journal.flight) }
-        ensures readable { LeavesOnly D.clock D.images_since self.old.journal.disk self.new.journal.disk StandsForRecords }
+        ensures any_moment { LeavesOnly D.clock D.images_since self.old.journal.disk self.new.journal.disk
+            (StandsForEither self.old.journal.entries self.old.journal.flight) }
+        ensures readable { LeavesOnly D.clock D.images_since self.old.journal.disk self.new.journal.disk
+            StandsForRecords }
         ensures records { self.new.records ≡ records_of self.new.journal.entries }
         ensures spare { self.old.spare ≤ self.new.spare }
         ensures cause { HasCause (D.faults self.old.journal.disk) (D.faults self.new.journal.disk) result }
@@ -256,13 +265,17 @@ impl<D: Disk> Store<D> {
     /// the next one that does decides whether it is kept. `Full` leaves the records as the refresh
     /// left them. `OutOfMemory` comes only before the disk is called, and all is as before.
     pub fn add_commit(&mut self, commitment: &[u8; 44]) -> Result<u64, AppendError>
-        ensures adds { Adds D.bytes D.clock D.images_since self.old.journal self.new.journal (entry_of (CommitRecord commitment.now) ∷ []) result }
+        ensures adds { Adds D.bytes D.clock D.images_since self.old.journal self.new.journal
+            (entry_of (CommitRecord commitment.now) ∷ []) result }
         ensures untouched { result ≡ Err AppendError.OutOfMemory → self.new.journal.disk ≡ self.old.journal.disk }
         ensures records { self.new.records ≡ records_of self.new.journal.entries }
         ensures index { IfOk result (λ i. i + 1 ≡ length (commits_of self.new.records)) }
-        ensures acknowledged { OnOk result ((c : List ℕ) → D.images self.new.journal.disk c → Stands c self.new.journal.entries) }
-        ensures readable { LeavesOnly D.clock D.images_since self.old.journal.disk self.new.journal.disk StandsForRecords }
-        ensures cause { HasCauseWhere (IsErrOf result AppendError.DiskFault) (D.faults self.old.journal.disk) (D.faults self.new.journal.disk) }
+        ensures acknowledged { OnOk result ((c : List ℕ) → D.images self.new.journal.disk c
+            → Stands c self.new.journal.entries) }
+        ensures readable { LeavesOnly D.clock D.images_since self.old.journal.disk self.new.journal.disk
+            StandsForRecords }
+        ensures cause { HasCauseWhere (IsErrOf result AppendError.DiskFault) (D.faults self.old.journal.disk)
+            (D.faults self.new.journal.disk) }
         ensures within { StaysWithin D.clock D.images_since self.old.journal self.new.journal }
     {
         self.stands();
@@ -286,12 +299,16 @@ impl<D: Disk> Store<D> {
     pub fn add_tip(&mut self, tip: &Tip) -> Result<(), AppendError>
         requires sure { self.old.journal.is_sure ≡ true }
         requires follows { Follows self.old.records (TipRecord tip.now) }
-        ensures added { Added D.clock D.images_since self.old.journal self.new.journal (entry_of (TipRecord tip.now) ∷ []) result }
+        ensures added { Added D.clock D.images_since self.old.journal self.new.journal
+            (entry_of (TipRecord tip.now) ∷ []) result }
         ensures not_refused { 0 < self.old.spare → result ≡ Err AppendError.OutOfMemory → ⊥ }
         ensures records { self.new.records ≡ records_of self.new.journal.entries }
-        ensures acknowledged { OnOk result ((c : List ℕ) → D.images self.new.journal.disk c → Stands c self.new.journal.entries) }
-        ensures readable { LeavesOnly D.clock D.images_since self.old.journal.disk self.new.journal.disk StandsForRecords }
-        ensures cause { HasCauseWhere (IsErrOf result AppendError.DiskFault) (D.faults self.old.journal.disk) (D.faults self.new.journal.disk) }
+        ensures acknowledged { OnOk result ((c : List ℕ) → D.images self.new.journal.disk c
+            → Stands c self.new.journal.entries) }
+        ensures readable { LeavesOnly D.clock D.images_since self.old.journal.disk self.new.journal.disk
+            StandsForRecords }
+        ensures cause { HasCauseWhere (IsErrOf result AppendError.DiskFault) (D.faults self.old.journal.disk)
+            (D.faults self.new.journal.disk) }
         ensures within { StaysWithin D.clock D.images_since self.old.journal self.new.journal }
     {
         let payload = spell_tip(tip);
@@ -304,11 +321,15 @@ impl<D: Disk> Store<D> {
         requires sure { self.old.journal.is_sure ≡ true }
         requires fits { FitsLimits anchor.now }
         requires follows { Follows self.old.records (AnchorRecord anchor.now) }
-        ensures added { Added D.clock D.images_since self.old.journal self.new.journal (entry_of (AnchorRecord anchor.now) ∷ []) result }
+        ensures added { Added D.clock D.images_since self.old.journal self.new.journal
+            (entry_of (AnchorRecord anchor.now) ∷ []) result }
         ensures records { self.new.records ≡ records_of self.new.journal.entries }
-        ensures acknowledged { OnOk result ((c : List ℕ) → D.images self.new.journal.disk c → Stands c self.new.journal.entries) }
-        ensures readable { LeavesOnly D.clock D.images_since self.old.journal.disk self.new.journal.disk StandsForRecords }
-        ensures cause { HasCauseWhere (IsErrOf result AppendError.DiskFault) (D.faults self.old.journal.disk) (D.faults self.new.journal.disk) }
+        ensures acknowledged { OnOk result ((c : List ℕ) → D.images self.new.journal.disk c
+            → Stands c self.new.journal.entries) }
+        ensures readable { LeavesOnly D.clock D.images_since self.old.journal.disk self.new.journal.disk
+            StandsForRecords }
+        ensures cause { HasCauseWhere (IsErrOf result AppendError.DiskFault) (D.faults self.old.journal.disk)
+            (D.faults self.new.journal.disk) }
         ensures within { StaysWithin D.clock D.images_since self.old.journal self.new.journal }
     {
         match spell_anchor(self.alloc, anchor) {
@@ -326,9 +347,12 @@ impl<D: Disk> Store<D> {
         ensures added { Added D.clock D.images_since self.old.journal self.new.journal entries.now result }
         ensures untouched { result ≡ Err AppendError.OutOfMemory → self.new.journal.disk ≡ self.old.journal.disk }
         ensures records { self.new.records ≡ records_of self.new.journal.entries }
-        ensures acknowledged { OnOk result ((c : List ℕ) → D.images self.new.journal.disk c → Stands c self.new.journal.entries) }
-        ensures readable { LeavesOnly D.clock D.images_since self.old.journal.disk self.new.journal.disk StandsForRecords }
-        ensures cause { HasCauseWhere (IsErrOf result AppendError.DiskFault) (D.faults self.old.journal.disk) (D.faults self.new.journal.disk) }
+        ensures acknowledged { OnOk result ((c : List ℕ) → D.images self.new.journal.disk c
+            → Stands c self.new.journal.entries) }
+        ensures readable { LeavesOnly D.clock D.images_since self.old.journal.disk self.new.journal.disk
+            StandsForRecords }
+        ensures cause { HasCauseWhere (IsErrOf result AppendError.DiskFault) (D.faults self.old.journal.disk)
+            (D.faults self.new.journal.disk) }
         ensures within { StaysWithin D.clock D.images_since self.old.journal self.new.journal }
     {
         match stage_entries(&mut self.held, entries) {
@@ -344,18 +368,23 @@ impl<D: Disk> Store<D> {
         }
     }
 
-    // Adds a record to a sure store, after whose records it may follow. A commitment and a tip take
-    // memory only where none is spare.
+    /// Adds a record to a sure store, after whose records it may follow. A commitment and a tip take
+    /// memory only where none is spare.
     fn add(&mut self, kind: u8, payload: &[u8]) -> Result<(), AppendError>
         requires sure { self.old.journal.is_sure ≡ true }
         requires is { IsRecord (record { kind = kind; payload = payload.now }) }
         requires follows { Follows self.old.records (record_of (record { kind = kind; payload = payload.now })) }
-        ensures added { Added D.clock D.images_since self.old.journal self.new.journal ((record { kind = kind; payload = payload.now }) ∷ []) result }
-        ensures not_refused { 0 < self.old.spare → kind ≢ 3 → length payload.now ≤ 48 → result ≡ Err AppendError.OutOfMemory → ⊥ }
+        ensures added { Added D.clock D.images_since self.old.journal self.new.journal
+            ((record { kind = kind; payload = payload.now }) ∷ []) result }
+        ensures not_refused { 0 < self.old.spare → kind ≢ 3 → length payload.now ≤ 48
+            → result ≡ Err AppendError.OutOfMemory → ⊥ }
         ensures records { self.new.records ≡ records_of self.new.journal.entries }
-        ensures acknowledged { OnOk result ((c : List ℕ) → D.images self.new.journal.disk c → Stands c self.new.journal.entries) }
-        ensures readable { LeavesOnly D.clock D.images_since self.old.journal.disk self.new.journal.disk StandsForRecords }
-        ensures cause { HasCauseWhere (IsErrOf result AppendError.DiskFault) (D.faults self.old.journal.disk) (D.faults self.new.journal.disk) }
+        ensures acknowledged { OnOk result ((c : List ℕ) → D.images self.new.journal.disk c
+            → Stands c self.new.journal.entries) }
+        ensures readable { LeavesOnly D.clock D.images_since self.old.journal.disk self.new.journal.disk
+            StandsForRecords }
+        ensures cause { HasCauseWhere (IsErrOf result AppendError.DiskFault) (D.faults self.old.journal.disk)
+            (D.faults self.new.journal.disk) }
         ensures within { StaysWithin D.clock D.images_since self.old.journal self.new.journal }
     {
         match self.held.stage(kind, payload) {
@@ -368,12 +397,13 @@ impl<D: Disk> Store<D> {
         }
     }
 
-    // Answers that memory ran out before the disk was called.
+    /// Answers that memory ran out before the disk was called.
     fn no_memory(&mut self) -> Result<(), AppendError>
         requires { self.old.journal.is_sure ≡ true }
         ensures same { self.new ≡ self.old }
         ensures err { result ≡ Err AppendError.OutOfMemory }
-        ensures any_moment { LeavesOnly D.clock D.images_since self.old.journal.disk self.new.journal.disk (λ c. Stands c self.old.journal.entries) }
+        ensures any_moment { LeavesOnly D.clock D.images_since self.old.journal.disk self.new.journal.disk
+            (λ c. Stands c self.old.journal.entries) }
         ensures within { StaysWithin D.clock D.images_since self.old.journal self.new.journal }
     {
         self.journal.stands();
@@ -381,7 +411,7 @@ impl<D: Disk> Store<D> {
     }
 }
 
-// What an append leaves in memory, by its answer.
+/// What an append leaves in memory, by its answer.
 fn settle(held: &mut Held, outcome: Result<u64, AppendError>) -> Result<(), AppendError>
     requires few { OnOk outcome (length (held.old.commitments.kept ++ held.old.commitments.flight) ≤ 2 ^ 32) }
     ensures { Settles outcome result held.old held.new }

@@ -9,7 +9,7 @@ use crate::Tip;
 use crate::form::{Form, Span, form_of};
 use ots_journal::Entry;
 
-/// Whether so many commitments from one index on end behind an index.
+/// Whether so many commitments from one index on end after an index.
 pub fn reaches_past(first: u64, count: u64, covered: u64) -> bool
     ensures yes { result ≡ true → covered < first + count }
     ensures no { result ≡ false → first + count ≤ covered }
@@ -21,7 +21,8 @@ pub fn reaches_past(first: u64, count: u64, covered: u64) -> bool
 pub fn pass_tips(tips: &[Tip], from: usize, covered: u64) -> usize
     requires { from ≤ length tips.now }
     ensures there { result ≤ length tips.now }
-    ensures passed { AllByRecursion (TipEndsBy covered) (take from tips.now) → AllByRecursion (TipEndsBy covered) (take result tips.now) }
+    ensures passed { AllByRecursion (TipEndsBy covered) (take from tips.now)
+        → AllByRecursion (TipEndsBy covered) (take result tips.now) }
 {
     let mut place = from;
     while place < tips.len() && !reaches_past(tips[place].first, tips[place].count, covered) {
@@ -30,12 +31,13 @@ pub fn pass_tips(tips: &[Tip], from: usize, covered: u64) -> usize
     place
 }
 
-/// Passes the entries of which none is a tip that ends behind what is covered.
+/// Passes the entries of which none is a tip that ends after what is covered.
 pub fn pass_group(group: &[Entry], from: usize, covered: u64) -> usize
     requires there { from ≤ length group.now }
     requires each { AllByRecursion IsRecord group.now }
     ensures there { result ≤ length group.now }
-    ensures passed { AllByRecursion (TipEndsBy covered) (tips_of (records_of (take from group.now))) → AllByRecursion (TipEndsBy covered) (tips_of (records_of (take result group.now))) }
+    ensures passed { AllByRecursion (TipEndsBy covered) (tips_of (records_of (take from group.now)))
+        → AllByRecursion (TipEndsBy covered) (tips_of (records_of (take result group.now))) }
 {
     let mut place = from;
     while place < group.len() && ends_by(&group[place], covered) {
@@ -44,7 +46,7 @@ pub fn pass_group(group: &[Entry], from: usize, covered: u64) -> usize
     place
 }
 
-// Whether a record is no tip that ends behind an index.
+/// Whether a record is no tip that ends after an index.
 fn ends_by(entry: &Entry, covered: u64) -> bool
     ensures { result ≡ true → IsRecord entry.now → AllByRecursion (TipEndsBy covered) (tip_in (record_of entry.now)) }
 {
@@ -67,7 +69,7 @@ pub fn has_tip(tips: &[Tip], span: &Span) -> bool
     false
 }
 
-// Whether a tip has this first index and this count.
+/// Whether a tip has this first index and this count.
 fn is_of(tip: &Tip, span: &Span) -> bool
     ensures yes { result ≡ true → (tip.now.first ≡ span.now.first) × (tip.now.count ≡ span.now.count) }
     ensures no { result ≡ false → tip.now.first ≡ span.now.first → tip.now.count ≡ span.now.count → ⊥ }
@@ -89,10 +91,12 @@ pub fn has_tip_in(group: &[Entry], span: &Span) -> bool
     false
 }
 
-// Whether a record is a tip with this first index and this count.
+/// Whether a record is a tip with this first index and this count.
 fn is_tip(entry: &Entry, span: &Span) -> bool
-    ensures yes { result ≡ true → IsRecord entry.now → HasSpan span.now.first span.now.count (tip_in (record_of entry.now)) }
-    ensures no { result ≡ false → IsRecord entry.now → HasSpan span.now.first span.now.count (tip_in (record_of entry.now)) → ⊥ }
+    ensures yes { result ≡ true → IsRecord entry.now → HasSpan span.now.first span.now.count
+        (tip_in (record_of entry.now)) }
+    ensures no { result ≡ false → IsRecord entry.now → HasSpan span.now.first span.now.count
+        (tip_in (record_of entry.now)) → ⊥ }
 {
     match form_of(entry.kind, entry.payload.items()) {
         Some(Form::Tip(tip)) => tip.first == span.first && tip.count == span.count,

@@ -9,7 +9,7 @@ use ots_base::OutOfMemory;
 use ots_disk::{Choice, Disk, MemoryDisk};
 use std::alloc::Global;
 
-// The kind and the bytes of the entry that an image takes as one more, and the bytes of the commitment.
+/// The kind and the bytes of the entry that an image takes as one more, and the bytes of the commitment.
 const ENTRY: u8 = 9;
 
 const COMMITMENT: u8 = 77;
@@ -59,7 +59,7 @@ pub fn images(
     Ok(())
 }
 
-// What a crash inside a call leaves by each choice.
+/// What a crash inside a call leaves by each choice.
 fn at_moment(
     alloc: Global,
     made: &MemoryDisk,
@@ -81,7 +81,7 @@ fn at_moment(
     Ok(text)
 }
 
-// How many entries an image has, and how many with one more when it is opened once more.
+/// How many entries an image has, and how many with one more when it is opened once more.
 fn opened(alloc: Global, image: &[u8], start: &Start, form: Form) -> Result<String, OutOfMemory> {
     let disk = MemoryDisk::new(alloc, image, start.room, &[])?;
     let (count, then) = match form {
@@ -93,7 +93,7 @@ fn opened(alloc: Global, image: &[u8], start: &Start, form: Form) -> Result<Stri
     Ok(format!(in alloc; "{count} then {then}")?)
 }
 
-// The entries of a journal, and those with one more when it is opened once more.
+/// The entries of a journal, and those with one more when it is opened once more.
 fn journal_counts<D: Disk + Drop>(
     alloc: Global,
     disk: D,
@@ -112,7 +112,7 @@ fn journal_counts<D: Disk + Drop>(
     )
 }
 
-// The entries of a journal, where the last one is the one more.
+/// The entries of a journal, where the last one is the one more.
 fn journal_ending<D: Disk + Drop>(alloc: Global, disk: D, limit: u64) -> Option<u64> {
     let Ok(journal) = open_journal(alloc, disk, limit) else {
         return None;
@@ -124,7 +124,7 @@ fn journal_ending<D: Disk + Drop>(alloc: Global, disk: D, limit: u64) -> Option<
     Some(count)
 }
 
-// The records of a store, and those with one commitment more when it is opened once more.
+/// The records of a store, and those with one commitment more when it is opened once more.
 fn store_counts<D: Disk + Drop>(alloc: Global, disk: D, limit: u64) -> (Option<u64>, Option<u64>) {
     let Ok(mut store) = open_store(alloc, disk, limit) else {
         return (None, None);
@@ -137,7 +137,7 @@ fn store_counts<D: Disk + Drop>(alloc: Global, disk: D, limit: u64) -> (Option<u
     (Some(count), store_ending(alloc, store.into_disk(), limit))
 }
 
-// The records of a store, where the last commitment is the one more.
+/// The records of a store, where the last commitment is the one more.
 fn store_ending<D: Disk + Drop>(alloc: Global, disk: D, limit: u64) -> Option<u64> {
     let Ok(store) = open_store(alloc, disk, limit) else {
         return None;

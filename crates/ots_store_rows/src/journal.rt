@@ -4,7 +4,7 @@ use crate::spelling::{entries_of, entry_of, number_of, split_number};
 use crate::told;
 use ots_base::OutOfMemory;
 use ots_disk::Disk;
-use ots_journal::{Entry, Journal, MAX_PAYLOAD, MIN_PAYLOAD, is_group};
+use ots_journal::{Entry, Journal, MAX_ENTRY_PAYLOAD, MIN_ENTRY_PAYLOAD, is_group};
 use std::alloc::Global;
 
 /// Makes the call of a line, and says what it answered.
@@ -36,20 +36,20 @@ pub fn state<D: Disk>(alloc: Global, journal: &Journal<D>) -> Result<String, Out
     Ok(format!(in alloc; "{sure}, gate {gate}, entries {count}, faults {faults}")?)
 }
 
-// Appends an entry.
+/// Appends an entry.
 fn append<D: Disk>(
     alloc: Global,
     journal: &mut Journal<D>,
     entry: &Entry,
 ) -> Result<String, OutOfMemory> {
     let payload = entry.payload.items();
-    if payload.len() < MIN_PAYLOAD || payload.len() > MAX_PAYLOAD {
+    if payload.len() < MIN_ENTRY_PAYLOAD || payload.len() > MAX_ENTRY_PAYLOAD {
         return told::words(alloc, "no entry");
     }
     told::appended(alloc, journal.append(entry.kind, payload))
 }
 
-// Appends each entry by itself.
+/// Appends each entry by itself.
 fn append_each<D: Disk>(
     alloc: Global,
     journal: &mut Journal<D>,
@@ -65,7 +65,7 @@ fn append_each<D: Disk>(
     Ok(text)
 }
 
-// Appends entries as one group.
+/// Appends entries as one group.
 fn append_group<D: Disk>(
     alloc: Global,
     journal: &mut Journal<D>,
@@ -77,7 +77,7 @@ fn append_group<D: Disk>(
     told::appended(alloc, journal.append_group(entries))
 }
 
-// Makes room for so many entries and so many bytes.
+/// Makes room for so many entries and so many bytes.
 fn reserve<D: Disk>(
     alloc: Global,
     journal: &mut Journal<D>,
@@ -97,7 +97,7 @@ fn refresh<D: Disk>(alloc: Global, journal: &mut Journal<D>) -> Result<String, O
     }
 }
 
-// The entry at an index.
+/// The entry at an index.
 fn entry<D: Disk>(alloc: Global, journal: &Journal<D>, i: u64) -> Result<String, OutOfMemory> {
     if i >= journal.count() {
         return told::words(alloc, "none");
@@ -106,7 +106,7 @@ fn entry<D: Disk>(alloc: Global, journal: &Journal<D>, i: u64) -> Result<String,
     told::entry(alloc, kind, payload)
 }
 
-// Whether the entries are these.
+/// Whether the entries are these.
 fn holds<D: Disk>(journal: &Journal<D>, entries: &[Entry]) -> bool {
     if journal.count() != entries.len() as u64 {
         return false;

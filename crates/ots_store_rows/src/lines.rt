@@ -42,7 +42,7 @@ impl Opening {
     }
 }
 
-/// The word in front of a line, and what stands behind it.
+/// The word before a line, and what stands after it.
 pub fn split_word(line: &str) -> (&str, &str) {
     line.split_once(' ').unwrap_or((line, ""))
 }

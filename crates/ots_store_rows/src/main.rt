@@ -16,14 +16,14 @@
 //! | `images journal FROM TO CHOICE..`, or `store` | the images of a crash in these calls but the last, as told below |
 //! | `version1 BYTES` | the entries of a journal of version 1 |
 //!
-//! | line behind `journal` | what is asked |
+//! | line after `journal` | what is asked |
 //! |---|---|
 //! | `append KIND BYTES`, `group ENTRIES`, `reserve ENTRIES BYTES`, `refresh` | the call of this name |
 //! | `each ENTRIES` | `append` of each by itself |
 //! | `state` | whether it is sure, its gate, how many entries and faults there are |
 //! | `entry N`, `entries ENTRIES` | an entry; whether all are these |
 //!
-//! | line behind `store` | what is asked |
+//! | line after `store` | what is asked |
 //! |---|---|
 //! | `commit BYTES`, `tip FIRST COUNT BYTES` | the call of this name, where it may be made |
 //! | `anchor FIRST COUNT HEIGHT BYTES`, `group ENTRIES`, `reserve`, `refresh` | the same |
@@ -34,7 +34,7 @@
 //! | `state`, `entry N`, `commitment N`, `commitments ENTRIES`, `tips` | what it holds |
 //!
 //! BYTES are words: hexadecimal digits, or `xx*N` for a byte that stands so many times. ENTRIES are
-//! `KIND BYTES`, each but the last with a semicolon behind it. CHOICE is `dropped`, `kept`, or the byte
+//! `KIND BYTES`, each but the last with a semicolon after it. CHOICE is `dropped`, `kept`, or the byte
 //! that fills what was not durable. `images` tells of each image how many entries it has, and how many
 //! with one more when it is opened once more.
 #![tactic(auto)]

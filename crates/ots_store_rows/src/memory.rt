@@ -37,7 +37,7 @@ pub fn run_on(
     Ok(transcript)
 }
 
-// Tells whether the disk holds these bytes, and what it holds if not.
+/// Tells whether the disk holds these bytes, and what it holds if not.
 fn compare(
     alloc: Global,
     bytes: &[u8],
@@ -52,7 +52,7 @@ fn compare(
     transcript.tell(&format!(in alloc; "so it is, {length} bytes")?)
 }
 
-// Tells the calls from a number on, of which the first is 1.
+/// Tells the calls from a number on, of which the first is 1.
 fn list(
     alloc: Global,
     calls: &[MadeCall],
@@ -70,7 +70,7 @@ fn list(
     Ok(())
 }
 
-// A call, and whether it failed.
+/// A call, and whether it failed.
 fn call(alloc: Global, made: &MadeCall) -> Result<String, OutOfMemory> {
     let mut text = match &made.call {
         DiskCall::Length => "length".to_string(alloc)?,

@@ -40,7 +40,7 @@ impl Names {
         Ok(text)
     }
 
-    // The words that a word stands for.
+    /// The words that a word stands for.
     fn meant<'a>(&'a self, word: &'a str) -> &'a str {
         match word.strip_prefix('$') {
             Some(name) => self.words.get(name).map_or("", |words| words.as_str()),

@@ -1,5 +1,5 @@
 // What a disk is opened as, or why it is not.
-ghost use Rattle.std.specs.Prelude.{◌≤◌, ◌^◌};
+ghost use Rattle.std.specs.Prelude.{◌≤◌};
 
 use ots_disk::Disk;
 use ots_journal::{EMPTY_JOURNAL, Journal, JournalError, MAX_JOURNAL, Refused};
@@ -20,10 +20,10 @@ pub struct Unopened<D: Disk> {
     pub why: Why,
 }
 
-// A limit that a journal can have.
+/// A limit that a journal can have.
 fn within(limit: u64) -> u64
-    ensures least { 9 ≤ result }
-    ensures most { result ≤ 2 ^ 30 }
+    ensures least { EMPTY_JOURNAL ≤ result }
+    ensures most { result ≤ MAX_JOURNAL }
 {
     limit.max(EMPTY_JOURNAL).min(MAX_JOURNAL)
 }

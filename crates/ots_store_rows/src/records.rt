@@ -15,7 +15,7 @@ pub fn commitment_of(bytes: &[u8]) -> [u8; 44] {
     }
 }
 
-// The root of these words; of others than 32 bytes, one of zeros.
+/// The root of these words; of others than 32 bytes, one of zeros.
 fn root_of(alloc: Global, text: &str) -> Result<[u8; 32], OutOfMemory> {
     match <[u8; 32]>::try_from(bytes_of(alloc, text)?.as_slice()) {
         Ok(root) => Ok(root),

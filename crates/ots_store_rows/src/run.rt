@@ -1,4 +1,4 @@
-// The openings of any disk, and the calls behind each. What holds a journal or a store stays in these
+// The openings of any disk, and the calls after each. What holds a journal or a store stays in these
 // functions and those below them, which give texts back.
 use crate::lines::{Form, Line, Opening};
 use crate::open::{Unopened, open_journal, open_store};
@@ -8,7 +8,7 @@ use ots_base::OutOfMemory;
 use ots_disk::Disk;
 use std::alloc::Global;
 
-/// Opens a disk again and again, makes the calls behind each opening, and hands the disk back.
+/// Opens a disk again and again, makes the calls after each opening, and hands the disk back.
 pub fn run<D: Disk + Drop>(
     alloc: Global,
     disk: D,
@@ -28,7 +28,7 @@ pub fn run<D: Disk + Drop>(
     Ok(disk)
 }
 
-// Makes calls of the journal on a disk.
+/// Makes calls of the journal on a disk.
 fn run_journal<D: Disk + Drop>(
     alloc: Global,
     disk: D,
@@ -50,7 +50,7 @@ fn run_journal<D: Disk + Drop>(
     Ok(opened.into_disk())
 }
 
-// The same of the store on a disk.
+/// The same of the store on a disk.
 fn run_store<D: Disk + Drop>(
     alloc: Global,
     disk: D,
@@ -72,7 +72,7 @@ fn run_store<D: Disk + Drop>(
     Ok(opened.into_disk())
 }
 
-// Tells why a disk was not opened, and how often it has failed.
+/// Tells why a disk was not opened, and how often it has failed.
 fn refuse<D: Disk + Drop>(
     alloc: Global,
     unopened: Unopened<D>,

@@ -8,7 +8,7 @@ use crate::told;
 use ots_base::OutOfMemory;
 use std::alloc::Global;
 
-/// The words that have names, what the disk begins as, its openings with the calls behind each, and
+/// The words that have names, what the disk begins as, its openings with the calls after each, and
 /// what is asked of it at the end.
 #[derive(Drop)]
 pub struct Scene {
@@ -53,7 +53,7 @@ impl Scene {
         }
     }
 
-    // Takes a line that says what the disk begins as, or names words.
+    /// Takes a line that says what the disk begins as, or names words.
     fn begin(&mut self, alloc: Global, word: &str, rest: &str) -> Result<(), OutOfMemory> {
         match word {
             "disk" => self.start.bytes = bytes_of(alloc, rest)?,
@@ -68,7 +68,7 @@ impl Scene {
         Ok(())
     }
 
-    // Takes a line that is done at the end; a comment in front of them is repeated now.
+    /// Takes a line that is done at the end; a comment before them is repeated now.
     fn keep(&mut self, alloc: Global, word: &str, line: Line) -> Result<String, OutOfMemory> {
         match word {
             "journal" => self

@@ -11,7 +11,7 @@ pub fn number_of(word: &str) -> u64 {
     word.parse::<u64>().unwrap_or(0)
 }
 
-/// The number in front, and the words behind it.
+/// The number in prefix, and the words after it.
 pub fn split_number(text: &str) -> (u64, &str) {
     let (word, rest) = text.split_once(' ').unwrap_or((text, ""));
     (number_of(word), rest)
@@ -39,7 +39,7 @@ pub fn bytes_of(alloc: Global, text: &str) -> Result<Vec<u8>, OutOfMemory> {
     Ok(bytes)
 }
 
-// Appends a part so many times.
+/// Appends a part so many times.
 fn push_times(bytes: &mut Vec<u8>, part: &[u8], count: u64) -> Result<(), OutOfMemory> {
     for _ in 0..count {
         bytes.extend_from_slice(part)?;
@@ -89,7 +89,7 @@ pub fn spelled(alloc: Global, bytes: &[u8]) -> Result<String, OutOfMemory> {
     }
 }
 
-/// Numbers in order, `-` where there is none, with `*n` behind one that stands n times.
+/// Numbers in order, `-` where there is none, with `*n` after one that stands n times.
 pub fn spelled_numbers(alloc: Global, numbers: &[Option<u64>]) -> Result<String, OutOfMemory> {
     let mut text = String::new(alloc);
     let mut last = None;
@@ -107,7 +107,7 @@ pub fn spelled_numbers(alloc: Global, numbers: &[Option<u64>]) -> Result<String,
     Ok(text)
 }
 
-// Appends a number that stands so many times.
+/// Appends a number that stands so many times.
 fn push_number(
     alloc: Global,
     text: &mut String,

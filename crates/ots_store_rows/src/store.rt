@@ -28,7 +28,7 @@ pub fn answer<D: Disk>(
     }
 }
 
-// Adds a commitment.
+/// Adds a commitment.
 fn commit<D: Disk>(
     alloc: Global,
     store: &mut Store<D>,
@@ -37,7 +37,7 @@ fn commit<D: Disk>(
     told::appended(alloc, store.add_commit(commitment))
 }
 
-// Adds the commitment of 44 bytes of each of these values.
+/// Adds the commitment of 44 bytes of each of these values.
 fn commit_each<D: Disk>(
     alloc: Global,
     store: &mut Store<D>,
@@ -53,7 +53,7 @@ fn commit_each<D: Disk>(
     Ok(text)
 }
 
-// Adds a tip, where it may follow.
+/// Adds a tip, where it may follow.
 fn add_tip<D: Disk>(alloc: Global, store: &mut Store<D>, tip: &Tip) -> Result<String, OutOfMemory> {
     if !store.is_sure() {
         return told::words(alloc, "unsure");
@@ -64,7 +64,7 @@ fn add_tip<D: Disk>(alloc: Global, store: &mut Store<D>, tip: &Tip) -> Result<St
     told::added(alloc, store.add_tip(tip))
 }
 
-// Adds an anchor, where it may follow.
+/// Adds an anchor, where it may follow.
 fn add_anchor<D: Disk>(
     alloc: Global,
     store: &mut Store<D>,
@@ -79,7 +79,7 @@ fn add_anchor<D: Disk>(
     told::added(alloc, store.add_anchor(anchor))
 }
 
-// Adds a group, of which no entry is bad.
+/// Adds a group, of which no entry is bad.
 fn add_group<D: Disk>(
     alloc: Global,
     store: &mut Store<D>,
@@ -97,7 +97,7 @@ fn add_group<D: Disk>(
     }
 }
 
-// Takes the memory for one commitment or one tip.
+/// Takes the memory for one commitment or one tip.
 fn reserve<D: Disk>(alloc: Global, store: &mut Store<D>) -> Result<String, OutOfMemory> {
     match store.reserve() {
         Ok(()) => told::words(alloc, "ok"),
@@ -112,7 +112,7 @@ fn refresh<D: Disk>(alloc: Global, store: &mut Store<D>) -> Result<String, OutOf
     }
 }
 
-// What a store says of itself.
+/// What a store says of itself.
 fn asked<D: Disk>(
     alloc: Global,
     store: &Store<D>,
@@ -151,7 +151,7 @@ pub fn state<D: Disk>(alloc: Global, store: &Store<D>) -> Result<String, OutOfMe
     )?)
 }
 
-// The indexes of the commitments of 44 bytes of these values.
+/// The indexes of the commitments of 44 bytes of these values.
 fn indexes<D: Disk>(alloc: Global, store: &Store<D>, values: &[u8]) -> Result<String, OutOfMemory> {
     let mut found = Vec::new(alloc);
     for value in values {
@@ -160,7 +160,7 @@ fn indexes<D: Disk>(alloc: Global, store: &Store<D>, values: &[u8]) -> Result<St
     spelled_numbers(alloc, &found)
 }
 
-// The first anchor that covers an index.
+/// The first anchor that covers an index.
 fn covering<D: Disk>(alloc: Global, store: &Store<D>, i: u64) -> Result<String, OutOfMemory> {
     match store.anchor_of(i) {
         Some(anchor) => text_of_anchor(alloc, anchor),
@@ -168,7 +168,7 @@ fn covering<D: Disk>(alloc: Global, store: &Store<D>, i: u64) -> Result<String, 
     }
 }
 
-// The heights of the first anchors that cover the indexes up to a number.
+/// The heights of the first anchors that cover the indexes up to a number.
 fn heights<D: Disk>(alloc: Global, store: &Store<D>, count: u64) -> Result<String, OutOfMemory> {
     let mut found = Vec::new(alloc);
     for i in 0..count {
@@ -184,7 +184,7 @@ fn height_at<D: Disk>(store: &Store<D>, i: u64) -> Option<u64> {
     }
 }
 
-// The entry of a record.
+/// The entry of a record.
 fn entry<D: Disk>(alloc: Global, store: &Store<D>, i: u64) -> Result<String, OutOfMemory> {
     if i >= store.entries() {
         return told::words(alloc, "none");
@@ -193,7 +193,7 @@ fn entry<D: Disk>(alloc: Global, store: &Store<D>, i: u64) -> Result<String, Out
     told::entry(alloc, kind, payload)
 }
 
-// The commitment of an index.
+/// The commitment of an index.
 fn commitment<D: Disk>(alloc: Global, store: &Store<D>, i: u64) -> Result<String, OutOfMemory> {
     if i >= store.commits() {
         return told::words(alloc, "none");
@@ -201,7 +201,7 @@ fn commitment<D: Disk>(alloc: Global, store: &Store<D>, i: u64) -> Result<String
     spelled(alloc, &store.commit(i))
 }
 
-// Whether the commitments are those of 44 bytes of these values.
+/// Whether the commitments are those of 44 bytes of these values.
 fn commitments<D: Disk>(
     alloc: Global,
     store: &Store<D>,

@@ -66,7 +66,7 @@ pub fn not_opened(alloc: Global, why: Why) -> Result<String, OutOfMemory> {
     }
 }
 
-// Why a journal was not opened.
+/// Why a journal was not opened.
 fn no_journal(alloc: Global, why: JournalError) -> Result<String, OutOfMemory> {
     match why {
         JournalError::DiskFault => words(alloc, "disk fault"),
@@ -94,7 +94,7 @@ pub fn old_entries(alloc: Global, bytes: &[u8]) -> Result<String, OutOfMemory> {
     }
 }
 
-// Entries as a script spells them.
+/// Entries as a script spells them.
 fn listed(alloc: Global, entries: &[Entry]) -> Result<String, OutOfMemory> {
     if entries.is_empty() {
         return words(alloc, "none");

@@ -29,8 +29,10 @@ pub record TakesSettled (ticket : Ticket) (uri : List ℕ) (old new : TicketsTol
 abbrev pub Takes : Ticket → List ℕ → TicketsTold → TicketsTold → Taken → Type 0
 Takes ticket uri old new answer =
     TakesSettled ticket uri old new answer
-    ⊎ ((NoneIs (IsSettled ticket) old.settled × OneIs (Waits ticket) old.waiting × (new ≡ old) × (answer ≡ taken.Waiting))
-    ⊎ (NoneIs (IsSettled ticket) old.settled × NoneIs (Waits ticket) old.waiting × (new ≡ old) × (answer ≡ taken.Unknown)))
+    ⊎ ((NoneIs (IsSettled ticket) old.settled × OneIs (Waits ticket) old.waiting × (new ≡ old)
+    × (answer ≡ taken.Waiting))
+    ⊎ (NoneIs (IsSettled ticket) old.settled × NoneIs (Waits ticket) old.waiting × (new ≡ old)
+    × (answer ≡ taken.Unknown)))
 
 -- What is answered, where the ticket's round is closed.
 abbrev pub IfSettled : Taken → (List Token → Receipt → Type 0) → Type 0
@@ -38,10 +40,10 @@ IfSettled (taken.Settled tree receipt) P = P tree receipt
 IfSettled taken.Waiting P = Unit {0}
 IfSettled taken.Unknown P = Unit {0}
 
--- The tree is that of one path, which puts the ticket's nonce behind its digest, hashes that, leads to the receipt's
+-- The tree is that of one path, which puts the ticket's nonce after its digest, hashes that, leads to the receipt's
 -- commitment, and ends in a pending attestation of this URI.
 pub record LeadsTo (ticket : Ticket) (uri : List ℕ) (tree : List Token) (receipt : Receipt) : Type 0 where
-  -- the operations behind the first two
+  -- the operations after the first two
   pub rest : List Op
   pub tree_is : tree ≡ pre (lone (Append ticket.nonce ∷ Sha256 ∷ rest) (Pending uri))
   pub leads : value (Append ticket.nonce ∷ Sha256 ∷ rest) ticket.leaf ≡ Some receipt.commitment

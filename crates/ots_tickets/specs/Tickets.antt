@@ -23,7 +23,8 @@ pub record IsNew (number : ℕ) (t : TicketsTold) : Type 0 where
 abbrev pub settles_from : ℕ → List ℕ → List (List ℕ) → ℕ → List Ticket → List Settled
 settles_from index commitment leaves i [] = []
 settles_from index commitment leaves i (ticket ∷ tickets) =
-    (record { ticket = ticket; receipt = record { index = index; commitment = commitment }; path = path leaves i }) ∷ settles_from index commitment leaves (suc i) tickets
+    (record { ticket = ticket; receipt = record { index = index; commitment = commitment }; path = path leaves i })
+    ∷ settles_from index commitment leaves (suc i) tickets
 
 -- All tickets of a round that is closed.
 abbrev pub settles : List ℕ → ℕ → ℕ → List Ticket → List Settled

@@ -1,5 +1,6 @@
 //! Tickets sought among others.
-ghost use Rattle.std.specs.Prelude.{◌≡◌, ◌<◌, ◌≤◌, true, false, length, MatchOption, IfSome, slice_index_or, slice_get, Some};
+ghost use Rattle.std.specs.Prelude.{◌≡◌, ◌<◌, ◌≤◌, true, false, length, MatchOption, IfSome, slice_index_or, slice_get};
+ghost use Rattle.std.specs.Prelude.{Some};
 ghost use Rattle.std.specs.List.{AllByRecursion};
 ghost use Rattle.ots_tickets.specs.Tickets.{Waits, IsSettled, NoneIs};
 ghost use Rattle.ots_tickets.specs.Search.{IsPlace};
@@ -25,7 +26,8 @@ pub fn place_of_waiting(waiting: &[Ticket], ticket: &Ticket) -> Option<usize>
 
 /// The place of a ticket among those whose round is closed, likewise.
 pub fn place_of_settled(settled: &[Settled], ticket: &Ticket) -> Option<usize>
-    ensures { MatchOption result (NoneIs (IsSettled ticket.now) settled.now) (IsPlace (IsSettled ticket.now) settled.now) }
+    ensures { MatchOption result (NoneIs (IsSettled ticket.now) settled.now)
+        (IsPlace (IsSettled ticket.now) settled.now) }
 {
     if let Some(place) = settled_by_number(settled, ticket) {
         return Some(place);

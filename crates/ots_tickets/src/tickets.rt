@@ -1,5 +1,6 @@
 //! Tickets that wait, and tickets whose round is closed.
-ghost use Rattle.std.specs.Prelude.{◌≡◌, ◌≤◌, ◌<◌, ◌^◌, ◌++◌, ◌∷◌, [], ℕ, List, Err, IfOk, IfErr, OnOk, OnErr, IfSome, MatchOption, length, map};
+ghost use Rattle.std.specs.Prelude.{◌≡◌, ◌≤◌, ◌<◌, ◌^◌, ◌++◌, ◌∷◌, [], ℕ, List, Err, IfOk, IfErr, OnOk, OnErr, IfSome};
+ghost use Rattle.std.specs.Prelude.{MatchOption, length, map};
 ghost use Rattle.std.specs.List.{AllByRecursion};
 ghost use Rattle.ots_tickets.specs.Tickets.{IsNew, Leads};
 ghost use Rattle.ots_tickets.specs.Calls.{tree_of, IfSettled, LeadsTo, Takes, Withdraws};
@@ -60,7 +61,11 @@ impl Model for Tickets {
 
     ghost Value = { TicketsTold };
 
-    ghost view = { λ t. record { waiting = t.waiting.items; settled = t.settled.items; spare = vec_capacity t.settled - length t.settled.items } };
+    ghost view = { λ t. record {
+      waiting = t.waiting.items;
+      settled = t.settled.items;
+      spare = vec_capacity t.settled - length t.settled.items;
+    } };
 
     ghost invariant = { λ t. AreNumbered t.next t.waiting.items t.settled.items };
 }
@@ -134,7 +139,8 @@ impl Tickets {
         ensures waiting { self.new.waiting ≡ self.old.waiting }
         ensures settled { self.new.settled ≡ self.old.settled }
         ensures ready { IfOk result (λ made. MatchOption made (self.old.waiting ≡ [])
-            (λ r. IsReady key.now second self.old.waiting r.commitment r.settled.items × (length r.settled.items ≤ self.new.spare))) }
+            (λ r. IsReady key.now second self.old.waiting r.commitment r.settled.items
+            × (length r.settled.items ≤ self.new.spare))) }
     {
         if self.waiting.is_empty() {
             return Ok(None);
@@ -147,7 +153,8 @@ impl Tickets {
     /// The tickets that waited are settled by their round, whose commitment is stored at an index.
     pub fn settle(&mut self, made: Ready, index: u64)
         requires room { length made.settled.items ≤ self.old.spare }
-        requires same { (key : List ℕ) × (second : ℕ) × IsReady key second self.old.waiting made.commitment made.settled.items }
+        requires same { (key : List ℕ) × (second : ℕ) × IsReady key second self.old.waiting made.commitment
+            made.settled.items }
         ensures waiting { self.new.waiting ≡ [] }
         ensures settled { self.new.settled ≡ self.old.settled ++ map (at_index index) made.settled.items }
     {

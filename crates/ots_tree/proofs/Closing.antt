@@ -143,5 +143,5 @@ front_room n k ts s low e = falls_room depth k s.nodes s.forked low (open_falls 
 one_deeper : IsMappedWhere depth shape_after one_more
 one_deeper o s r e = let h = counts o s r e in let low = h.1 in ap Some (omega (arith, h.0))
 
-pub front_depths : (n k : ℕ) (ts : List Token) (s : Open) → opened (start n k) ts ≡ Some s → walk.opened one_more (walk.begun k) ts ≡ Some (map_open depth s)
-front_depths n k ts s e = opened_along depth shape_after one_more one_deeper ts (start n k) s e
+pub prefix_depths : (n k : ℕ) (ts : List Token) (s : Open) → opened (start n k) ts ≡ Some s → walk.opened one_more (walk.begun k) ts ≡ Some (map_open depth s)
+prefix_depths n k ts s e = opened_along depth shape_after one_more one_deeper ts (start n k) s e

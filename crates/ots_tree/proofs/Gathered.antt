@@ -5,21 +5,21 @@ use Rattle.std.proofs.lemmas.List.{append-nil, take-append-drop, take-append-le,
 use Rattle.std.proofs.lemmas.List.Concat.{flat_map-append}
 use Rattle.ots_tree.specs.declared.token.Token.{Token}
 use Rattle.ots_tree.specs.Wire.{spell, spelled}
-use Rattle.ots_outside.specs.Streams.{Takes, TakesFront}
+use Rattle.ots_outside.specs.Streams.{Takes, TakesPrefix}
 use Rattle.ots_outside.specs.Buffered.{Buffered}
-use Rattle.ots_outside.proofs.Buffers.{all_written, front_written, held_more, moved_on}
+use Rattle.ots_outside.proofs.Buffers.{all_written, prefix_written, held_more, moved_on}
 
 -- ---- in a buffer
 
--- what was written at the front of a chunk of a larger buffer
-pub front_of_chunk : (s made behind rest : List ℕ) (n : ℕ) → made ≡ s ++ behind → n ≡ length s → take n (made ++ rest) ≡ s
-front_of_chunk s made behind rest n is long =
+-- what was written at the start of a chunk of a larger buffer
+pub prefix_of_chunk : (s made after rest : List ℕ) (n : ℕ) → made ≡ s ++ after → n ≡ length s → take n (made ++ rest) ≡ s
+prefix_of_chunk s made after rest n is long =
     ap (λ (z : ℕ). take z (made ++ rest)) long
     ∙ ap (λ (z : List ℕ). take (length s) (z ++ rest)) is
-    ∙ ap (take (length s)) (append_assoc s behind rest)
-    ∙ take-append_seam s (behind ++ rest)
+    ∙ ap (take (length s)) (append_assoc s after rest)
+    ∙ take-append_seam s (after ++ rest)
 
--- behind the filled part
+-- after the filled part
 pub filled_more : (buffer out rest s : List ℕ) (filled n : ℕ) → filled ≤ length buffer → n ≤ length out → take n out ≡ s
     → take (filled + n) (take filled buffer ++ (out ++ rest)) ≡ take filled buffer ++ s
 filled_more buffer out rest s filled n in_range few is =
@@ -41,12 +41,12 @@ token_gathered a b c tokens i x held left now in_range is grown p q =
     (subst (Buffered a c (spelled (take i tokens) ++ spell x)) (sym grown)
     (held_more a c (spelled (take i tokens)) left (spell x) (moved_on a b c (spelled (take i tokens)) held left p q)))
 
-pub front_of_tokens : (a b c : Option (List ℕ)) (tokens : List Token) (i : ℕ) (held : List ℕ)
-    → Buffered a b (spelled (take i tokens)) held → TakesFront b c held → TakesFront a c (spelled tokens)
-front_of_tokens a b c tokens i held p q =
+pub prefix_of_tokens : (a b c : Option (List ℕ)) (tokens : List Token) (i : ℕ) (held : List ℕ)
+    → Buffered a b (spelled (take i tokens)) held → TakesPrefix b c held → TakesPrefix a c (spelled tokens)
+prefix_of_tokens a b c tokens i held p q =
     let whole : spelled (take i tokens) ++ spelled (drop i tokens) ≡ spelled tokens =
     sym (flat_map-append spell (take i tokens) (drop i tokens)) ∙ ap spelled (take-append-drop i tokens) in
-    subst (TakesFront a c) whole (front_written a b c (spelled (take i tokens)) held (spelled (drop i tokens)) p q)
+    subst (TakesPrefix a c) whole (prefix_written a b c (spelled (take i tokens)) held (spelled (drop i tokens)) p q)
 
 pub all_of_tokens : (a b c : Option (List ℕ)) (tokens : List Token) (i : ℕ) (held : List ℕ) → length tokens ≤ i
     → Buffered a b (spelled (take i tokens)) held → Takes b c held → Takes a c (spelled tokens)

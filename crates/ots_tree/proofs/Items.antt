@@ -51,17 +51,17 @@ cut (last i) = cut_last i
 cut (more i t) =
     let c = cut t in
     let fork = at_depth 0 token.Fork in
-    let front = listed_item 0 i in
+    let prefix = listed_item 0 i in
     record {
-      before = fork ∷ (front ++ c.before);
+      before = fork ∷ (prefix ++ c.before);
       first = c.first;
       rest = c.rest;
-      is = ap (λ (z : List TokenAt). fork ∷ (front ++ z)) c.is ∙ ap (λ (z : List TokenAt). fork ∷ z) (sym (append_assoc front c.before (c.first ∷ c.rest)));
+      is = ap (λ (z : List TokenAt). fork ∷ (prefix ++ z)) c.is ∙ ap (λ (z : List TokenAt). fork ∷ z) (sym (append_assoc prefix c.before (c.first ∷ c.rest)));
       at_root = c.at_root;
       deep = c.deep;
       more_is = λ u.
-          ap (λ (z : List TokenAt). fork ∷ (front ++ z)) (c.more_is u)
-          ∙ ap (λ (z : List TokenAt). fork ∷ z) (sym (append_assoc front c.before (fork ∷ ((c.first ∷ c.rest) ++ listed 0 u))));
+          ap (λ (z : List TokenAt). fork ∷ (prefix ++ z)) (c.more_is u)
+          ∙ ap (λ (z : List TokenAt). fork ∷ z) (sym (append_assoc prefix c.before (fork ∷ ((c.first ∷ c.rest) ++ listed 0 u))));
     }
 
 -- ---- the last number that is 0

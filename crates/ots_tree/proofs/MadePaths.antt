@@ -10,7 +10,7 @@ use Rattle.ots_tree.specs.declared.token.Token.{Token}
 use Rattle.ots_tree.specs.declared.token.Token.TheVariants as token
 use Rattle.ots_tree.specs.Wire.{Node, last, more, attested, pre, Path, paths, paths_of_item, below, IsPre}
 use Rattle.ots_tree.specs.Sound.{length_after, IsSoundPath, IsSound, IsSoundPre}
-use Rattle.ots_tree.specs.Made.{chain, lone, joined, behind, IsUnder, IsBeside, IsSoundBehind}
+use Rattle.ots_tree.specs.Made.{chain, lone, joined, after, IsUnder, IsBeside, IsSoundAfter}
 use Rattle.ots_tree.proofs.Closing.{all-append, all-left, all-right, down, up, step_leads}
 use Rattle.ots_tree.proofs.Determined.{same_pre}
 
@@ -37,15 +37,15 @@ result_under ops below made (Err e) u is = is
 
 -- ---- paths
 
-none_before : (ps : List Path) → ps ≡ map (behind []) ps
+none_before : (ps : List Path) → ps ≡ map (after []) ps
 none_before [] = refl
 none_before (p ∷ ps) = ap (λ (z : List Path). p ∷ z) (none_before ps)
 
-one_before : (o : Op) (ops : List Op) (ps : List Path) → map (below o) (map (behind ops) ps) ≡ map (behind (o ∷ ops)) ps
+one_before : (o : Op) (ops : List Op) (ps : List Path) → map (below o) (map (after ops) ps) ≡ map (after (o ∷ ops)) ps
 one_before o ops [] = refl
-one_before o ops (p ∷ ps) = ap (λ (z : List Path). behind (o ∷ ops) p ∷ z) (one_before o ops ps)
+one_before o ops (p ∷ ps) = ap (λ (z : List Path). after (o ∷ ops) p ∷ z) (one_before o ops ps)
 
-pub paths-chain : (ops : List Op) (t : Node) → paths (chain ops t) ≡ map (behind ops) (paths t)
+pub paths-chain : (ops : List Op) (t : Node) → paths (chain ops t) ≡ map (after ops) (paths t)
 paths-chain [] t = none_before (paths t)
 paths-chain (o ∷ ops) t = ap (map (below o)) (paths-chain ops t) ∙ one_before o ops (paths t)
 
@@ -58,11 +58,11 @@ paths-joined (more i t) u = ap (λ (z : List Path). paths_of_item i ++ z) (paths
 
 -- ---- sound for a message of some length
 
-behind_sound : (ops : List Op) (n k : ℕ) (t : Node) → IsSound n k (chain ops t) → (m : ℕ) × (length_after ops n ≡ Some m) × IsSound m (k + length ops) t
-behind_sound [] n k t h = (n, refl, subst (λ (z : ℕ). IsSound n z t) (omega arith) h)
-behind_sound (o ∷ ops) n k t h =
+after_sound : (ops : List Op) (n k : ℕ) (t : Node) → IsSound n k (chain ops t) → (m : ℕ) × (length_after ops n ≡ Some m) × IsSound m (k + length ops) t
+after_sound [] n k t h = (n, refl, subst (λ (z : ℕ). IsSound n z t) (omega arith) h)
+after_sound (o ∷ ops) n k t h =
     let l = step_leads o (chain ops t) n k h in
-    let r = behind_sound ops l.result (k + 1) t (down o n k l.result l.is (paths (chain ops t)) h) in
+    let r = after_sound ops l.result (k + 1) t (down o n k l.result l.is (paths (chain ops t)) h) in
     let deep : (k + 1) + length ops ≡ k + length (o ∷ ops) = omega arith in
     (r.0, ap (option_and_then (length_after ops)) l.is ∙ r.1, subst (λ (z : ℕ). IsSound r.0 z t) deep r.2)
 
@@ -70,24 +70,24 @@ some_result : (x : Option ℕ) (f : ℕ → Option ℕ) (r : ℕ) → option_and
 some_result None f r h = absurd cc
 some_result (Some m) f r h = (m, refl, h)
 
-sound_behind : (ops : List Op) (n k m : ℕ) (t : Node) → length_after ops n ≡ Some m → IsSound m (k + length ops) t → IsSound n k (chain ops t)
-sound_behind [] n k m t reached h =
+sound_after : (ops : List Op) (n k m : ℕ) (t : Node) → length_after ops n ≡ Some m → IsSound m (k + length ops) t → IsSound n k (chain ops t)
+sound_after [] n k m t reached h =
     let same : m ≡ n = cc in
     subst (λ (z : ℕ). IsSound z k t) same (subst (λ (z : ℕ). IsSound m z t) (omega arith) h)
-sound_behind (o ∷ ops) n k m t reached h =
+sound_after (o ∷ ops) n k m t reached h =
     let r = some_result (len o n) (length_after ops) m reached in
     let deep : k + length (o ∷ ops) ≡ (k + 1) + length ops = omega arith in
-    up o n k r.0 r.1 (paths (chain ops t)) (sound_behind ops r.0 (k + 1) m t r.2 (subst (λ (z : ℕ). IsSound m z t) deep h))
+    up o n k r.0 r.1 (paths (chain ops t)) (sound_after ops r.0 (k + 1) m t r.2 (subst (λ (z : ℕ). IsSound m z t) deep h))
 
-pub sound_under : (n k : ℕ) (ops : List Op) (below made : List Token) → IsUnder ops below made → IsSoundPre n k made ↔ IsSoundBehind ops n k below
+pub sound_under : (n k : ℕ) (ops : List Op) (below made : List Token) → IsUnder ops below made → IsSoundPre n k made ↔ IsSoundAfter ops n k below
 sound_under n k ops below made u = (
   λ (t, sound, is).
       let one : t ≡ chain ops u.node = same_pre t (chain ops u.node) (is ∙ sym u.made_is) in
-      let r = behind_sound ops n k u.node (subst (IsSound n k) one sound) in
+      let r = after_sound ops n k u.node (subst (IsSound n k) one sound) in
       record { result = r.0; reached = r.1; sound = (u.node, r.2, u.node_is) },
   λ r.
       let one : r.sound.0 ≡ u.node = same_pre r.sound.0 u.node (r.sound.2 ∙ sym u.node_is) in
-      (chain ops u.node, sound_behind ops n k r.result u.node r.reached (subst (IsSound r.result (k + length ops)) one r.sound.1), u.made_is),
+      (chain ops u.node, sound_after ops n k r.result u.node r.reached (subst (IsSound r.result (k + length ops)) one r.sound.1), u.made_is),
 )
 
 pub sound_beside : (n k : ℕ) (first second made : List Token) → IsBeside first second made → IsSoundPre n k made ↔ (IsSoundPre n k first × IsSoundPre n k second)

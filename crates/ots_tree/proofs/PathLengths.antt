@@ -10,6 +10,7 @@ use Rattle.ots_ops.specs.ResultLength.{len}
 use Rattle.ots_tree.specs.declared.token.Token.{Token}
 use Rattle.ots_tree.specs.declared.token.Token.TheVariants as token
 use Rattle.ots_tree.specs.declared.token.TokenAt.{TokenAt}
+use Rattle.ots_tree.specs.declared.shape.Shape.{Shape}
 use Rattle.ots_tree.specs.Wire.{Node, Item, last, more, attested, step, paths, paths_of_item}
 use Rattle.ots_tree.specs.Listed.{listed, listed_item}
 use Rattle.ots_tree.specs.Sound.{IsSoundPath, IsSound, IsSoundPre}
@@ -24,16 +25,16 @@ record Agrees (n d : ℕ) (lengths : List ℕ) : Type 0 where
   room : length lengths ≡ 256
   here : get_or lengths d 0 ≡ n
 
--- lengths that differ only behind depth d
+-- lengths that differ only after depth d
 record Same (d : ℕ) (old new : List ℕ) : Type 0 where
   room : length new ≡ length old
   before : (j : ℕ) → j ≤ d → get_or new j 0 ≡ get_or old j 0
 
 -- what is left after a sound part
 record Passes (k d : ℕ) (lengths : List ℕ) (part rest : List TokenAt) : Type 0 where
-  behind : List ℕ
-  same : Same d lengths behind
-  walk : all_passed k (part ++ rest) lengths ≡ all_passed k rest behind
+  after : List ℕ
+  same : Same d lengths after
+  walk : all_passed k (part ++ rest) lengths ≡ all_passed k rest after
 
 cap-low : (d : ℕ) → d ≤ 255 → min d (2 ^ 32 - 1) ≡ d
 cap-low d low = omega arith
@@ -52,8 +53,8 @@ stepped n d m lengths h low =
     let in_range : d + 1 < length lengths = omega arith in
     record { room = length-set lengths (d + 1) m ∙ room; here = rw get_or-set_same refl }
 
-step_same : (d m : ℕ) (lengths behind : List ℕ) → Same (d + 1) (set lengths (d + 1) m) behind → Same d lengths behind
-step_same d m lengths behind s = record {
+step_same : (d m : ℕ) (lengths after : List ℕ) → Same (d + 1) (set lengths (d + 1) m) after → Same d lengths after
+step_same d m lengths after s = record {
   room = s.room ∙ length-set lengths (d + 1) m;
   before = λ j low. let other : j ≢ d + 1 = omega arith in s.before j (omega arith) ∙ rw get_or-set_other refl;
 }
@@ -70,16 +71,16 @@ mutual
   node_passes (last i) k n d lengths rest h a = item_passes i k n d lengths rest h a
   node_passes (more i t) k n d lengths rest h a =
       let p = item_passes i k n d lengths (listed d t ++ rest) (all-left (IsSoundPath n (d + k)) (paths_of_item i) (paths t) h) a in
-      let q = node_passes t k n d p.behind rest (all-right (IsSoundPath n (d + k)) (paths_of_item i) (paths t) h) (agrees_still n d lengths p.behind a p.same) in
+      let q = node_passes t k n d p.after rest (all-right (IsSoundPath n (d + k)) (paths_of_item i) (paths t) h) (agrees_still n d lengths p.after a p.same) in
       record {
-        behind = q.behind;
-        same = same_again d lengths p.behind q.behind p.same q.same;
+        after = q.after;
+        same = same_again d lengths p.after q.after p.same q.same;
         walk = ap (λ (z : List TokenAt). all_passed k z lengths) (append_assoc (listed_item d i) (listed d t) rest) ∙ p.walk ∙ q.walk;
       }
 
   item_passes : (i : Item) (k n d : ℕ) (lengths : List ℕ) (rest : List TokenAt) → AllByRecursion (IsSoundPath n (d + k)) (paths_of_item i) → Agrees n d lengths
       → Passes k d lengths (listed_item d i) rest
-  item_passes (attested a) k n d lengths rest h g = record { behind = lengths; same = record { room = refl; before = λ j low. refl }; walk = refl }
+  item_passes (attested a) k n d lengths rest h g = record { after = lengths; same = record { room = refl; before = λ j low. refl }; walk = refl }
   item_passes (step o t) k n d lengths rest h g =
       let l = step_leads o t n (d + k) h in
       let room = l.room in
@@ -88,18 +89,18 @@ mutual
       let agrees : Agrees l.result (suc d) deeper = subst (λ (z : ℕ). Agrees l.result z deeper) (add-one d) (stepped n d l.result lengths g (omega arith)) in
       let p = node_passes t k l.result (suc d) deeper rest sound agrees in
       record {
-        behind = p.behind;
-        same = step_same d l.result lengths p.behind (subst (λ (z : ℕ). Same z deeper p.behind) (sym (add-one d)) p.same);
+        after = p.after;
+        same = step_same d l.result lengths p.after (subst (λ (z : ℕ). Same z deeper p.after) (sym (add-one d)) p.same);
         walk = ap (option_and_then (all_passed k (listed (suc d) t ++ rest))) (passed-op o k d n l.result lengths room l.is g.here) ∙ p.walk;
       }
 
 -- ---- and only there
 
-op_passed : (b : Bool) (x : Option ℕ) (g : ℕ → List ℕ) (f : List ℕ → Option (List ℕ)) → IsSome (option_and_then f (cond b (option_map g x) None))
-    → (b ≡ true) × (m : ℕ) × (x ≡ Some m) × IsSome (f (g m))
-op_passed false x g f h = absurd cc
-op_passed true None g f h = absurd cc
-op_passed true (Some m) g f h = (refl, m, refl, h)
+op_passed : (b : Bool) (x : Option ℕ) (s : ℕ → Shape) (g : Shape → List ℕ) (f : List ℕ → Option (List ℕ)) → IsSome (option_and_then f (option_map g (cond b (option_map s x) None)))
+    → (b ≡ true) × (m : ℕ) × (x ≡ Some m) × IsSome (f (g (s m)))
+op_passed false x s g f h = absurd cc
+op_passed true None s g f h = absurd cc
+op_passed true (Some m) s g f h = (refl, m, refl, h)
 
 mutual
   node_sound : (t : Node) (k n d : ℕ) (lengths : List ℕ) (rest : List TokenAt) → d + k ≤ 255 → Agrees n d lengths
@@ -109,7 +110,7 @@ mutual
       let g = subst (λ (z : List TokenAt). IsSome (all_passed k z lengths)) (append_assoc (listed_item d i) (listed d t) rest) h in
       let first = item_sound i k n d lengths (listed d t ++ rest) low a g in
       let p = item_passes i k n d lengths (listed d t ++ rest) first a in
-      let others = node_sound t k n d p.behind rest low (agrees_still n d lengths p.behind a p.same) (subst IsSome p.walk g) in
+      let others = node_sound t k n d p.after rest low (agrees_still n d lengths p.after a p.same) (subst IsSome p.walk g) in
       all-append (IsSoundPath n (d + k)) (paths_of_item i) (paths t) first others
 
   item_sound : (i : Item) (k n d : ℕ) (lengths : List ℕ) (rest : List TokenAt) → d + k ≤ 255 → Agrees n d lengths
@@ -118,7 +119,7 @@ mutual
   item_sound (step o t) k n d lengths rest low g h =
       let depth : min d (2 ^ 32 - 1) ≡ d = cap-low d (omega arith) in
       let taken = rw (depth, g.here) at h in
-      let q = op_passed (ltb (k + d) 255) (len o n) (λ m. set lengths (d + 1) m) (all_passed k (listed (suc d) t ++ rest)) taken in
+      let q = op_passed (ltb (k + d) 255) (len o n) (λ m. record { length = m; depth = (k + d) + 1 }) (λ r. set lengths (d + 1) r.length) (all_passed k (listed (suc d) t ++ rest)) taken in
       let room : k + d < 255 = ltb-true (k + d) 255 q.0 in
       let deeper = set lengths (d + 1) q.1 in
       let agrees : Agrees q.1 (suc d) deeper = subst (λ (z : ℕ). Agrees q.1 z deeper) (add-one d) (stepped n d q.1 lengths g (omega arith)) in

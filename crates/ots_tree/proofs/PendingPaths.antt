@@ -35,11 +35,11 @@ first_of : (x : Option (List ℕ)) → slice_get (option_to_list x) 0 ≡ x
 first_of None = refl
 first_of (Some m) = refl
 
-behind_depth : (f : List ℕ → Option (List ℕ)) (ms : Messages) (d : ℕ)
+after_depth : (f : List ℕ → Option (List ℕ)) (ms : Messages) (d : ℕ)
     → slice_get (take (suc d) ms ++ option_to_list (option_and_then f (slice_get ms d))) (suc d) ≡ option_and_then f (slice_get ms d)
-behind_depth f [] d = refl
-behind_depth f (m ∷ ms) zero = first_of (f m)
-behind_depth f (m ∷ ms) (suc d) = behind_depth f ms d
+after_depth f [] d = refl
+after_depth f (m ∷ ms) zero = first_of (f m)
+after_depth f (m ∷ ms) (suc d) = after_depth f ms d
 
 up_to_depth : (f : List ℕ → Option (List ℕ)) (ms : Messages) (d : ℕ)
     → take (suc d) (take (suc d) ms ++ option_to_list (option_and_then f (slice_get ms d))) ≡ take (suc d) ms
@@ -111,11 +111,11 @@ no_operation (Some x) = refl
 cap-low : (d : ℕ) → d ≤ 255 → min d (2 ^ 32 - 1) ≡ d
 cap-low d low = omega arith
 
--- what is left of a walk behind a part that has these paths
+-- what is left of a walk after a part that has these paths
 record Finds (n d : ℕ) (m : Option (List ℕ)) (messages : Messages) (part : List TokenAt) (ps : List Path) (rest : List TokenAt) : Type 0 where
-  behind : Messages
-  same : Same d messages behind
-  walk : walked n messages (part ++ rest) ≡ asked_below m d n ps ++ walked (n + length ps) behind rest
+  after : Messages
+  same : Same d messages after
+  walk : walked n messages (part ++ rest) ≡ asked_below m d n ps ++ walked (n + length ps) after rest
 
 end_asked : (n d : ℕ) (a : Attestation) (m : Option (List ℕ)) → asked n d a m ≡ asked_below m d n (record { ops = []; end = a } ∷ [])
 end_asked n d a m =
@@ -138,15 +138,15 @@ mutual
   node_finds (last i) n d k m messages rest h here = item_finds i n d k m messages rest h here
   node_finds (more i t) n d k m messages rest h here =
       let p = item_finds i n d k m messages (listed d t ++ rest) (all-left (IsSoundPath k d) (paths_of_item i) (paths t) h) here in
-      let q = node_finds t (n + length (paths_of_item i)) d k m p.behind rest (all-right (IsSoundPath k d) (paths_of_item i) (paths t) h) (here_still d messages p.behind m here p.same) in
+      let q = node_finds t (n + length (paths_of_item i)) d k m p.after rest (all-right (IsSoundPath k d) (paths_of_item i) (paths t) h) (here_still d messages p.after m here p.same) in
       record {
-        behind = q.behind;
+        after = q.after;
         same = record { is = q.same.is ∙ p.same.is };
         walk =
             ap (λ (z : List TokenAt). walked n messages z) (append_assoc (listed_item d i) (listed d t) rest)
             ∙ p.walk
             ∙ ap (λ (z : List PendingAt). asked_below m d n (paths_of_item i) ++ z) q.walk
-            ∙ joined_finds m d n (paths_of_item i) (paths t) (λ z. walked z q.behind rest);
+            ∙ joined_finds m d n (paths_of_item i) (paths t) (λ z. walked z q.after rest);
       }
 
   item_finds : (i : Item) (n d k : ℕ) (m : Option (List ℕ)) (messages : Messages) (rest : List TokenAt) → AllByRecursion (IsSoundPath k d) (paths_of_item i) → slice_get messages d ≡ m
@@ -154,7 +154,7 @@ mutual
   item_finds (attested a) n d k m messages rest h here =
       let low : min d (2 ^ 32 - 1) ≡ d = let short = h.0.short in cap-low d (omega arith) in
       record {
-        behind = messages;
+        after = messages;
         same = record { is = refl };
         walk =
             ap (λ (z : ℕ). asked n z a (slice_get messages z) ++ walked (n + 1) messages rest) low
@@ -167,17 +167,17 @@ mutual
       let low : min d (2 ^ 32 - 1) ≡ d = cap-low d (omega arith) in
       let deeper = take (suc d) messages ++ option_to_list (option_and_then (apply o) (slice_get messages d)) in
       let sound : IsSound l.result (suc d) t = subst (λ (z : ℕ). IsSound l.result z t) (add-one d) (down o k d l.result l.is (paths t) h) in
-      let there : slice_get deeper (suc d) ≡ option_and_then (apply o) m = behind_depth (apply o) messages d ∙ ap (option_and_then (apply o)) here in
+      let there : slice_get deeper (suc d) ≡ option_and_then (apply o) m = after_depth (apply o) messages d ∙ ap (option_and_then (apply o)) here in
       let p = node_finds t n (suc d) l.result (option_and_then (apply o) m) deeper rest sound there in
       record {
-        behind = p.behind;
-        same = record { is = (same_above d deeper p.behind p.same).is ∙ up_to_depth (apply o) messages d };
+        after = p.after;
+        same = record { is = (same_above d deeper p.after p.same).is ∙ up_to_depth (apply o) messages d };
         walk =
             ap (λ (z : ℕ). walked n (followed (token.Op o) z messages) (listed (suc d) t ++ rest)) low
             ∙ ap (λ (z : ℕ). walked n (take z messages ++ option_to_list (result_at o d messages)) (listed (suc d) t ++ rest)) (add-one d)
             ∙ p.walk
-            ∙ ap (λ (z : List PendingAt). z ++ walked (n + length (paths t)) p.behind rest) (sym (asked-step o m d n (paths t)))
-            ∙ ap (λ (z : ℕ). asked_below m d n (map (below o) (paths t)) ++ walked (n + z) p.behind rest) (sym (length-map (paths t) (below o)));
+            ∙ ap (λ (z : List PendingAt). z ++ walked (n + length (paths t)) p.after rest) (sym (asked-step o m d n (paths t)))
+            ∙ ap (λ (z : ℕ). asked_below m d n (map (below o) (paths t)) ++ walked (n + z) p.after rest) (sym (length-map (paths t) (below o)));
       }
 
 -- ---- each path of a sound tree has a value

@@ -40,5 +40,5 @@ closed (Some s) h = is_nil s.nodes h
 pub sound_pre : (n : ℕ) (tokens : List Token) → ∥ IsSoundPre n 0 tokens ∥₁ → IsSoundPre n 0 tokens
 sound_pre n tokens h =
     let law = front_law n 0 tokens (omega arith) in
-    let front = opened (start n 0) tokens in
-    law.0 (closed front (∥∥₁_elim h (IsShut-prop front) (λ sound. shut front (law.1 sound))))
+    let prefix = opened (start n 0) tokens in
+    law.0 (closed prefix (∥∥₁_elim h (IsShut-prop prefix) (λ sound. shut prefix (law.1 sound))))

@@ -77,12 +77,12 @@ has_result (Some r) g f h = (r, refl, h)
 
 -- a fork, an item and the other items
 joined : {S : Type 0} (by : By S) (s : S) (ss : List S) (xs : List Token) → Closes by (s ∷ s ∷ ss) true xs → Closes by (s ∷ ss) false (token.Fork ∷ xs)
-joined by s ss xs (last i, rest, goes, item, e, (others, behind, goes', item', e', more')) = (
+joined by s ss xs (last i, rest, goes, item, e, (others, after, goes', item', e', more')) = (
   more i others,
-  behind,
+  after,
   (goes, goes'),
   tt,
-  ap (λ (z : List Token). token.Fork ∷ z) (e ∙ ap (λ (z : List Token). pre_item i ++ z) e' ∙ sym (append_assoc (pre_item i) (pre others) behind)),
+  ap (λ (z : List Token). token.Fork ∷ z) (e ∙ ap (λ (z : List Token). pre_item i ++ z) e' ∙ sym (append_assoc (pre_item i) (pre others) after)),
   more',
 )
 joined by s ss xs (more i t, rest, goes, item, e, others) = absurd item
@@ -166,7 +166,7 @@ next_along f by by' h (s ∷ ss) forked (token.Op o) u e =
 next_along f by by' h (s ∷ ss) false token.Fork u e = some_on (at (s ∷ s ∷ ss) true) u (λ v. Some (at (f s ∷ f s ∷ map f ss) true) ≡ Some (map_open f v)) refl e
 next_along f by by' h (s ∷ ss) true token.Fork u e = absurd cc
 
--- the state behind the first token of those that lead on
+-- the state after the first token of those that lead on
 through : {S : Type 0} (by : By S) (o : Option (Open S)) (ts : List Token) (u : Open S) → option_and_then (λ v. opened by v ts) o ≡ Some u
     → (v : Open S) × (o ≡ Some v) × (opened by v ts ≡ Some u)
 through by None ts u e = absurd cc
@@ -179,15 +179,15 @@ opened_along f by by' h (x ∷ ts) s u e =
     let v = through by (next by x s) ts u e in
     ap (option_and_then (λ w. opened by' w ts)) (next_along f by by' h s.nodes s.forked x v.0 v.1) ∙ opened_along f by by' h ts v.0 u v.2
 
--- ---- what each token keeps holds behind all
+-- ---- what each token keeps holds after all
 
 pub kept_open : {S : Type 0} (by : By S) (P : List S → Bool → Type 0)
     → ((ss : List S) (forked : Bool) (x : Token) (u : Open S) → P ss forked → next_in by ss forked x ≡ Some u → P u.nodes u.forked)
     → (ts : List Token) (s u : Open S) → P s.nodes s.forked → opened by s ts ≡ Some u → P u.nodes u.forked
-kept_open by P behind [] s u h e = some_on s u (λ v. P v.nodes v.forked) h e
-kept_open by P behind (x ∷ ts) s u h e =
+kept_open by P after [] s u h e = some_on s u (λ v. P v.nodes v.forked) h e
+kept_open by P after (x ∷ ts) s u h e =
     let v = through by (next by x s) ts u e in
-    kept_open by P behind ts v.0 u (behind s.nodes s.forked x v.0 h v.1) v.2
+    kept_open by P after ts v.0 u (after s.nodes s.forked x v.0 h v.1) v.2
 
 next_all : {S : Type 0} (by : By S) (P : S → Type 0) → ((o : Op) (s r : S) → P s → by o s ≡ Some r → P r) → (ss : List S) (forked : Bool) (x : Token) (u : Open S)
     → AllByRecursion P ss → next_in by ss forked x ≡ Some u → AllByRecursion P u.nodes
@@ -319,7 +319,7 @@ fork_leads by true w v e h = λ s f. absurd (let is : None ≡ Some s = rw e at 
 pub forks : {S : Type 0} (by : By S) (w v : Position S) → (w.forked ≡ false → next by token.Fork (open_at w) ≡ Some (open_at v)) → IsStep by token.Fork w v true
 forks by w v h = fork_leads by w.forked w v refl h
 
--- it is met first, and then those behind it
+-- it is met first, and then those after it
 pub record Moves {S : Type 0} (by : By S) (w v : Position S) (x : Token) (xs : List Token) : Type 0 where
   pub met : met by (open_at w) (x ∷ xs) ≡ record { carried = w.last; token = x } ∷ met by (open_at v) xs
   pub ends : Ends by (open_at v) xs

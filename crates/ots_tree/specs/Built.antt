@@ -18,7 +18,7 @@ pub record Left (all noted : List ℕ) (s : Open ℕ) (ts : List Token) : Type 0
   pub numbers : noted ++ before s ts ≡ all
   pub ends : Ends one_more s ts
 
--- The numbers beside the tokens that have come are theirs, whatever comes behind them, where all are those
+-- The numbers beside the tokens that have come are theirs, whatever comes after them, where all are those
 -- of a tree.
 pub record IsBuilt (tokens : List Token) (depths : List ℕ) (s : Open ℕ) : Type 0 where
   pub left : (more : List Token) → IsPre (tokens ++ more) → Left (before (begun 0) (tokens ++ more)) depths s more

@@ -14,7 +14,8 @@ Open = walk.Open Shape
 
 -- an operation at this node leads to a node that is not too deep, where it has a result
 abbrev pub shape_after : Op → Shape → Option Shape
-shape_after o p = if nat_lt p.depth MAX_OPERATIONS then option_map (λ n. record { length = n; depth = p.depth + 1 }) (len o p.length) else None
+shape_after o p = if nat_lt p.depth MAX_OPERATIONS then option_map (λ n. record { length = n; depth = p.depth + 1 })
+    (len o p.length) else None
 
 -- before the first token
 abbrev pub start : ℕ → ℕ → Open

@@ -7,7 +7,7 @@ use Rattle.ots_tree.specs.declared.token.Token.{Token}
 use Rattle.ots_tree.specs.Wire.{Node, last, more, attested, step, pre, Path}
 use Rattle.ots_tree.specs.Sound.{length_after, IsSoundPre}
 
--- one operation after another, and a node behind the last of them
+-- one operation after another, and a node after the last of them
 abbrev pub chain : List Op → Node → Node
 chain [] t = t
 chain (o ∷ ops) t = last (step o (chain ops t))
@@ -21,7 +21,7 @@ abbrev pub joined : Node → Node → Node
 joined (last i) u = more i u
 joined (more i t) u = more i (joined t u)
 
--- Seen as its tokens, the second tree is a chain of these operations with the first behind it.
+-- Seen as its tokens, the second tree is a chain of these operations with the first after it.
 pub record IsUnder (ops : List Op) (below made : List Token) : Type 0 where
   pub node : Node
   pub node_is : pre node ≡ below
@@ -36,12 +36,12 @@ pub record IsBeside (first second made : List Token) : Type 0 where
   pub made_is : pre (joined one other) ≡ made
 
 -- a path with these operations before its own
-abbrev pub behind : List Op → Path → Path
-behind ops p = record { ops = ops ++ p.ops; end = p.end }
+abbrev pub after : List Op → Path → Path
+after ops p = record { ops = ops ++ p.ops; end = p.end }
 
 -- From a message of n bytes, below k operations, these operations have results, and on the last of
 -- them the tree is sound.
-pub record IsSoundBehind (ops : List Op) (n k : ℕ) (below : List Token) : Type 0 where
+pub record IsSoundAfter (ops : List Op) (n k : ℕ) (below : List Token) : Type 0 where
   pub result : ℕ
   pub reached : length_after ops n ≡ Some result
   pub sound : IsSoundPre result (k + length ops) below

@@ -14,7 +14,7 @@ use Rattle.ots_tree.specs.Pending.{asked}
 abbrev pub result_at : Op → ℕ → List (List ℕ) → Option (List ℕ)
 result_at o d messages = option_and_then (apply o) (slice_get messages d)
 
--- The messages of the nodes on the path, by their depths, behind a token at depth d.
+-- The messages of the nodes on the path, by their depths, after a token at depth d.
 abbrev pub followed : Token → ℕ → List (List ℕ) → List (List ℕ)
 followed token.Fork d messages = messages
 followed (token.Op o) d messages = take (d + 1) messages ++ option_to_list (result_at o d messages)
@@ -26,7 +26,7 @@ added token.Fork d n messages = []
 added (token.Op o) d n messages = []
 added (token.Attestation a) d n messages = asked n d a (slice_get messages d)
 
--- how many paths have ended behind it
+-- how many paths have ended after it
 abbrev pub ended : Token → ℕ → ℕ
 ended token.Fork n = n
 ended (token.Op o) n = n
@@ -35,4 +35,5 @@ ended (token.Attestation a) n = n + 1
 -- what all of these tokens add
 abbrev pub walked : ℕ → List (List ℕ) → List TokenAt → List PendingAt
 walked n messages [] = []
-walked n messages (l ∷ ls) = added l.token l.depth n messages ++ walked (ended l.token n) (followed l.token l.depth messages) ls
+walked n messages (l ∷ ls) = added l.token l.depth n messages
+    ++ walked (ended l.token n) (followed l.token l.depth messages) ls

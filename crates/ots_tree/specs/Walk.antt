@@ -1,6 +1,7 @@
 -- A walk over the tokens of a tree in preorder: what it carries to each node that is still open. What
 -- that is, and what an operation makes of it, is the walk's own: a length, a count, a message.
-use Rattle.std.specs.Prelude.{◌≡◌, ℕ, List, [], ◌∷◌, ◌++◌, Bool, true, false, if◌then◌else◌, Option, Some, None, unwrap_or, option_and_then, option_map}
+use Rattle.std.specs.Prelude.{◌≡◌, ℕ, List, [], ◌∷◌, ◌++◌, Bool, true, false, if◌then◌else◌, Option, Some, None}
+use Rattle.std.specs.Prelude.{unwrap_or, option_and_then, option_map}
 use Rattle.ots_ops.specs.declared.op.Op.{Op}
 use Rattle.ots_tree.specs.declared.token.Token.{Token}
 use Rattle.ots_tree.specs.declared.token.Token.TheVariants as token
@@ -71,10 +72,11 @@ open_at w = record { nodes = w.last ∷ w.others; forked = w.forked }
 abbrev pub none_open : {S : Type 0} → Open S
 none_open = record { nodes = []; forked = false }
 
--- Where a token leads on from one place, the walk is at the other behind it, or at its end where no
+-- Where a token leads on from one place, the walk is at the other after it, or at its end where no
 -- node is open.
 abbrev pub IsStep : {S : Type 0} → (Op → S → Option S) → Token → Position S → Position S → Bool → Type 0
-IsStep {S = S} by x from to going = (s : Open S) → next by x (open_at from) ≡ Some s → s ≡ (if going then open_at to else none_open)
+IsStep {S = S} by x from to going = (s : Open S) → next by x (open_at from) ≡ Some s
+    → s ≡ (if going then open_at to else none_open)
 
 -- a walk to which each operation has a result
 abbrev pub always : {S : Type 0} → (Op → S → S) → Op → S → Option S

@@ -62,7 +62,7 @@ impl TreeBuilder {
         Ok(())
     }
 
-    /// Puts the token behind the others. Without memory they stay as they are.
+    /// Puts the token after the others. Without memory they stay as they are.
     pub fn push(&mut self, token: Token) -> Result<(), OutOfMemory>
         ensures pushed { IfOk result (λ _. self.new ≡ self.old ++ token ∷ []) }
         ensures stays { IfErr result (λ _. self.new ≡ self.old) }

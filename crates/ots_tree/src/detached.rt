@@ -11,7 +11,7 @@ use ots_ops::{Digest, HashOp};
 ///
 /// The digest has the hash's length, and the tree is sound for a message of that length with no
 /// operation before it.
-#[derive(Debug, Drop)]
+#[derive(Drop)]
 pub struct Detached {
     /// The hash of the file.
     pub hash: HashOp,

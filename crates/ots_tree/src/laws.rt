@@ -7,7 +7,7 @@ ghost use Rattle.ots_tree.specs.Wire.{Node, pre, bytes, spell, paths, IsToken};
 ghost use Rattle.ots_tree.specs.declared.token.Token.{Token};
 ghost use Rattle.ots_tree.specs.Front.{Open, opened, start, IsClosed};
 ghost use Rattle.ots_tree.specs.Sound.{IsSoundPath, IsSoundPre};
-ghost use Rattle.ots_tree.specs.Made.{chain, lone, joined, behind, IsUnder, IsBeside, IsSoundBehind};
+ghost use Rattle.ots_tree.specs.Made.{chain, lone, joined, after, IsUnder, IsBeside, IsSoundAfter};
 ghost use Rattle.ots_tree.specs.Listed.{listed, token_of, is_attestation, end_below};
 ghost use Rattle.ots_ops.specs.HashOp.{digest_length};
 
@@ -23,8 +23,8 @@ pub fn fronts()
 /// the root. For from the root on each open node has an operation more before it, but that one which a
 /// fork has just kept open stands twice. So who keeps room for 256 others takes no more memory.
 pub fn room_of_fronts()
-    ensures { (n k : ℕ) (ts : List Token) (front : Open) → k ≤ MAX_OPERATIONS → opened (start n k) ts ≡ Some front
-        → length front.nodes + k ≤ MAX_OPERATIONS + 2 }
+    ensures { (n k : ℕ) (ts : List Token) (prefix : Open) → k ≤ MAX_OPERATIONS → opened (start n k) ts ≡ Some prefix
+        → length prefix.nodes + k ≤ MAX_OPERATIONS + 2 }
 {}
 
 /// A token's spelling determines it, and begins no other token's.
@@ -46,7 +46,8 @@ pub fn one_tree()
 /// the operations on its path.
 pub fn one_listing()
     ensures tokens { (k : ℕ) (t : Node) → map token_of (listed k t) ≡ pre t }
-    ensures paths { (k : ℕ) (t : Node) → filter (λ l. is_attestation l.token) (listed k t) ≡ map (end_below k) (paths t) }
+    ensures paths { (k : ℕ) (t : Node) → filter (λ l. is_attestation l.token) (listed k t)
+        ≡ map (end_below k) (paths t) }
 {}
 
 /// The spelling of a tree determines it, and no tree's spelling begins another's.
@@ -66,16 +67,18 @@ pub fn limits_of_detached(proof: &Detached)
 /// of the first, and then those of the second.
 pub fn paths_of_made_trees()
     ensures lone { (ops : List Op) (a : Attestation) → paths (lone ops a) ≡ record { ops = ops; end = a } ∷ [] }
-    ensures chain { (ops : List Op) (t : Node) → paths (chain ops t) ≡ map (behind ops) (paths t) }
+    ensures chain { (ops : List Op) (t : Node) → paths (chain ops t) ≡ map (after ops) (paths t) }
     ensures joined { (t u : Node) → paths (joined t u) ≡ paths t ++ paths u }
 {}
 
 /// When trees that are made of others are sound: a tree of one path where this path is; a chain where
-/// its operations have results and the tree behind them is sound on the last of these; and a node with
+/// its operations have results and the tree after them is sound on the last of these; and a node with
 /// the items of two where both are sound.
 pub fn sound_made_trees()
-    ensures lone { (n k : ℕ) (ops : List Op) (a : Attestation) → IsSoundPre n k (pre (lone ops a)) ↔ IsSoundPath n k (record { ops = ops; end = a }) }
-    ensures under { (n k : ℕ) (ops : List Op) (below made : List Token) → IsUnder ops below made → IsSoundPre n k made ↔ IsSoundBehind ops n k below }
+    ensures lone { (n k : ℕ) (ops : List Op) (a : Attestation)
+        → IsSoundPre n k (pre (lone ops a)) ↔ IsSoundPath n k (record { ops = ops; end = a }) }
+    ensures under { (n k : ℕ) (ops : List Op) (below made : List Token) → IsUnder ops below made
+        → IsSoundPre n k made ↔ IsSoundAfter ops n k below }
     ensures beside { (n k : ℕ) (first second made : List Token) → IsBeside first second made
         → IsSoundPre n k made ↔ (IsSoundPre n k first × IsSoundPre n k second) }
 {}

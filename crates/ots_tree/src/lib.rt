@@ -8,6 +8,7 @@ mod laws;
 mod length;
 mod listing;
 mod making;
+mod path_messages;
 mod pending;
 mod shape;
 mod sound;
@@ -26,6 +27,7 @@ pub use laws::{
 pub use length::spelled_length;
 pub use listing::listed;
 pub use making::{single, under};
+pub use path_messages::PathMessages;
 pub use pending::{PendingAt, pending_messages};
 pub use shape::Shape;
 pub use sound::is_sound;

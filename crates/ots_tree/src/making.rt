@@ -20,7 +20,7 @@ pub fn single(alloc: Global, ops: &[Op], attestation: Attestation) -> Result<Tre
     from_tokens(alloc, tokens)
 }
 
-/// The chain of these operations, which are copied, with the tree behind the last of them. Without
+/// The chain of these operations, which are copied, with the tree after the last of them. Without
 /// any operation it is the tree.
 ///
 /// The tokens of the tree are moved and none of them is copied. They lie in memory of `alloc` then,

@@ -1,18 +1,19 @@
 //! The pending paths of a proof, with the messages that calendars are asked for.
 ghost use Rattle.std.specs.Prelude.{◌≡◌, ◌+◌, ◌^◌, ◌<◌, ◌++◌, IfOk, OnOk};
 ghost use Rattle.ots_tree.specs.Kept.{IsKept, beside};
-ghost use Rattle.ots_tree.specs.PendingWalk.{added, ended, followed, result_at, walked};
+ghost use Rattle.ots_tree.specs.PendingWalk.{added, ended, walked};
 ghost use Rattle.ots_tree.specs.Pending.{ArePending};
 
 use crate::detached::Detached;
+use crate::path_messages::PathMessages;
 use crate::token::Token;
 use ots_attest::{Attestation, Uri};
 use ots_base::OutOfMemory;
-use ots_ops::{Message, Op, OpError, apply};
+use ots_ops::Message;
 use std::alloc::Global;
 
 /// A path that ends in a pending attestation.
-#[derive(Debug, Drop)]
+#[derive(Drop)]
 pub struct PendingAt {
     /// The number of the path among all paths of the tree in preorder, from 0.
     pub path: u64,
@@ -35,29 +36,27 @@ pub fn pending_messages(alloc: Global, proof: &Detached) -> Result<Vec<PendingAt
     ensures { IfOk result (λ found. ArePending proof.now found.items) }
 {
     let digest = Message::new(alloc, proof.digest.bytes())?;
-    let mut messages = Vec::new(alloc);
-    messages.push(digest)?;
+    let messages = PathMessages::begin(alloc, digest)?;
     pending_of(alloc, proof.tree.tokens(), proof.tree.depths(), messages)
 }
 
-/// The pending paths of the tree with these tokens. At each depth, `messages` has the message there,
-/// on the path of the token at which the walk is.
+/// The pending paths of the tree with these tokens, from the message of the root.
 fn pending_of(
     alloc: Global,
     tokens: &[Token],
     depths: &[u32],
-    mut messages: Vec<Message>,
+    mut messages: PathMessages,
 ) -> Result<Vec<PendingAt>, OutOfMemory>
     requires { IsKept tokens.now depths.now }
-    ensures { IfOk result (λ found. found.items ≡ walked 0 messages.items (beside tokens.now depths.now)) }
+    ensures { IfOk result (λ found. found.items ≡ walked 0 messages (beside tokens.now depths.now)) }
 {
     let mut found = Vec::new(alloc);
     let mut path = 0;
     for (at, token) in tokens.iter().enumerate() {
         let depth = depths[at];
-        note(alloc, token, depth, path, messages.as_slice(), &mut found)?;
-        path = paths_behind(token, path);
-        follow(alloc, token, depth as usize, &mut messages)?;
+        note(alloc, token, depth, path, &messages, &mut found)?;
+        path = paths_after(token, path);
+        messages.follow(token, depth as usize)?;
     }
     Ok(found)
 }
@@ -68,7 +67,7 @@ fn note(
     token: &Token,
     depth: u32,
     path: u64,
-    messages: &[Message],
+    messages: &PathMessages,
     found: &mut Vec<PendingAt>,
 ) -> Result<(), OutOfMemory>
     ensures { OnOk result (found.new.items ≡ found.old.items ++ added token.now depth path messages.now) }
@@ -76,7 +75,7 @@ fn note(
     let Token::Attestation(Attestation::Pending(uri)) = token else {
         return Ok(());
     };
-    let Some(message) = messages.get(depth as usize) else {
+    let Some(message) = messages.at(depth as usize) else {
         return Ok(());
     };
     found.push(PendingAt {
@@ -88,53 +87,13 @@ fn note(
     Ok(())
 }
 
-/// How many paths have ended behind the token.
-fn paths_behind(token: &Token, path: u64) -> u64
+/// How many paths have ended after the token.
+fn paths_after(token: &Token, path: u64) -> u64
     requires { path + 1 < 2 ^ 64 }
     ensures { result ≡ ended token.now path }
 {
     match token {
         Token::Attestation(_) => path + 1,
         _ => path,
-    }
-}
-
-/// Puts the result of an operation behind the messages up to its depth.
-fn follow(
-    alloc: Global,
-    token: &Token,
-    depth: usize,
-    messages: &mut Vec<Message>,
-) -> Result<(), OutOfMemory>
-    requires { depth < 2 ^ 32 }
-    ensures { OnOk result (messages.new.items ≡ followed token.now depth messages.old.items) }
-{
-    let Token::Op(op) = token else {
-        return Ok(());
-    };
-    let result = result_at(alloc, op, depth, messages.as_slice())?;
-    messages.truncate(depth + 1);
-    if let Some(message) = result {
-        messages.push(message)?;
-    }
-    Ok(())
-}
-
-/// The result of an operation on the message at a depth, where both are.
-fn result_at(
-    alloc: Global,
-    op: &Op,
-    depth: usize,
-    messages: &[Message],
-) -> Result<Option<Message>, OutOfMemory>
-    ensures { IfOk result (λ next. next ≡ result_at op.now depth messages.now) }
-{
-    let Some(message) = messages.get(depth) else {
-        return Ok(None);
-    };
-    match apply(alloc, op, message.bytes()) {
-        Ok(next) => Ok(Some(next)),
-        Err(OpError::OutOfMemory) => Err(OutOfMemory),
-        Err(_) => Ok(None),
     }
 }

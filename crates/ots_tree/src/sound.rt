@@ -8,7 +8,6 @@ use crate::shape::Shape;
 use crate::token::Token;
 use crate::tree::Tree;
 use ots_base::MAX_OPERATIONS;
-use ots_ops::result_length;
 
 /// Whether every operation of the tree has a result, where the root's message has the shape's
 /// length, and no path has more than 255 operations with those that the shape counts before it. It
@@ -16,7 +15,7 @@ use ots_ops::result_length;
 pub fn is_sound(tree: &Tree, shape: Shape) -> bool
     ensures { IsTrue result ↔ IsSoundPre shape.length shape.depth tree.now }
 {
-    if shape.depth > MAX_OPERATIONS {
+    if !shape.is_within() {
         return false;
     }
     let mut lengths = [shape.length; 256];
@@ -44,20 +43,25 @@ fn all_pass(tokens: &[Token], depths: &[u32], above: u32, lengths: &mut [u32]) -
 fn passes(token: &Token, depth: u32, above: u32, lengths: &mut [u32]) -> bool
     requires above { above ≤ MAX_OPERATIONS }
     requires room { length lengths.old ≡ 256 }
-    ensures { MatchBool result (passed above token.now depth lengths.old ≡ Some lengths.new) (passed above token.now depth lengths.old ≡ None) }
+    ensures { MatchBool result (passed above token.now depth lengths.old ≡ Some lengths.new)
+        (passed above token.now depth lengths.old ≡ None) }
 {
     let Token::Op(op) = token else {
         return true;
     };
-    if depth >= MAX_OPERATIONS - above {
+    let at = depth as usize;
+    if at >= lengths.len() {
         return false;
     }
-    let depth = depth as usize;
-    match result_length(op, lengths[depth] as usize) {
-        Ok(length) => {
-            lengths[depth + 1] = length as u32;
+    let shape = Shape {
+        length: lengths[at],
+        depth: above + depth,
+    };
+    match shape.after(op.borrowed()) {
+        Some(next) => {
+            lengths[at + 1] = next.length;
             true
         }
-        Err(_) => false,
+        None => false,
     }
 }

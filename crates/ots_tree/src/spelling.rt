@@ -1,7 +1,7 @@
 //! Writing the spelling of a tree.
 ghost use Rattle.std.specs.Prelude.{◌≡◌, ◌≤◌, ◌<◌, ◌+◌, ◌++◌, length, take, OnOk, IfOk};
 ghost use Rattle.ots_base.specs.Cause.{HasCause};
-ghost use Rattle.ots_outside.specs.Streams.{Takes, TakesFront};
+ghost use Rattle.ots_outside.specs.Streams.{Takes, TakesPrefix};
 ghost use Rattle.ots_tree.specs.Wire.{spell, spelled};
 ghost use Rattle.ots_outside.specs.Buffered.{Buffered};
 
@@ -25,14 +25,14 @@ impl From<Failed> for WriteFault {
 /// more might not fit.
 const GATHERED: usize = 32_768;
 
-/// Writes the spelling of a tree: the spellings of its tokens in preorder, one behind the other.
+/// Writes the spelling of a tree: the spellings of its tokens in preorder, one after the other.
 ///
 /// `WriteFault` comes only where the sink's count of faults rose, and the sink has then taken a
-/// front of the spelling. It takes no memory, and hands the sink at least 24,566 bytes at once, as
+/// prefix of the spelling. It takes no memory, and hands the sink at least 24,566 bytes at once, as
 /// long as so many are left.
 pub fn spell_to<K: Sink>(tree: &Tree, sink: &mut K) -> Result<(), WriteFault>
     ensures whole { OnOk result (Takes (K.taken sink.old) (K.taken sink.new) (spelled tree.now)) }
-    ensures front { TakesFront (K.taken sink.old) (K.taken sink.new) (spelled tree.now) }
+    ensures prefix { TakesPrefix (K.taken sink.old) (K.taken sink.new) (spelled tree.now) }
     ensures cause { HasCause (K.faults sink.old) (K.faults sink.new) result }
     ensures same { K.same sink.old sink.new }
 {
@@ -45,7 +45,7 @@ pub fn spell_to<K: Sink>(tree: &Tree, sink: &mut K) -> Result<(), WriteFault>
 fn spell_tokens<K: Sink>(tokens: &[Token], sink: &mut K, buffer: &mut [u8]) -> Result<(), Failed>
     requires { MAX_SPELLED_ATTESTATION ≤ length buffer.old }
     ensures whole { OnOk result (Takes (K.taken sink.old) (K.taken sink.new) (spelled tokens.now)) }
-    ensures front { TakesFront (K.taken sink.old) (K.taken sink.new) (spelled tokens.now) }
+    ensures prefix { TakesPrefix (K.taken sink.old) (K.taken sink.new) (spelled tokens.now) }
     ensures cause { HasCause (K.faults sink.old) (K.faults sink.new) result }
     ensures same { K.same sink.old sink.new }
 {
@@ -57,13 +57,14 @@ fn spell_tokens<K: Sink>(tokens: &[Token], sink: &mut K, buffer: &mut [u8]) -> R
     write_all(sink, &buffer[..filled])
 }
 
-/// Leaves room for a token behind the filled part, which is written where there is none.
+/// Leaves room for a token after the filled part, which is written where there is none.
 fn make_room<K: Sink>(sink: &mut K, buffer: &[u8], filled: usize) -> Result<usize, Failed>
     requires room { MAX_SPELLED_ATTESTATION ≤ length buffer.now }
     requires in_range { filled ≤ length buffer.now }
     ensures room { IfOk result (λ left. left + MAX_SPELLED_ATTESTATION ≤ length buffer.now) }
-    ensures gathered { IfOk result (λ left. Buffered (K.taken sink.old) (K.taken sink.new) (take filled buffer.now) (take left buffer.now)) }
-    ensures front { TakesFront (K.taken sink.old) (K.taken sink.new) (take filled buffer.now) }
+    ensures gathered { IfOk result (λ left. Buffered (K.taken sink.old) (K.taken sink.new) (take filled buffer.now)
+        (take left buffer.now)) }
+    ensures prefix { TakesPrefix (K.taken sink.old) (K.taken sink.new) (take filled buffer.now) }
     ensures cause { HasCause (K.faults sink.old) (K.faults sink.new) result }
     ensures same { K.same sink.old sink.new }
 {
@@ -83,7 +84,7 @@ fn gather(token: &Token, buffer: &mut [u8], filled: usize) -> usize
     filled + put_token(token, &mut buffer[filled..])
 }
 
-/// Writes the spelling of a token at the front, and answers how many bytes it has.
+/// Writes the spelling of a token at the start, and answers how many bytes it has.
 fn put_token(token: &Token, out: &mut [u8]) -> usize
     requires { MAX_SPELLED_ATTESTATION ≤ length out.old }
     ensures in_range { result ≤ length out.old }

@@ -11,7 +11,7 @@ use ots_ops::{Op, limits_of_operation};
 pub enum Token {
     /// Another item of this node follows the next one. It stands before each item but the last.
     Fork,
-    /// An operation, behind which the node of its result stands.
+    /// An operation, after which the node of its result stands.
     Op(Op),
     /// What a path ends in.
     Attestation(Attestation),
@@ -44,7 +44,7 @@ pub fn limits_of_token(token: &Token)
 }
 
 /// A token of a tree, with the number of operations before it on its path.
-#[derive(Debug, Drop)]
+#[derive(Drop)]
 pub struct TokenAt {
     /// The token.
     pub token: Token,

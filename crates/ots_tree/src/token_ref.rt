@@ -12,11 +12,11 @@ use std::alloc::Global;
 /// bytes that it was read from.
 ///
 /// Contracts see the token that it is, `token_of`.
-#[derive(Clone, Copy, Debug)]
+#[derive(Clone, Copy)]
 pub enum TokenRef<'a> {
     /// Another item of this node follows the next one. It stands before each item but the last.
     Fork,
-    /// An operation, behind which the node of its result stands.
+    /// An operation, after which the node of its result stands.
     Op(OpRef<'a>),
     /// What a path ends in.
     Attestation(AttestationRef<'a>),

@@ -162,7 +162,7 @@ fn depths_of(alloc: Global, tokens: &[Token]) -> Result<Vec<u32>, OutOfMemory>
     Ok(depths)
 }
 
-/// Counts one more token. Whether a node is open behind it, as one is behind each token of a tree but
+/// Counts one more token. Whether a node is open after it, as one is after each token of a tree but
 /// the last. Without memory the walk stays as it is.
 pub(crate) fn count(walk: &mut Walk<u32>, token: &Token) -> Result<bool, OutOfMemory>
     ensures step { IfOk result (IsStep one_more token.now walk.old walk.new) }

@@ -1,5 +1,6 @@
 //! A walk over the tokens of a tree.
-ghost use Rattle.std.specs.Prelude.{◌≡◌, ◌<◌, ◌≤◌, true, false, [], Some, Option, IfOk, IfErr, IsOk, length, if◌then◌else◌};
+ghost use Rattle.std.specs.Prelude.{◌≡◌, ◌<◌, ◌≤◌, true, false, [], Some, Option, IfOk, IfErr, IsOk, length};
+ghost use Rattle.std.specs.Prelude.{if◌then◌else◌};
 ghost use Rattle.ots_ops.specs.declared.op.Op.{Op};
 ghost use Rattle.ots_attest.specs.declared.attestation.Attestation.{Attestation};
 ghost use Rattle.ots_tree.specs.declared.token.Token.TheVariants as token;
@@ -26,7 +27,12 @@ impl<T> Model for Walk<T> {
 
     ghost Value = { Position T };
 
-    ghost view = { λ a. record { last = a.last; others = reverse a.others.items; forked = a.forked; room = vec_capacity a.others } };
+    ghost view = { λ a. record {
+      last = a.last;
+      others = reverse a.others.items;
+      forked = a.forked;
+      room = vec_capacity a.others;
+    } };
 }
 
 impl<T: Drop> Walk<T> {
@@ -53,6 +59,16 @@ impl<T: Drop> Walk<T> {
         })
     }
 
+    /// Begins anew, with what is carried to the root. It takes no memory.
+    pub fn restart(&mut self, first: T)
+        ensures begun { open_at self.new ≡ begun first }
+        ensures room { self.new.room ≡ self.old.room }
+    {
+        self.last = first;
+        self.forked = false;
+        self.others.clear();
+    }
+
     /// What is carried to the node at which the next token stands.
     pub fn carried(&self) -> &T
         ensures { result.now ≡ self.now.last }
@@ -67,12 +83,20 @@ impl<T: Drop> Walk<T> {
         self.forked
     }
 
+    /// How many other nodes are open.
+    pub fn others(&self) -> usize
+        ensures { result ≡ length self.now.others }
+    {
+        self.others.len()
+    }
+
     /// A fork, which keeps the last node open for another item. The copy is of what is carried there.
     /// It takes no memory while there is room for one more of the other open nodes, and without memory
     /// the walk stays as it is.
     pub fn keep(&mut self, copy: T) -> Result<(), OutOfMemory>
         requires { copy ≡ self.old.last }
-        ensures forked { self.old.forked ≡ false → IfOk result (λ _. (by : Op → T → Option T) → next by token.Fork (open_at self.old) ≡ Some (open_at self.new)) }
+        ensures forked { self.old.forked ≡ false → IfOk result (λ _. (by : Op → T → Option T)
+            → next by token.Fork (open_at self.old) ≡ Some (open_at self.new)) }
         ensures stays { IfErr result (λ _. open_at self.new ≡ open_at self.old) }
         ensures room { length self.old.others < self.old.room → IsOk result }
         ensures kept_room { self.old.room ≤ self.new.room }
@@ -84,7 +108,8 @@ impl<T: Drop> Walk<T> {
 
     /// An operation, which leads to the node of its result, with what is carried there.
     pub fn lead(&mut self, to: T)
-        ensures led { (by : Op → T → Option T) (o : Op) → by o self.old.last ≡ Some to → next by (token.Op o) (open_at self.old) ≡ Some (open_at self.new) }
+        ensures led { (by : Op → T → Option T) (o : Op) → by o self.old.last ≡ Some to
+            → next by (token.Op o) (open_at self.old) ≡ Some (open_at self.new) }
         ensures room { self.new.room ≡ self.old.room }
     {
         self.last = to;
@@ -92,9 +117,11 @@ impl<T: Drop> Walk<T> {
     }
 
     /// An attestation, which closes the last node. Whether another node is open: if not, the walk is
-    /// at its end.
+    /// at its end, and keeps what was carried to that node.
     pub fn close(&mut self) -> bool
-        ensures closed { (by : Op → T → Option T) (a : Attestation) → next by (token.Attestation a) (open_at self.old) ≡ Some (if result then open_at self.new else none_open) }
+        ensures closed { (by : Op → T → Option T) (a : Attestation)
+            → next by (token.Attestation a) (open_at self.old) ≡ Some (if result then open_at self.new else none_open) }
+        ensures end { result ≡ false → open_at self.new ≡ begun self.old.last }
         ensures room { self.new.room ≡ self.old.room }
     {
         self.forked = false;
@@ -118,7 +145,8 @@ impl<T: Copy> Walk<T> {
 
     /// A fork, as `keep`, of a plain value.
     pub fn fork(&mut self) -> Result<(), OutOfMemory>
-        ensures forked { self.old.forked ≡ false → IfOk result (λ _. (by : Op → T → Option T) → next by token.Fork (open_at self.old) ≡ Some (open_at self.new)) }
+        ensures forked { self.old.forked ≡ false → IfOk result (λ _. (by : Op → T → Option T)
+            → next by token.Fork (open_at self.old) ≡ Some (open_at self.new)) }
         ensures stays { IfErr result (λ _. open_at self.new ≡ open_at self.old) }
         ensures room { length self.old.others < self.old.room → IsOk result }
         ensures kept_room { self.old.room ≤ self.new.room }

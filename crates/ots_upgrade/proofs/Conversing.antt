@@ -121,7 +121,7 @@ same_slots slot old at mid new was closed first second third k =
 
 failed_as : {D : Type 0} {told : D → DialerTold} {faults : D → ℕ} {q : Question} {old new : D} {P R : Type 0} → (P → R)
     → Sends told faults q P old new → Sends told faults q R old new
-failed_as f all = record { front = all.front; whole = λ good. all.whole (λ failed. good (f failed)); replies = all.replies; slots = all.slots; later = all.later }
+failed_as f all = record { prefix = all.prefix; whole = λ good. all.whole (λ failed. good (f failed)); replies = all.replies; slots = all.slots; later = all.later }
 
 where_then : (s : Option (List Sent)) (rs : Option (List (List ℕ))) (P Q : List Sent → List (List ℕ) → Type 0)
     → ((sent : List Sent) (replies : List (List ℕ)) → P sent replies → Q sent replies)
@@ -134,7 +134,7 @@ module _ {D : Type 0} (told : D → DialerTold) (faults : D → ℕ) (q : Questi
     (had : Had told faults q slot old at mid new r) where
   pub sends : Sends told faults q (r ≡ Err LinkFault) old new
   sends = record {
-    front = where_both (told old).sent (told old).replies _ (λ sent replies tells comes.
+    prefix = where_both (told old).sent (told old).replies _ (λ sent replies tells comes.
         inr (had.exchanged.count, had.exchanged.at_most, had.others.sent ∙ sent_mid q had.connects had.same had.exchanged sent replies tells comes));
     whole = λ good. where_both (told old).sent (told old).replies _ (λ sent replies tells comes.
         had.others.sent ∙ sent_mid q had.connects had.same had.exchanged sent replies tells comes

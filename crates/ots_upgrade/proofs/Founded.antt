@@ -13,7 +13,7 @@ use Rattle.ots_canon.specs.Canonical.{IsCanonOf, IsCanonTree}
 use Rattle.ots_merkle.specs.CalendarTree.{path, root}
 use Rattle.ots_merkle.specs.Hashes.{AreHashes}
 use Rattle.ots_tree.specs.declared.token.Token.{Token}
-use Rattle.ots_tree.specs.Made.{IsSoundBehind, IsUnder, behind, chain}
+use Rattle.ots_tree.specs.Made.{IsSoundAfter, IsUnder, after, chain}
 use Rattle.ots_tree.specs.Sound.{IsSoundPath, IsSoundPre, length_after}
 use Rattle.ots_tree.specs.Wire.{Node, Path, paths, pre}
 use Rattle.ots_upgrade.specs.declared.target.Target.{Target}
@@ -62,11 +62,11 @@ leaf_at (x ∷ targets) zero t less is = ap leaf (sym is)
 leaf_at (x ∷ targets) (suc i) t less is = leaf_at targets i t (omega arith) is
 
 -- below the operations to the root the gathered trees are sound
-pub sound_behind : ((o : Op) (m : List ℕ) → length (applied o m) ≡ made o (length m)) → (targets : List Target) (i : ℕ) (t : Target) (good : List Token)
+pub sound_after : ((o : Op) (m : List ℕ) → length (applied o m) ≡ made o (length m)) → (targets : List Target) (i : ℕ) (t : Target) (good : List Token)
     → ((ls : List (List ℕ)) (j : ℕ) → AreHashes ls → j < length ls → value (path ls j) (get_or ls j []) ≡ Some (root ls))
     → i < length targets → t ≡ get_or targets i t → length t.digest ≡ 32 → length t.nonce ≡ 16 → (depth : ℕ) → IsDepth (leaves targets) depth
-    → IsSoundPre (length (root (leaves targets))) depth good → IsSoundBehind (to_root (leaves targets) i t) 32 0 good
-sound_behind law targets i t good leads less is digest nonce depth deepest sound =
+    → IsSoundPre (length (root (leaves targets))) depth good → IsSoundAfter (to_root (leaves targets) i t) 32 0 good
+sound_after law targets i t good leads less is digest nonce depth deepest sound =
     let below : i < length (leaves targets) = rw (length-map targets leaf) less in
     let high = deepest.most i below in
     let led : value (path (leaves targets) i) (leaf t) ≡ Some (root (leaves targets)) =
@@ -90,15 +90,15 @@ are_to_root targets paths i t way ops count are less is made =
 -- ---- the proof
 
 -- its tree is sound for the digest
-pub sound_proof : ((n k : ℕ) (ops : List Op) (below made : List Token) → IsUnder ops below made → IsSoundPre n k made ↔ IsSoundBehind ops n k below)
+pub sound_proof : ((n k : ℕ) (ops : List Op) (below made : List Token) → IsUnder ops below made → IsSoundPre n k made ↔ IsSoundAfter ops n k below)
     → ((n k : ℕ) (ts us : List Token) → IsSoundPre n k ts → IsCanonOf ts us → IsSoundPre n k us) → (ops : List Op) (good form : List Token)
-    → IsCanonUnder ops good form → IsSoundBehind ops 32 0 good → IsSoundPre 32 0 form
+    → IsCanonUnder ops good form → IsSoundAfter ops 32 0 good → IsSoundPre 32 0 form
 sound_proof unders canons ops good form all sound = canons 32 0 all.made form ((unders 32 0 ops good all.made all.under).1 sound) all.canon
 
--- its paths are those of the gathered trees, behind the operations to the root
+-- its paths are those of the gathered trees, after the operations to the root
 pub proof_paths : ((t u : Node) (x y : List Token) → pre t ++ x ≡ pre u ++ y → (t ≡ u) × (x ≡ y))
-    → ((ops : List Op) (t : Node) → paths (chain ops t) ≡ map (behind ops) (paths t)) → (trees : List (List Token)) (ops : List Op) (good form : List Token)
-    → (gathered : Gathers trees good) → IsCanonUnder ops good form → IsCanonTree (map (behind ops) (flat_map paths gathered.nodes)) form
+    → ((ops : List Op) (t : Node) → paths (chain ops t) ≡ map (after ops) (paths t)) → (trees : List (List Token)) (ops : List Op) (good form : List Token)
+    → (gathered : Gathers trees good) → IsCanonUnder ops good form → IsCanonTree (map (after ops) (flat_map paths gathered.nodes)) form
 proof_paths one chained trees ops good form gathered all =
     let below : all.under.node ≡ gathered.node =
     (one all.under.node gathered.node [] [] (append-nil (pre all.under.node) ∙ all.under.node_is ∙ sym gathered.is ∙ sym (append-nil (pre gathered.node)))).0 in
@@ -106,4 +106,4 @@ proof_paths one chained trees ops good form gathered all =
     (one all.canon.node (chain ops all.under.node) [] []
     (append-nil (pre all.canon.node) ∙ all.canon.are ∙ sym all.under.made_is ∙ sym (append-nil (pre (chain ops all.under.node))))).0 in
     subst (λ (ps : List Path). IsCanonTree ps form)
-    (ap paths same ∙ chained ops all.under.node ∙ ap (map (behind ops)) (ap paths below ∙ gathered.paths_are)) all.canon.form
+    (ap paths same ∙ chained ops all.under.node ∙ ap (map (after ops)) (ap paths below ∙ gathered.paths_are)) all.canon.form

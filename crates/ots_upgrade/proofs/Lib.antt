@@ -1,4 +1,3 @@
-pub mod AskedOf
 pub mod Batches
 pub mod Conversing
 pub mod Exchanging

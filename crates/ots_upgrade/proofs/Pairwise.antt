@@ -1,9 +1,9 @@
 -- Pairs that are asked for one after the other.
-use Rattle.std.proofs.Common.{◌≡◌, ◌<◌, ◌+◌, ℕ, zero, suc, List, [], ◌∷◌, ◌++◌, length, take, drop, map, Option, Some, None, refl, sym, ap, subst, ◌∙◌, inl, inr, arith}
+use Rattle.std.proofs.Common.{◌≡◌, ◌<◌, ◌+◌, ℕ, zero, suc, List, [], ◌∷◌, ◌++◌, length, take, drop, Option, Some, None, refl, sym, ap, subst, ◌∙◌, inl, inr, arith}
 use Rattle.std.specs.Prelude.{is_some, IfSome}
 use Rattle.std.specs.List.{slice_get}
 use Rattle.std.specs.Option.{option_map}
-use Rattle.std.proofs.lemmas.List.{drop_more, length-take-le, take-append-drop, take_more}
+use Rattle.std.proofs.lemmas.List.{drop_more, take-append-drop, take_more}
 use Rattle.std.proofs.lemmas.List.Elements.{filter_map-append}
 use Rattle.std.proofs.lemmas.Option.{get_or_from_slice_get}
 use Rattle.ots_address.specs.Address.{AddressParts}
@@ -11,19 +11,18 @@ use Rattle.ots_outside.specs.Dialer.{DialerTold}
 use Rattle.ots_tree.specs.declared.token.Token.{Token}
 use Rattle.ots_pending.specs.Completed.{AreSoundFor, IsSoundFor}
 use Rattle.ots_pending.specs.Pairs.{PairAt}
-use Rattle.ots_upgrade.specs.Asked.{asked_as, asked_of, AskedAt}
 use Rattle.ots_upgrade.specs.Conversation.{Converse, ConverseUpTo, Question}
 use Rattle.ots_upgrade.specs.Outcome.{IsSoundOutcome}
-use Rattle.ots_upgrade.specs.Upgrading.{address_of, outcomes, question_for, questions, to_get, tree_of, trees_of, AreAsked, AsksFor, AsksIf, AsksUpTo}
+use Rattle.ots_upgrade.specs.Upgrading.{address_of, outcomes, question_for, questions, to_get, tree_of, trees_of, AreAskedPairs, AsksFor, AsksIf, AsksUpTo}
+use Rattle.ots_upgrade.specs.declared.asking.AskedAt.{AskedAt}
 use Rattle.ots_upgrade.specs.declared.outcome.Outcome.{Outcome}
 use Rattle.ots_upgrade.specs.declared.outcome.Outcome.TheVariants as outcome
-use Rattle.ots_upgrade.proofs.AskedOf.{asked_one_more, none_some, some_same, trees_are}
 use Rattle.ots_upgrade.proofs.Questions.{breaks_off_later, nothing_asked}
 
 -- ---- lists
 
 asked_more : (calendars : List AddressParts) (pairs more : List PairAt) (asked others : List AskedAt)
-    → AreAsked calendars pairs asked → AreAsked calendars more others → AreAsked calendars (pairs ++ more) (asked ++ others)
+    → AreAskedPairs calendars pairs asked → AreAskedPairs calendars more others → AreAskedPairs calendars (pairs ++ more) (asked ++ others)
 asked_more calendars [] more [] others are then = then
 asked_more calendars [] more (a ∷ asked) others are then = absurd are
 asked_more calendars (p ∷ pairs) more [] others are then = absurd are
@@ -38,7 +37,13 @@ there [] i less = absurd (omega arith)
 there (x ∷ xs) zero less = (x, refl)
 there (x ∷ xs) (suc i) less = there xs i (omega arith)
 
--- the pairs before one, that one, and those behind it
+some_same : {X : Type 0} (x y : X) → (let o : Option X = Some x in o) ≡ Some y → x ≡ y
+some_same x y is = cc
+
+none_some : {X : Type 0} (y : X) → (let o : Option X = None in o) ≡ Some y → ⊥
+none_some y is = absurd cc
+
+-- the pairs before one, that one, and those after it
 split : (pairs : List PairAt) (i : ℕ) (p : PairAt) → i < length pairs → slice_get pairs i ≡ Some p → take i pairs ++ p ∷ drop (i + 1) pairs ≡ pairs
 split pairs i p less at =
     ap (λ (rest : List PairAt). take i pairs ++ rest) (ap (λ (q : PairAt). q ∷ drop (i + 1) pairs) (sym (get_or_from_slice_get pairs i p p at)) ∙ sym (drop_more pairs i p less)) ∙ take-append-drop i pairs
@@ -76,15 +81,13 @@ module _ {D : Type 0} (told : D → DialerTold) (faults : D → ℕ) where
   }
 
   -- the next pair was asked for
-  pub asks_next : (calendars : List AddressParts) (pairs : List PairAt) (i : ℕ) (old mid new : D) (outcomes : List (Option Outcome)) (o : Option Outcome) → i < length pairs
-      → length outcomes ≡ i → AsksFor told faults calendars (take i pairs) old mid (asked_of (take i pairs) outcomes)
-      → ((p : PairAt) → slice_get pairs i ≡ Some p → AsksFor told faults calendars (p ∷ []) mid new (asked_as p o ∷ []))
-      → AsksFor told faults calendars (take (i + 1) pairs) old new (asked_of (take (i + 1) pairs) (outcomes ++ o ∷ []))
-  asks_next calendars pairs i old mid new outcomes o less count so then =
+  pub asks_next : (calendars : List AddressParts) (pairs : List PairAt) (i : ℕ) (old mid new : D) (asked all : List AskedAt) (a : AskedAt) → i < length pairs
+      → AsksFor told faults calendars (take i pairs) old mid asked
+      → ((p : PairAt) → slice_get pairs i ≡ Some p → AsksFor told faults calendars (p ∷ []) mid new (a ∷ [])) → all ≡ asked ++ a ∷ []
+      → AsksFor told faults calendars (take (i + 1) pairs) old new all
+  asks_next calendars pairs i old mid new asked all a less so then is =
       let p = there pairs i less in
-      let same : length outcomes ≡ length (take i pairs) = omega (arith, length-take-le i pairs (omega arith)) in
-      rw (next_pair pairs i p.0 less p.1, asked_one_more (take i pairs) outcomes p.0 o same)
-      (asks_more calendars (take i pairs) (p.0 ∷ []) old mid new (asked_of (take i pairs) outcomes) (asked_as p.0 o ∷ []) so (then p.0 p.1))
+      rw (next_pair pairs i p.0 less p.1, is) (asks_more calendars (take i pairs) (p.0 ∷ []) old mid new asked (a ∷ []) so (then p.0 p.1))
 
   -- it broke off in the next one
   pub breaks_off_in : (calendars : List AddressParts) (pairs : List PairAt) (i : ℕ) (old mid new : D) (asked : List AskedAt) → i < length pairs
@@ -161,15 +164,17 @@ later : (p : PairAt) (pairs : List PairAt) (i : ℕ) (tree : Option (List Token)
 later p pairs i None sound = tt
 later p pairs i (Some tree) sound = sound
 
-sound_asked : (calendars : List AddressParts) (pairs : List PairAt) (asked : List AskedAt) → AreAsked calendars pairs asked → AreSoundFor pairs (trees_of asked)
-sound_asked calendars [] [] are i tree at = absurd (none_some tree at)
-sound_asked calendars [] (a ∷ asked) are i tree at = absurd are
-sound_asked calendars (p ∷ pairs) [] are i tree at = absurd are
-sound_asked calendars (p ∷ pairs) (a ∷ asked) are zero tree at =
+pub sound_trees : (calendars : List AddressParts) (pairs : List PairAt) (asked : List AskedAt) → AreAskedPairs calendars pairs asked → AreSoundFor pairs (trees_of asked)
+sound_trees calendars [] [] are i tree at = absurd (none_some tree at)
+sound_trees calendars [] (a ∷ asked) are i tree at = absurd are
+sound_trees calendars (p ∷ pairs) [] are i tree at = absurd are
+sound_trees calendars (p ∷ pairs) (a ∷ asked) are zero tree at =
     subst (IsSoundFor (p ∷ pairs) zero) (some_same (tree_of a.outcome) tree at)
     (sound_tree (length p.pair.message) p.depth a.outcome are.0.sound (p ∷ pairs) p refl refl refl)
-sound_asked calendars (p ∷ pairs) (a ∷ asked) are (suc i) tree at = later p pairs i tree (sound_asked calendars pairs asked are.1 i tree at)
+sound_trees calendars (p ∷ pairs) (a ∷ asked) are (suc i) tree at = later p pairs i tree (sound_trees calendars pairs asked are.1 i tree at)
 
-pub sound_trees : (calendars : List AddressParts) (pairs : List PairAt) (outcomes : List (Option Outcome)) → length outcomes ≡ length pairs
-    → AreAsked calendars pairs (asked_of pairs outcomes) → AreSoundFor pairs (map tree_of outcomes)
-sound_trees calendars pairs outcomes same are = subst (AreSoundFor pairs) (trees_are pairs outcomes same) (sound_asked calendars pairs (asked_of pairs outcomes) are)
+pub one_each : (calendars : List AddressParts) (pairs : List PairAt) (asked : List AskedAt) → AreAskedPairs calendars pairs asked → length (trees_of asked) ≡ length pairs
+one_each calendars [] [] are = refl
+one_each calendars [] (a ∷ asked) are = absurd are
+one_each calendars (p ∷ pairs) [] are = absurd are
+one_each calendars (p ∷ pairs) (a ∷ asked) are = ap suc (one_each calendars pairs asked are.1)

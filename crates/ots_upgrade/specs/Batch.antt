@@ -20,9 +20,10 @@ pub record KeepsBatch (targets : List Target) (kept : List (List ℕ)) (paths : 
 -- Two more than the length of the longest of the first `count` paths, and 0 where there is none.
 pub record IsLongest (paths : List (List Op)) (count longest : ℕ) : Type 0 where
   pub most : (i : ℕ) → i < count → length (slice_index_or paths i []) + 2 ≤ longest
-  pub longest_is : ((count ≡ 0) × (longest ≡ 0)) ⊎ ((i : ℕ) × (i < count) × (length (slice_index_or paths i []) + 2 ≡ longest))
+  pub longest_is : ((count ≡ 0) × (longest ≡ 0)) ⊎ ((i : ℕ) × (i < count)
+      × (length (slice_index_or paths i []) + 2 ≡ longest))
 
--- The second is the canonical form of the first behind these operations, both seen as their tokens.
+-- The second is the canonical form of the first after these operations, both seen as their tokens.
 pub record IsCanonUnder (ops : List Op) (good form : List Token) : Type 0 where
   pub made : List Token
   pub under : IsUnder ops good made

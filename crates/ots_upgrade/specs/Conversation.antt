@@ -29,18 +29,22 @@ sent_to q bytes = record { host = q.address.host; port = q.address.port; bytes =
 abbrev pub WhereTold : DialerTold → (List Sent → List (List ℕ) → Type 0) → Type 0
 WhereTold told P = IfTold told.sent (λ sent. IfTold told.replies (P sent))
 
--- A request was sent: nothing of it where no conversation was begun, or a front of it in a conversation of its own; all of
--- it, but where `failed` holds. It took a reply, and left each slot as it was.
-pub record Sends {D : Type 0} (told : D → DialerTold) (faults : D → ℕ) (q : Question) (failed : Type 0) (old new : D) : Type 0 where
-  pub front : WhereTold (told old) (λ sent replies. ((told new).sent ≡ Some sent)
-      ⊎ ((n : ℕ) × (n ≤ length (request_of q)) × ((told new).sent ≡ Some (sent ++ sent_to q (take n (request_of q)) ∷ []))))
-  pub whole : ¬ failed → WhereTold (told old) (λ sent replies. (told new).sent ≡ Some (sent ++ sent_to q (request_of q) ∷ []))
+-- A request was sent: nothing of it where no conversation was begun, or a prefix of it in a conversation of its own;
+-- all of it, but where `failed` holds. It took a reply, and left each slot as it was.
+pub record Sends {D : Type 0} (told : D → DialerTold) (faults : D → ℕ) (q : Question) (failed : Type 0)
+    (old new : D) : Type 0 where
+  pub prefix : WhereTold (told old) (λ sent replies. ((told new).sent ≡ Some sent)
+      ⊎ ((n : ℕ) × (n ≤ length (request_of q)) × ((told new).sent
+      ≡ Some (sent ++ sent_to q (take n (request_of q)) ∷ []))))
+  pub whole : ¬ failed
+      → WhereTold (told old) (λ sent replies. (told new).sent ≡ Some (sent ++ sent_to q (request_of q) ∷ []))
   pub replies : (told new).replies ≡ option_map (drop 1) (told old).replies
   pub slots : (k : ℕ) → (told new).slots k ≡ (told old).slots k
   pub later : faults old ≤ faults new
 
 -- A conversation was had: its outcome is that of its own reply, or it failed, and the count of faults rose in it.
-pub record Converses {D : Type 0} (told : D → DialerTold) (faults : D → ℕ) (q : Question) (old new : D) (outcome : Outcome) : Type 0 where
+pub record Converses {D : Type 0} (told : D → DialerTold) (faults : D → ℕ) (q : Question) (old new : D)
+    (outcome : Outcome) : Type 0 where
   pub sends : Sends told faults q (outcome ≡ Unreachable) old new
   pub outcome_is : WhereTold (told old) (λ sent replies. IsOutcomeOf q.length q.depth (next_reply replies) outcome)
   pub cause : outcome ≡ Unreachable → Rose (faults old) (faults new)
@@ -66,4 +70,5 @@ ConverseUpTo told faults [] old new = KeepsTold told faults old new
 ConverseUpTo {D} told faults (q ∷ questions) old new =
     KeepsTold told faults old new
     ⊎ Sends told faults q (Rose (faults old) (faults new)) old new
-    ⊎ ((mid : D) × (outcome : Outcome) × Converses told faults q old mid outcome × ConverseUpTo told faults questions mid new)
+    ⊎ ((mid : D) × (outcome : Outcome) × Converses told faults q old mid outcome
+    × ConverseUpTo told faults questions mid new)

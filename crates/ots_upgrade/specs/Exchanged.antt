@@ -12,8 +12,9 @@ use Rattle.ots_http.specs.ReplyTable.{IsReplyAnswer}
 abbrev pub TakesSome : ℕ → List ℕ → LinkTold → LinkTold → Type 0
 TakesSome n bytes old new = new.taken ≡ old.taken ++ take n bytes
 
--- The link took these bytes, or a front of them where it failed, and what was read of its reply is answered.
-pub record Exchanges (bytes : List ℕ) (old new : Option LinkTold) (before now : ℕ) (result : Result HttpReply ReplyError) : Type 0 where
+-- The link took these bytes, or a prefix of them where it failed, and what was read of its reply is answered.
+pub record Exchanges (bytes : List ℕ) (old new : Option LinkTold) (before now : ℕ)
+    (result : Result HttpReply ReplyError) : Type 0 where
   pub count : ℕ
   pub at_most : count ≤ length bytes
   pub taken : BothTold (TakesSome count bytes) old new

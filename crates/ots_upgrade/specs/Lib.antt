@@ -1,4 +1,3 @@
-pub mod Asked
 pub mod Batch
 pub mod Conversation
 pub mod Exchanged

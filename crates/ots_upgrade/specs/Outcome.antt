@@ -1,5 +1,5 @@
--- What came of asking a calendar, by the bytes of its reply. Source: the client's table of this project's HTTP profile; a
--- body is good where a tree is all of it (python-opentimestamps, opentimestamps/calendar.py: RemoteCalendar.submit).
+-- What came of asking a calendar, by the bytes of its reply. Source: the client's table of this project's HTTP profile;
+-- a body is good where a tree is all of it (python-opentimestamps, opentimestamps/calendar.py: RemoteCalendar.submit).
 use Rattle.std.specs.Prelude.{◌≡◌, ◌<◌, ◌↔◌, ℕ, List, length, Option, None, Some, Result, Err}
 use Rattle.std.specs.List.{AllByRecursion}
 use Rattle.ots_http.specs.ReplyTable.{IsOutcome, good, status, too_long, bad_http}
@@ -14,12 +14,14 @@ use Rattle.ots_tree.specs.declared.token.Token.{Token}
 use Rattle.ots_tree.specs.declared.tree.Tree.{Tree as AnyTree}
 use Rattle.ots_tree.specs.Sound.{IsSoundPre}
 use Rattle.ots_upgrade.specs.declared.outcome.Outcome.{Outcome}
-use Rattle.ots_upgrade.specs.declared.outcome.Outcome.TheVariants.{Tree, Unreachable, Status, TooLong, BadHttp, BadReply}
+use Rattle.ots_upgrade.specs.declared.outcome.Outcome.TheVariants.{Tree, Unreachable, Status, TooLong, BadHttp}
+use Rattle.ots_upgrade.specs.declared.outcome.Outcome.TheVariants.{BadReply}
 
 -- Below a message of n bytes and k operations a body is no tree: it has this fault, or bytes follow the tree.
 pub data HasBodyFault (n k : ℕ) (body : List ℕ) (f : Fault) : Type 0 where
   no_tree : HasTreeFault n k body f → HasBodyFault n k body f
-  more : (tree : AnyTree) (used : ℕ) → IsTreeAt n k body tree used → used < length body → f ≡ record { place = used; reason = TrailingBytes }
+  more : (tree : AnyTree) (used : ℕ) → IsTreeAt n k body tree used → used < length body
+      → f ≡ record { place = used; reason = TrailingBytes }
       → HasBodyFault n k body f
 
 -- the outcome of a good reply with this body
@@ -31,11 +33,12 @@ IsOutcomeOfBody n k body (Status code) = ⊥
 IsOutcomeOfBody n k body TooLong = ⊥
 IsOutcomeOfBody n k body BadHttp = ⊥
 
--- The outcome of a reply, asked for below a message of n bytes and k operations. That the conversation failed may come in
--- its place.
+-- The outcome of a reply, asked for below a message of n bytes and k operations. That the conversation failed may come
+-- in its place.
 abbrev pub IsOutcomeOf : ℕ → ℕ → List ℕ → Outcome → Type 0
 IsOutcomeOf n k reply (Tree t) = (body : List ℕ) × IsOutcome reply (good body) × IsOutcomeOfBody n k body (Tree t)
-IsOutcomeOf n k reply (BadReply f) = (body : List ℕ) × IsOutcome reply (good body) × IsOutcomeOfBody n k body (BadReply f)
+IsOutcomeOf n k reply (BadReply f) = (body : List ℕ) × IsOutcome reply (good body)
+    × IsOutcomeOfBody n k body (BadReply f)
 IsOutcomeOf n k reply (Status code) = IsOutcome reply (status code)
 IsOutcomeOf n k reply TooLong = IsOutcome reply too_long
 IsOutcomeOf n k reply BadHttp = IsOutcome reply bad_http

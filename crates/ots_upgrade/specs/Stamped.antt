@@ -1,5 +1,6 @@
 -- What is made of files that are stamped together. Source: the client of the reference library (opentimestamps-client,
--- otsclient/cmds.py, stamp_command): each digest is hashed with a nonce of its own, and one tree stands over all of these.
+-- otsclient/cmds.py, stamp_command): each digest is hashed with a nonce of its own, and one tree stands over all of
+-- these.
 use Rattle.std.specs.Prelude.{◌≡◌, ◌<◌, ◌≤◌, ◌+◌, ℕ, List, [], ◌∷◌, ◌++◌, length, map, Option, None, Some}
 use Rattle.std.specs.List.{flat_map}
 use Rattle.sha2.specs.Sha256.{sha256}
@@ -8,7 +9,7 @@ use Rattle.ots_ops.specs.declared.op.Op.TheVariants.{Append, Sha256}
 use Rattle.ots_ops.specs.declared.hash_op.HashOp.TheVariants as hash
 use Rattle.ots_tree.specs.declared.token.Token.{Token}
 use Rattle.ots_tree.specs.declared.detached.Detached.{Detached}
-use Rattle.ots_tree.specs.Made.{behind}
+use Rattle.ots_tree.specs.Made.{after}
 use Rattle.ots_tree.specs.Sound.{IsSoundPre}
 use Rattle.ots_tree.specs.Wire.{Node, paths, pre}
 use Rattle.ots_canon.specs.Canonical.{IsCanonTree}
@@ -30,7 +31,7 @@ pub record IsDepth (leaves : List (List ℕ)) (depth : ℕ) : Type 0 where
   pub most : (i : ℕ) → i < length leaves → length (path leaves i) + 2 ≤ depth
   pub longest : (i : ℕ) × (i < length leaves) × (length (path leaves i) + 2 ≡ depth)
 
--- the operations from a file's digest to the root: its nonce is put behind it, that is hashed, and its path follows
+-- the operations from a file's digest to the root: its nonce is put after it, that is hashed, and its path follows
 abbrev pub to_root : List (List ℕ) → ℕ → Target → List Op
 to_root leaves i t = Append t.nonce ∷ Sha256 ∷ path leaves i
 
@@ -44,22 +45,25 @@ good_trees (outcome.TooLong ∷ outcomes) = good_trees outcomes
 good_trees (outcome.BadHttp ∷ outcomes) = good_trees outcomes
 good_trees (outcome.BadReply fault ∷ outcomes) = good_trees outcomes
 
--- The proof of one of these files: in canonical form, its paths are those of every good tree, each behind the operations
+-- The proof of one of these files: in canonical form, its paths are those of every good tree, each after the operations
 -- from the digest to the root.
-pub record IsStampOf (targets : List Target) (i : ℕ) (t : Target) (trees : List (List Token)) (proof : Detached) : Type 0 where
+pub record IsStampOf (targets : List Target) (i : ℕ) (t : Target) (trees : List (List Token))
+    (proof : Detached) : Type 0 where
   pub hash : proof.hash ≡ hash.Sha256
   pub digest : proof.digest ≡ t.digest
   pub nodes : List Node
   pub are : map pre nodes ≡ trees
-  pub form : IsCanonTree (map (behind (to_root (leaves targets) i t)) (flat_map paths nodes)) proof.tree
+  pub form : IsCanonTree (map (after (to_root (leaves targets) i t)) (flat_map paths nodes)) proof.tree
 
 -- Below the root of these files, and the operations before it, the tree is sound.
 abbrev pub IsSoundBelow : List Target → List Token → Type 0
-IsSoundBelow targets good = (depth : ℕ) × IsDepth (leaves targets) depth × IsSoundPre (length (root (leaves targets))) depth good
+IsSoundBelow targets good = (depth : ℕ) × IsDepth (leaves targets) depth
+    × IsSoundPre (length (root (leaves targets))) depth good
 
 -- Below the root of these files each good tree is sound.
 abbrev pub AreSoundBelow : List Target → List Outcome → Type 0
-AreSoundBelow targets outcomes = (depth : ℕ) × IsDepth (leaves targets) depth × AreSound (length (root (leaves targets))) depth outcomes
+AreSoundBelow targets outcomes = (depth : ℕ) × IsDepth (leaves targets) depth
+    × AreSound (length (root (leaves targets))) depth outcomes
 
 abbrev pub IsGatheredBelow : List Target → Option (List Token) → Type 0
 IsGatheredBelow targets None = Unit {0}

@@ -10,9 +10,9 @@ use Rattle.ots_pending.specs.Completed.{IsCompleted}
 use Rattle.ots_pending.specs.Pairs.{PairAt, ArePairs}
 use Rattle.ots_tree.specs.declared.token.Token.{Token}
 use Rattle.ots_tree.specs.declared.detached.Detached.{Detached}
-use Rattle.ots_upgrade.specs.Asked.{AskedAt}
 use Rattle.ots_upgrade.specs.Conversation.{Converse, ConverseUpTo, Question}
 use Rattle.ots_upgrade.specs.Outcome.{IsSoundOutcome}
+use Rattle.ots_upgrade.specs.declared.asking.AskedAt.{AskedAt}
 use Rattle.ots_upgrade.specs.declared.outcome.Outcome.{Outcome}
 use Rattle.ots_upgrade.specs.declared.outcome.Outcome.TheVariants as outcome
 use Rattle.ots_upgrade.specs.declared.upgrading.Upgraded.{Upgraded}
@@ -56,29 +56,32 @@ tree_of (Some (outcome.BadReply fault)) = None
 abbrev pub trees_of : List AskedAt → List (Option (List Token))
 trees_of asked = map (λ a. tree_of a.outcome) asked
 
--- A pair, and what came of asking for it: something exactly where an address has its URI as text. A tree is sound for its
--- message behind as many operations as are before the pair where it stands deepest.
-pub record IsAsked (calendars : List AddressParts) (p : PairAt) (a : AskedAt) : Type 0 where
+-- A pair, and what came of asking for it: something exactly where an address has its URI as text. A tree is sound for
+-- its message after as many operations as are before the pair where it stands deepest.
+pub record IsAskedPair (calendars : List AddressParts) (p : PairAt) (a : AskedAt) : Type 0 where
   pub uri : a.uri ≡ p.pair.uri
   pub message : a.message ≡ p.pair.message
   pub which : is_some a.outcome ≡ is_some (question_for calendars p)
   pub sound : IfSome a.outcome (IsSoundOutcome (length p.pair.message) p.depth)
 
 -- these pairs in order, each with what came of asking for it
-abbrev pub AreAsked : List AddressParts → List PairAt → List AskedAt → Type 0
-AreAsked calendars [] [] = Unit {0}
-AreAsked calendars [] (a ∷ asked) = ⊥
-AreAsked calendars (p ∷ pairs) [] = ⊥
-AreAsked calendars (p ∷ pairs) (a ∷ asked) = IsAsked calendars p a × AreAsked calendars pairs asked
+abbrev pub AreAskedPairs : List AddressParts → List PairAt → List AskedAt → Type 0
+AreAskedPairs calendars [] [] = Unit {0}
+AreAskedPairs calendars [] (a ∷ asked) = ⊥
+AreAskedPairs calendars (p ∷ pairs) [] = ⊥
+AreAskedPairs calendars (p ∷ pairs) (a ∷ asked) = IsAskedPair calendars p a × AreAskedPairs calendars pairs asked
 
 -- These pairs were asked for in order, each of them once, and each conversation has its outcome. A pair whose URI no
 -- address has begins none.
-pub record AsksFor {D : Type 0} (told : D → DialerTold) (faults : D → ℕ) (calendars : List AddressParts) (pairs : List PairAt) (old new : D) (asked : List AskedAt) : Type 0 where
-  pub are : AreAsked calendars pairs asked
+pub record AsksFor {D : Type 0} (told : D → DialerTold) (faults : D → ℕ) (calendars : List AddressParts)
+    (pairs : List PairAt) (old new : D) (asked : List AskedAt) : Type 0 where
+  pub are : AreAskedPairs calendars pairs asked
   pub conversed : Converse told faults (questions calendars pairs) old new (outcomes asked)
 
--- A proof was upgraded: the pairs of its pending paths were asked for, and it is completed by the trees that were answered.
-pub record Upgrades {D : Type 0} (told : D → DialerTold) (faults : D → ℕ) (calendars : List AddressParts) (proof : Detached) (old new : D) (upgraded : Upgraded) : Type 0 where
+-- A proof was upgraded: the pairs of its pending paths were asked for, and it is completed by the trees that were
+-- answered.
+pub record UpgradesProof {D : Type 0} (told : D → DialerTold) (faults : D → ℕ) (calendars : List AddressParts)
+    (proof : Detached) (old new : D) (upgraded : Upgraded) : Type 0 where
   pub pairs : List PairAt
   pub are : ArePairs proof pairs
   pub asks : AsksFor told faults calendars pairs old new upgraded.asked
@@ -86,9 +89,10 @@ pub record Upgrades {D : Type 0} (told : D → DialerTold) (faults : D → ℕ) 
   pub digest : upgraded.proof.digest ≡ proof.digest
   pub tree : IsCompleted proof pairs (trees_of upgraded.asked) upgraded.proof.tree
 
--- Memory ran out: some of what is asked for the pairs of a proof's pending paths was asked in order, the last of it perhaps
--- in part.
-pub record UpgradesUpTo {D : Type 0} (told : D → DialerTold) (faults : D → ℕ) (calendars : List AddressParts) (proof : Detached) (old new : D) : Type 0 where
+-- Memory ran out: some of what is asked for the pairs of a proof's pending paths was asked in order, the last of it
+-- perhaps in part.
+pub record UpgradesUpTo {D : Type 0} (told : D → DialerTold) (faults : D → ℕ) (calendars : List AddressParts)
+    (proof : Detached) (old new : D) : Type 0 where
   pub pairs : List PairAt
   pub are : ArePairs proof pairs
   pub conversed : ConverseUpTo told faults (questions calendars pairs) old new

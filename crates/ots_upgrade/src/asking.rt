@@ -1,79 +1,64 @@
 //! What came of asking calendars for the pairs of a proof.
-ghost use Rattle.std.specs.Prelude.{◌≡◌, ◌<◌, length, nat_eq, Some};
-ghost use Rattle.std.specs.List.{slice_get};
-ghost use Rattle.ots_upgrade.specs.Asked.{asked_of, AskedAt};
+ghost use Rattle.std.specs.Prelude.{◌≡◌, ◌++◌, ◌∷◌, [], is_ok, if◌then◌else◌};
 
 use crate::outcome::Outcome;
 use ots_attest::Uri;
+use ots_base::OutOfMemory;
 use ots_ops::Message;
-use ots_pending::Pairs;
+use std::alloc::Global;
 use std::marker::Model;
 
-/// The pairs of a URI and a message that a proof asks calendars for, in the order in which they first
-/// come, each with what came of asking for it.
+/// A pair of a URI and a message that a proof asks a calendar for, and what came of asking.
+#[derive(Debug, Drop)]
+pub struct AskedAt {
+    /// The URI of the calendar.
+    pub uri: Uri,
+    /// The message whose timestamp the calendar is to have.
+    pub message: Message,
+    /// What came of the conversation; nothing where no calendar was asked.
+    pub outcome: Option<Outcome>,
+}
+
+/// The pairs that a proof asks calendars for, in the order in which they first come, each with what
+/// came of asking for it.
 ///
-/// Contracts see the list of them. A message that several pairs ask for is kept once.
-#[derive(Drop)]
+/// Contracts see the list of them.
+#[derive(Debug, Drop)]
 pub struct AskedList {
-    pairs: Pairs,
-    outcomes: Vec<Option<Outcome>>,
+    items: Vec<AskedAt>,
 }
 
 impl Model for AskedList {
-    ghost use Rattle.std.specs.Prelude.{◌≡◌, length, List};
-    ghost use Rattle.ots_upgrade.specs.Asked.{asked_of, AskedAt};
+    ghost use Rattle.std.specs.Prelude.{List};
+    ghost use Rattle.ots_upgrade.specs.declared.asking.AskedAt.{AskedAt};
 
     ghost Value = { List AskedAt };
 
-    ghost view = { λ asked. asked_of asked.pairs asked.outcomes.items };
-
-    ghost invariant = { λ asked. length asked.outcomes.items ≡ length asked.pairs };
+    ghost view = { λ asked. asked.items.items };
 }
 
 impl AskedList {
-    /// These pairs, each with what came of it.
-    pub(crate) fn new(pairs: Pairs, outcomes: Vec<Option<Outcome>>) -> AskedList
-        requires { length outcomes.items ≡ length pairs }
-        ensures { result ≡ asked_of pairs outcomes.items }
+    /// No pair yet. Those that are pushed lie in memory of `alloc`.
+    pub fn new(alloc: Global) -> AskedList
+        ensures { result ≡ [] }
     {
-        AskedList { pairs, outcomes }
+        AskedList {
+            items: Vec::new(alloc),
+        }
     }
 
-    /// How many pairs there are.
-    pub fn len(&self) -> usize
-        ensures { result ≡ length self.now }
+    /// Adds a pair after the others. Where memory ran out they are as before.
+    pub fn push(&mut self, item: AskedAt) -> Result<(), OutOfMemory>
+        ensures { self.new ≡ (if is_ok result then self.old ++ item ∷ [] else self.old) }
     {
-        self.outcomes.len()
+        self.items.push(item)?;
+        Ok(())
     }
 
-    /// Whether there is none.
-    pub fn is_empty(&self) -> bool
-        ensures { result ≡ nat_eq (length self.now) 0 }
+    /// The pairs.
+    pub fn items(&self) -> &[AskedAt]
+        ensures { result.now ≡ self.now }
     {
-        self.len() == 0
-    }
-
-    /// The URI of a pair, by its place among them, from 0.
-    pub fn uri(&self, i: usize) -> &Uri
-        requires { i < length self.now }
-        ensures { (a : AskedAt) → slice_get self.now i ≡ Some a → result.now ≡ a.uri }
-    {
-        self.pairs.uri(i)
-    }
-
-    /// The message of a pair, whose timestamp its calendar is to have.
-    pub fn message(&self, i: usize) -> &Message
-        requires { i < length self.now }
-        ensures { (a : AskedAt) → slice_get self.now i ≡ Some a → result.now ≡ a.message }
-    {
-        self.pairs.message(i)
-    }
-
-    /// What came of asking for a pair; nothing where no calendar was asked.
-    pub fn outcome(&self, i: usize) -> &Option<Outcome>
-        requires { i < length self.now }
-        ensures { (a : AskedAt) → slice_get self.now i ≡ Some a → result.now ≡ a.outcome }
-    {
-        &self.outcomes[i]
+        self.items.as_slice()
     }
 }

@@ -1,5 +1,6 @@
 //! Files that are stamped together.
-ghost use Rattle.std.specs.Prelude.{◌≡◌, ◌≤◌, ◌<◌, ◌+◌, ◌^◌, ◌⊎◌, ℕ, List, Some, length, map, take, slice_get, slice_index_or, [], ◌∷◌, IfOk, OnErr};
+ghost use Rattle.std.specs.Prelude.{◌≡◌, ◌≤◌, ◌<◌, ◌+◌, ◌^◌, ◌⊎◌, ℕ, List, Some, length, map, take, slice_get};
+ghost use Rattle.std.specs.Prelude.{slice_index_or, [], ◌∷◌, IfOk, OnErr};
 ghost use Rattle.ots_merkle.specs.CalendarTree.{path, root};
 ghost use Rattle.ots_tree.specs.declared.detached.Detached.{Detached as Proof};
 ghost use Rattle.ots_tree.specs.declared.token.Token.{Token};
@@ -14,11 +15,11 @@ use crate::stamping::stamp_with;
 use crate::target::Target;
 use ots_address::Address;
 use ots_base::OutOfMemory;
-use ots_canon::{canon, one_canon, one_canonical_tree, sound_results};
-use ots_merkle::{path_is_short, path_leads_to_root, paths, root};
-use ots_ops::{Arg, Digest, HashOp, Op, Ops, lengths_of_results};
+use ots_canon::canon;
+use ots_merkle::{paths, root};
+use ots_ops::{Arg, Digest, HashOp, Op, Ops};
 use ots_outside::Dialer;
-use ots_tree::{Detached, Tree, one_tree, paths_of_made_trees, some_path, sound_made_trees, under};
+use ots_tree::{Detached, Tree, under};
 use sha2::{Digest as _, Sha256};
 use std::alloc::Global;
 use std::marker::Model;
@@ -54,7 +55,6 @@ impl Batch {
         requires most { length targets.items ≤ 1024 }
         ensures { IfOk result (λ batch. batch ≡ targets.items) }
     {
-        path_is_short();
         let leaves = leaves_of(alloc, &targets)?;
         let paths = paths(alloc, &leaves)?;
         let depth = depth_of(&paths) as u32;
@@ -89,9 +89,11 @@ impl Batch {
         calendars: &[Address],
     ) -> Result<Vec<Outcome>, OutOfMemory>
         ensures asked { IfOk result (λ outcomes. (depth : ℕ) × IsDepth (leaves self.now) depth
-            × Converse D.told D.faults (map (to_stamp (root (leaves self.now)) depth) calendars.now) dialer.old dialer.new outcomes.items) }
+            × Converse D.told D.faults (map (to_stamp (root (leaves self.now)) depth) calendars.now) dialer.old
+            dialer.new outcomes.items) }
         ensures broken_off { OnErr result ((depth : ℕ) × IsDepth (leaves self.now) depth
-            × ConverseUpTo D.told D.faults (map (to_stamp (root (leaves self.now)) depth) calendars.now) dialer.old dialer.new) }
+            × ConverseUpTo D.told D.faults (map (to_stamp (root (leaves self.now)) depth) calendars.now) dialer.old
+            dialer.new) }
         ensures sound { IfOk result (λ outcomes. AreSoundBelow self.now outcomes.items) }
     {
         stamp_with(alloc, dialer, calendars, &self.root(), self.depth)
@@ -107,18 +109,10 @@ impl Batch {
     /// Each of the files has a proof, whether or not there is memory to make it.
     pub fn have_proofs(&self, good: &Tree)
         requires sound { IsSoundBelow self.now good.now }
-        ensures { (i : ℕ) (t : Target) (trees : List (List Token)) → slice_get self.now i ≡ Some t → Gathers trees good.now
+        ensures { (i : ℕ) (t : Target) (trees : List (List Token)) → slice_get self.now i ≡ Some t
+            → Gathers trees good.now
             → (proof : Proof) × IsStampOf self.now i t trees proof }
     {
-        lengths_of_results();
-        path_leads_to_root();
-        paths_of_made_trees();
-        sound_made_trees();
-        sound_results();
-        one_tree();
-        some_path();
-        one_canon();
-        one_canonical_tree();
         let _ = good.tokens();
     }
 
@@ -126,14 +120,9 @@ impl Batch {
     pub fn proof(&self, alloc: Global, i: usize, good: &Tree) -> Result<Detached, OutOfMemory>
         requires index { i < length self.now }
         requires sound { IsSoundBelow self.now good.now }
-        ensures { IfOk result (λ proof. (t : Target) (trees : List (List Token)) → slice_get self.now i ≡ Some t → Gathers trees good.now → IsStampOf self.now i t trees proof) }
+        ensures { IfOk result (λ proof. (t : Target) (trees : List (List Token)) → slice_get self.now i ≡ Some t
+            → Gathers trees good.now → IsStampOf self.now i t trees proof) }
     {
-        lengths_of_results();
-        path_leads_to_root();
-        paths_of_made_trees();
-        sound_made_trees();
-        sound_results();
-        one_tree();
         let target = &self.targets[i];
         let ops = ops_to_root(alloc, target, &self.paths[i])?;
         let tree = canonical_under(alloc, ops.items(), good)?;
@@ -201,7 +190,7 @@ fn ops_to_root(alloc: Global, target: &Target, path: &Ops) -> Result<Ops, OutOfM
     Ok(ops)
 }
 
-/// The canonical form of a tree behind operations.
+/// The canonical form of a tree after operations.
 fn canonical_under(alloc: Global, ops: &[Op], good: &Tree) -> Result<Tree, OutOfMemory>
     ensures { IfOk result (IsCanonUnder ops.now good.now) }
 {

@@ -27,8 +27,16 @@ pub fn converse<D: Dialer>(
     requires least { 1 ≤ shape.length }
     requires greatest { shape.length ≤ MAX_MESSAGE }
     requires depth { shape.depth ≤ MAX_OPERATIONS }
-    ensures asked { IfOk result (Converses D.told D.faults (record { address = address.now; asked = asked.now; length = shape.length; depth = shape.depth }) dialer.old dialer.new) }
-    ensures broken_off { OnErr result (ConverseUpTo D.told D.faults (record { address = address.now; asked = asked.now; length = shape.length; depth = shape.depth } ∷ []) dialer.old dialer.new) }
+    ensures asked { IfOk result
+        (Converses D.told D.faults (record {
+          address = address.now;
+          asked = asked.now;
+          length = shape.length;
+          depth = shape.depth;
+        }) dialer.old dialer.new) }
+    ensures broken_off { OnErr result (ConverseUpTo D.told D.faults
+        (record { address = address.now; asked = asked.now; length = shape.length; depth = shape.depth } ∷ [])
+        dialer.old dialer.new) }
     ensures sound { IfOk result (IsSoundOutcome shape.length shape.depth) }
 {
     let slot = match dialer.connect(address.host(), address.port()) {
@@ -48,7 +56,8 @@ fn exchange<L: Link>(
     address: &Address,
     asked: &Asked,
 ) -> Result<HttpReply, ReplyError>
-    ensures exchanged { Exchanges (request_bytes address.now asked.now) (L.told link.old) (L.told link.new) (L.faults link.old) (L.faults link.new) result }
+    ensures exchanged { Exchanges (request_bytes address.now asked.now) (L.told link.old) (L.told link.new)
+        (L.faults link.old) (L.faults link.new) result }
     ensures same { L.same link.old link.new }
 {
     if write_request(link, address, asked).is_err() {

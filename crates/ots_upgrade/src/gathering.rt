@@ -8,14 +8,15 @@ ghost use Rattle.ots_upgrade.specs.declared.target.Target.{Target};
 
 use crate::outcome::Outcome;
 use ots_base::OutOfMemory;
-use ots_tree::{Tree, beside, one_tree, paths_of_made_trees, sound_made_trees};
+use ots_tree::{Tree, beside};
 
 /// One node with the items of all good trees, in the order of the calendars, or none where no tree is
 /// good. It copies the trees.
 pub fn gather_good(outcomes: &[Outcome]) -> Result<Option<Tree>, OutOfMemory>
     ensures gathered { IfOk result (GathersAny (good_trees outcomes.now)) }
     ensures sound { (n k : ℕ) → AreSound n k outcomes.now → IfOk result (IsSoundGathered n k) }
-    ensures below { (targets : List Target) → AreSoundBelow targets outcomes.now → IfOk result (IsGatheredBelow targets) }
+    ensures below { (targets : List Target) → AreSoundBelow targets outcomes.now
+        → IfOk result (IsGatheredBelow targets) }
 {
     let mut all: Option<Tree> = None;
     for outcome in outcomes {
@@ -26,14 +27,12 @@ pub fn gather_good(outcomes: &[Outcome]) -> Result<Option<Tree>, OutOfMemory>
     Ok(all)
 }
 
-/// The items of a tree behind those that are gathered.
+/// The items of a tree after those that are gathered.
 fn beside_any(gathered: Option<Tree>, tree: Tree) -> Result<Tree, OutOfMemory>
-    ensures gathered { (trees : List (List Token)) → GathersAny trees gathered → IfOk result (Gathers (trees ++ tree ∷ [])) }
+    ensures gathered { (trees : List (List Token)) → GathersAny trees gathered
+        → IfOk result (Gathers (trees ++ tree ∷ [])) }
     ensures sound { (n k : ℕ) → IsSoundGathered n k gathered → IsSoundPre n k tree → IfOk result (IsSoundPre n k) }
 {
-    paths_of_made_trees();
-    sound_made_trees();
-    one_tree();
     match gathered {
         Some(before) => beside(before, tree),
         None => {

@@ -6,20 +6,14 @@ ghost use Rattle.ots_upgrade.specs.declared.outcome.Outcome.{Outcome};
 ghost use Rattle.ots_upgrade.specs.declared.outcome.Outcome.TheVariants.{Unreachable};
 ghost use Rattle.ots_upgrade.specs.Outcome.{IsOutcomeOf};
 
-use ots_http::one_reply_outcome;
-use ots_reader::{fault_or_tree, one_fault, one_tree_at_the_front};
 use ots_tree::{Detached, limits_of_detached};
 
 /// A reply has one outcome below a message of n bytes and k operations, a failed conversation aside.
 pub fn one_outcome()
-    ensures { (n k : ℕ) (reply : List ℕ) (a b : Outcome) → IsShape n k → IsOutcomeOf n k reply a → IsOutcomeOf n k reply b
+    ensures { (n k : ℕ) (reply : List ℕ) (a b : Outcome) → IsShape n k → IsOutcomeOf n k reply a
+        → IsOutcomeOf n k reply b
         → a ≢ Unreachable → b ≢ Unreachable → a ≡ b }
-{
-    one_reply_outcome();
-    fault_or_tree();
-    one_fault();
-    one_tree_at_the_front();
-}
+{}
 
 /// The pending paths of a proof ask calendars for one list of pairs, whether or not there is memory to
 /// make it.

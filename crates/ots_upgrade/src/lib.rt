@@ -7,6 +7,7 @@
 //! | [`Batch`] | files that are stamped together: their root, and the proof of each |
 //! | [`gather_good`] | the trees of all calendars in one |
 //! | [`upgrade_with`] | each calendar is asked for what the pending paths of a proof ask it for, and completes it |
+//! | [`AskedList`] | the pairs that were asked for, each an [`AskedAt`] with what came of it |
 //! | [`one_outcome`] | the law that a reply has one outcome |
 //! | [`one_list_of_pairs`] | the law that the pending paths of a proof ask for one list of pairs |
 #![tactic(auto)]
@@ -21,7 +22,7 @@ mod stamping;
 mod target;
 mod upgrading;
 
-pub use asking::AskedList;
+pub use asking::{AskedAt, AskedList};
 pub use batch::Batch;
 pub use gathering::gather_good;
 pub use laws::{one_list_of_pairs, one_outcome};

@@ -36,7 +36,8 @@ pub fn outcome_of(
     requires least { 1 ≤ shape.length }
     requires greatest { shape.length ≤ MAX_MESSAGE }
     requires depth { shape.depth ≤ MAX_OPERATIONS }
-    ensures outcome { (reply : List ℕ) → IsReplyAnswer reply read → IfOk result (IsOutcomeOf shape.length shape.depth reply) }
+    ensures outcome { (reply : List ℕ) → IsReplyAnswer reply read
+        → IfOk result (IsOutcomeOf shape.length shape.depth reply) }
     ensures unreachable { IfOk result (IsUnreachableAs read) }
     ensures sound { IfOk result (IsSoundOutcome shape.length shape.depth) }
 {

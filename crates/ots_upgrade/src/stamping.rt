@@ -25,8 +25,10 @@ pub fn stamp_with<D: Dialer>(
     depth: u32,
 ) -> Result<Vec<Outcome>, OutOfMemory>
     requires { depth ≤ MAX_OPERATIONS }
-    ensures asked { IfOk result (λ outcomes. Converse D.told D.faults (map (to_stamp root.now depth) calendars.now) dialer.old dialer.new outcomes.items) }
-    ensures broken_off { OnErr result (ConverseUpTo D.told D.faults (map (to_stamp root.now depth) calendars.now) dialer.old dialer.new) }
+    ensures asked { IfOk result (λ outcomes. Converse D.told D.faults (map (to_stamp root.now depth) calendars.now)
+        dialer.old dialer.new outcomes.items) }
+    ensures broken_off { OnErr result (ConverseUpTo D.told D.faults (map (to_stamp root.now depth) calendars.now)
+        dialer.old dialer.new) }
     ensures sound { IfOk result (λ outcomes. AreSound (length root.now) depth outcomes.items) }
 {
     let mut outcomes = Vec::with_capacity(alloc, calendars.len())?;
@@ -46,8 +48,10 @@ fn ask_to_stamp<D: Dialer>(
     depth: u32,
 ) -> Result<Outcome, OutOfMemory>
     requires { depth ≤ MAX_OPERATIONS }
-    ensures asked { IfOk result (Converses D.told D.faults (to_stamp root.now depth address.now) dialer.old dialer.new) }
-    ensures broken_off { OnErr result (ConverseUpTo D.told D.faults (to_stamp root.now depth address.now ∷ []) dialer.old dialer.new) }
+    ensures asked { IfOk result (Converses D.told D.faults (to_stamp root.now depth address.now) dialer.old
+        dialer.new) }
+    ensures broken_off { OnErr result (ConverseUpTo D.told D.faults (to_stamp root.now depth address.now ∷ [])
+        dialer.old dialer.new) }
     ensures sound { IfOk result (IsSoundOutcome (length root.now) depth) }
 {
     let shape = Shape {

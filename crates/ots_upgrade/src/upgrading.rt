@@ -1,16 +1,16 @@
 //! Asking calendars to complete a proof.
-ghost use Rattle.std.specs.Prelude.{◌≡◌, ◌≤◌, ◌<◌, ℕ, List, [], ◌∷◌, length, map, Some, IfOk, OnErr};
+ghost use Rattle.std.specs.Prelude.{◌≡◌, ◌≤◌, ◌<◌, ℕ, List, [], ◌∷◌, length, Some, IfOk, OnErr};
 ghost use Rattle.std.specs.List.{filter_map, slice_get};
 ghost use Rattle.std.specs.Option.{option_copied, option_map};
 ghost use Rattle.ots_base.specs.declared.limits.TheConstants.{MAX_OPERATIONS};
 ghost use Rattle.ots_pending.specs.Completed.{AreSoundFor, IsCompleted};
 ghost use Rattle.ots_pending.specs.Pairs.{AreAskable, ArePairs, PairAt};
 ghost use Rattle.ots_tree.specs.Sound.{IsSoundPre};
-ghost use Rattle.ots_upgrade.specs.Asked.{asked_as, asked_of};
 ghost use Rattle.ots_upgrade.specs.Conversation.{ConverseUpTo};
-ghost use Rattle.ots_upgrade.specs.Upgrading.{address_of, questions, to_get, tree_of, AsksFor, AsksIf, AsksUpTo, Upgrades, UpgradesUpTo};
+ghost use Rattle.ots_upgrade.specs.Upgrading.{address_of, questions, to_get, tree_of, trees_of, AsksFor, AsksIf};
+ghost use Rattle.ots_upgrade.specs.Upgrading.{AsksUpTo, UpgradesProof, UpgradesUpTo};
 
-use crate::asking::AskedList;
+use crate::asking::{AskedAt, AskedList};
 use crate::conversation::converse;
 use crate::laws::one_list_of_pairs;
 use crate::outcome::Outcome;
@@ -41,28 +41,27 @@ pub struct Upgraded {
 /// each pending path with a good answer, its operations followed by each path of that tree. Pending
 /// attestations stay.
 ///
-/// For each pair it looks at all addresses. The pairs are kept as `pending_pairs` made them, a message
-/// that several of them ask for once. Good trees are copied once.
+/// For each pair it looks at all addresses. In the answer each pair has its message, at most 4096 bytes, for
+/// itself, also where several have the same. Good trees are copied once.
 pub fn upgrade_with<D: Dialer>(
     alloc: Global,
     dialer: &mut D,
     calendars: &[Address],
     proof: &Detached,
 ) -> Result<Upgraded, OutOfMemory>
-    ensures upgraded { IfOk result (Upgrades D.told D.faults calendars.now proof.now dialer.old dialer.new) }
+    ensures upgraded { IfOk result (UpgradesProof D.told D.faults calendars.now proof.now dialer.old dialer.new) }
     ensures broken_off { OnErr result (UpgradesUpTo D.told D.faults calendars.now proof.now dialer.old dialer.new) }
 {
     limits_of_detached(proof);
     one_list_of_pairs(proof);
     let pairs = pending_pairs(alloc, proof)?;
-    let outcomes = ask_for_all(alloc, dialer, calendars, &pairs)?;
-    let tree = completed_by(alloc, proof, &pairs, &outcomes)?;
+    let asked = ask_for_all(alloc, dialer, calendars, &pairs)?;
+    let tree = completed_by(alloc, proof, &pairs, asked.items())?;
     let proof = Detached {
         hash: proof.hash,
         digest: proof.digest,
         tree,
     };
-    let asked = AskedList::new(pairs, outcomes);
     Ok(Upgraded { proof, asked })
 }
 
@@ -72,17 +71,17 @@ fn ask_for_all<D: Dialer>(
     dialer: &mut D,
     calendars: &[Address],
     pairs: &Pairs,
-) -> Result<Vec<Option<Outcome>>, OutOfMemory>
+) -> Result<AskedList, OutOfMemory>
     requires { AreAskable pairs.now }
-    ensures one_each { IfOk result (λ outcomes. length outcomes.items ≡ length pairs.now) }
-    ensures asked { IfOk result (λ outcomes. AsksFor D.told D.faults calendars.now pairs.now dialer.old dialer.new (asked_of pairs.now outcomes.items)) }
-    ensures broken_off { OnErr result (ConverseUpTo D.told D.faults (questions calendars.now pairs.now) dialer.old dialer.new) }
+    ensures asked { IfOk result (AsksFor D.told D.faults calendars.now pairs.now dialer.old dialer.new) }
+    ensures broken_off { OnErr result (ConverseUpTo D.told D.faults (questions calendars.now pairs.now) dialer.old
+        dialer.new) }
 {
-    let mut outcomes = Vec::new(alloc);
+    let mut asked = AskedList::new(alloc);
     for i in 0..pairs.len() {
-        outcomes.push(ask_for(alloc, dialer, calendars, pairs, i)?)?;
+        asked.push(ask_for(alloc, dialer, calendars, pairs, i)?)?;
     }
-    Ok(outcomes)
+    Ok(asked)
 }
 
 /// Asks for the pair at this place.
@@ -92,16 +91,23 @@ fn ask_for<D: Dialer>(
     calendars: &[Address],
     pairs: &Pairs,
     i: usize,
-) -> Result<Option<Outcome>, OutOfMemory>
+) -> Result<AskedAt, OutOfMemory>
     requires askable { AreAskable pairs.now }
     requires place { i < length pairs.now }
-    ensures asked { IfOk result (λ outcome. (p : PairAt) → slice_get pairs.now i ≡ Some p
-        → AsksFor D.told D.faults calendars.now (p ∷ []) dialer.old dialer.new (asked_as p outcome ∷ [])) }
+    ensures asked { IfOk result (λ asked. (p : PairAt) → slice_get pairs.now i ≡ Some p
+        → AsksFor D.told D.faults calendars.now (p ∷ []) dialer.old dialer.new (asked ∷ [])) }
     ensures broken_off { OnErr result ((p : PairAt) → slice_get pairs.now i ≡ Some p
         → ConverseUpTo D.told D.faults (questions calendars.now (p ∷ [])) dialer.old dialer.new) }
 {
-    let address = address_of(calendars, pairs.uri(i).text());
-    ask_at(alloc, dialer, address, pairs.message(i), pairs.depth(i))
+    let uri = pairs.uri(i).copy()?;
+    let message = pairs.message(i).copy()?;
+    let address = address_of(calendars, uri.text());
+    let outcome = ask_at(alloc, dialer, address, &message, pairs.depth(i))?;
+    Ok(AskedAt {
+        uri,
+        message,
+        outcome,
+    })
 }
 
 /// The first address whose text is exactly this.
@@ -127,8 +133,11 @@ fn ask_at<D: Dialer>(
 ) -> Result<Option<Outcome>, OutOfMemory>
     requires least { 1 ≤ length message.now }
     requires depth { depth ≤ MAX_OPERATIONS }
-    ensures asked { IfOk result (AsksIf D.told D.faults (option_map (to_get message.now depth) (option_copied address.entry)) dialer.old dialer.new) }
-    ensures broken_off { OnErr result (AsksUpTo D.told D.faults (option_map (to_get message.now depth) (option_copied address.entry)) dialer.old dialer.new) }
+    ensures asked { IfOk result
+        (AsksIf D.told D.faults (option_map (to_get message.now depth) (option_copied address.entry)) dialer.old
+        dialer.new) }
+    ensures broken_off { OnErr result (AsksUpTo D.told D.faults
+        (option_map (to_get message.now depth) (option_copied address.entry)) dialer.old dialer.new) }
 {
     let Some(address) = address else {
         return Ok(None);
@@ -142,30 +151,30 @@ fn ask_at<D: Dialer>(
     Ok(Some(outcome))
 }
 
-/// The proof that these outcomes for its pairs complete.
+/// The proof that what came of asking for its pairs completes.
 fn completed_by(
     alloc: Global,
     proof: &Detached,
     pairs: &Pairs,
-    outcomes: &[Option<Outcome>],
+    asked: &[AskedAt],
 ) -> Result<Tree, OutOfMemory>
     requires pairs { ArePairs proof.now pairs.now }
-    requires one_each { length outcomes.now ≡ length pairs.now }
-    requires sound { AreSoundFor pairs.now (map tree_of outcomes.now) }
-    ensures completed { IfOk result (IsCompleted proof.now pairs.now (map tree_of outcomes.now)) }
+    requires one_each { length (trees_of asked.now) ≡ length pairs.now }
+    requires sound { AreSoundFor pairs.now (trees_of asked.now) }
+    ensures completed { IfOk result (IsCompleted proof.now pairs.now (trees_of asked.now)) }
     ensures sound { IfOk result (IsSoundPre (length proof.now.digest) 0) }
 {
-    let trees = good_trees(alloc, outcomes)?;
+    let trees = good_trees(alloc, asked)?;
     completed(alloc, proof, pairs, &trees)
 }
 
-/// The trees that were answered.
-fn good_trees(alloc: Global, outcomes: &[Option<Outcome>]) -> Result<Vec<Option<Tree>>, OutOfMemory>
-    ensures { IfOk result (λ trees. trees.items ≡ map tree_of outcomes.now) }
+/// For each pair the tree that was answered for it, if one was.
+fn good_trees(alloc: Global, asked: &[AskedAt]) -> Result<Vec<Option<Tree>>, OutOfMemory>
+    ensures { IfOk result (λ trees. trees.items ≡ trees_of asked.now) }
 {
-    let mut trees = Vec::with_capacity(alloc, outcomes.len())?;
-    for outcome in outcomes {
-        trees.push(good_tree(outcome)?)?;
+    let mut trees = Vec::with_capacity(alloc, asked.len())?;
+    for pair in asked {
+        trees.push(good_tree(&pair.outcome)?)?;
     }
     Ok(trees)
 }

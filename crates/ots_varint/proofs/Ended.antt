@@ -27,7 +27,7 @@ all_spell fed b n used bytes short e =
     let at = reading_is (fed ++ b ∷ []) n used bytes e in
     let all = used_from 0 fed b n used short e in
     let rest : drop used (fed ++ b ∷ []) ≡ [] = drop_all used (fed ++ b ∷ []) (omega (arith, length-append fed (b ∷ []))) in
-    (at.small, at.front ∙ ap (λ (z : List ℕ). varuint n ++ z) rest ∙ append-nil (varuint n))
+    (at.small, at.prefix ∙ ap (λ (z : List ℕ). varuint n ++ z) rest ∙ append-nil (varuint n))
 
 -- a spelling reads as its number
 whole : (n : ℕ) → n < 2 ^ 64 → reading (varuint n) ≡ Value n (length (varuint n))

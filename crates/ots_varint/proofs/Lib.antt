@@ -4,5 +4,5 @@ pub mod Fed
 mod Ended
 pub mod Written
 pub mod Settled
-pub mod Behind
+pub mod After
 pub mod Parts

@@ -137,11 +137,11 @@ pub reading_is : (bytes : List ℕ) (n used : ℕ) → AllByRecursion (λ b. b <
 unfolding reading varuint
 reading_is bytes n used fits e =
     let s = read_is 9 0 bytes n used refl fits e in
-    record { small = rw (← limit_is) s.small; front = s.spelling; len = s.len }
+    record { small = rw (← limit_is) s.small; prefix = s.spelling; len = s.len }
 
 pub spelled_is : (bytes : List ℕ) (n used : ℕ) → IsSpelledAt bytes n used → reading bytes ≡ Value n used
 spelled_is bytes n used h =
-    ap reading h.front ∙ reading_again n (drop used bytes) h.small ∙ ap (λ z. Value n z) (sym h.len)
+    ap reading h.prefix ∙ reading_again n (drop used bytes) h.small ∙ ap (λ z. Value n z) (sym h.len)
 
 -- the elements of a slice of bytes
 pub all_bytes : (bytes : List ℕ) → ((k : ℕ) → get_or bytes k 0 < 256) → AllByRecursion (λ b. b < 256) bytes

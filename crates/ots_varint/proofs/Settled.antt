@@ -62,31 +62,31 @@ step_more TooLarge e = absurd cc
 
 -- the first i bytes, which leave the number open
 pub record IsOpen (fed bytes : List ℕ) (i : ℕ) : Type 0 where
-  pub front : fed ≡ take i bytes
+  pub prefix : fed ≡ take i bytes
   pub short : reading fed ≡ Short
 
 one_more : (fed bytes : List ℕ) (i : ℕ) → fed ≡ take i bytes → i < length bytes → fed ++ get_or bytes i 0 ∷ [] ≡ take (i + 1) bytes
-one_more fed bytes i front here = ap (λ (z : List ℕ). z ++ get_or bytes i 0 ∷ []) front ∙ sym (take_more bytes i 0 here)
+one_more fed bytes i prefix here = ap (λ (z : List ℕ). z ++ get_or bytes i 0 ∷ []) prefix ∙ sym (take_more bytes i 0 here)
 
 pub opened : (fed next bytes : List ℕ) (i : ℕ) → IsOpen fed bytes i → i < length bytes → next ≡ fed ++ get_or bytes i 0 ∷ [] → step.More ≡ step_of (reading (fed ++ get_or bytes i 0 ∷ []))
     → IsOpen next bytes (i + 1)
 opened fed next bytes i h here is e = record {
-  front = is ∙ one_more fed bytes i h.front here;
+  prefix = is ∙ one_more fed bytes i h.prefix here;
   short = ap reading is ∙ step_more (reading (fed ++ get_or bytes i 0 ∷ [])) e;
 }
 
 -- what the first i + 1 bytes settle is the answer
 settles : (fed bytes : List ℕ) (i : ℕ) (r : VaruintRead) → IsOpen fed bytes i → i < length bytes → reading (fed ++ get_or bytes i 0 ∷ []) ≡ r → (r ≡ Short → ⊥) → r ≡ reading bytes
 settles fed bytes i r h here e settled =
-    let front = one_more fed bytes i h.front here in
-    let is : reading (take (i + 1) bytes) ≡ r = ap reading (sym front) ∙ e in
+    let prefix = one_more fed bytes i h.prefix here in
+    let is : reading (take (i + 1) bytes) ≡ r = ap reading (sym prefix) ∙ e in
     sym is ∙ sym (answer_stays (take (i + 1) bytes) (drop (i + 1) bytes) (λ short. settled (sym is ∙ short))) ∙ ap reading (take-append-drop (i + 1) bytes)
 
 pub settles_value : (fed bytes : List ℕ) (i n : ℕ) → IsOpen fed bytes i → i < length bytes → step.Value n ≡ step_of (reading (fed ++ get_or bytes i 0 ∷ [])) → Value n (i + 1) ≡ reading bytes
 unfolding reading
 settles_value fed bytes i n h here e =
     let v = step_value (reading (fed ++ get_or bytes i 0 ∷ [])) n e in
-    let len : length fed ≡ i = ap length h.front ∙ length-take-le i bytes (omega arith) in
+    let len : length fed ≡ i = ap length h.prefix ∙ length-take-le i bytes (omega arith) in
     let all = used_from 0 fed (get_or bytes i 0) n v.0 h.short v.1 in
     let used : v.0 ≡ i + 1 = omega arith in
     settles fed bytes i (Value n (i + 1)) h here (v.1 ∙ ap (λ z. Value n z) used) (λ short. cc)
@@ -99,7 +99,7 @@ settles_too_large fed bytes i h here e = settles fed bytes i TooLarge h here (st
 
 -- no byte is left
 pub all_open : (fed bytes : List ℕ) (i : ℕ) → IsOpen fed bytes i → length bytes ≤ i → Short ≡ reading bytes
-all_open fed bytes i h at = sym h.short ∙ ap reading (h.front ∙ take_all i bytes at)
+all_open fed bytes i h at = sym h.short ∙ ap reading (h.prefix ∙ take_all i bytes at)
 
 pub reading_nothing : (fed : List ℕ) → fed ≡ [] → reading fed ≡ Short
 unfolding reading

@@ -32,18 +32,18 @@ limit_nine = refl
 pub record IsWritten (n : ℕ) (before out : List ℕ) (at rest : ℕ) : Type 0 where
   pub early : at ≤ 9
   pub small : rest < limit (9 - at)
-  pub front : varuint n ≡ take at out ++ in_bytes (9 - at) rest
+  pub prefix : varuint n ≡ take at out ++ in_bytes (9 - at) rest
   pub back : drop at out ≡ drop at before
   pub len : length out ≡ 10
 
 pub begins : (n : ℕ) (out : List ℕ) → n < 2 ^ 64 → length out ≡ 10 → IsWritten n out out 0 n
 unfolding varuint
-begins n out small len = record { early = omega arith; small = rw limit_nine small; front = refl; back = refl; len = len }
+begins n out small len = record { early = omega arith; small = rw limit_nine small; prefix = refl; back = refl; len = len }
 
 drop_one : (at : ℕ) (xs : List ℕ) → drop 1 (drop at xs) ≡ drop (at + 1) xs
 drop_one at xs = drop-drop 1 at xs
 
--- what stands behind the next byte is as before
+-- what stands after the next byte is as before
 back_of : (before out : List ℕ) (at b : ℕ) → at < length out → drop at out ≡ drop at before → drop (at + 1) (set out at b) ≡ drop (at + 1) before
 back_of before out at b here same =
     drop-set-lt (at + 1) out at b (omega arith) ∙ sym (drop_one at out) ∙ ap (λ (z : List ℕ). drop 1 z) same ∙ drop_one at before
@@ -59,7 +59,7 @@ goes_on n before out at rest h high =
     record {
       early = omega arith;
       small = split.2;
-      front = rw (take_more_set out at b here, append_assoc) (h.front ∙ ap (λ (z : List ℕ). take at out ++ z) split.1);
+      prefix = rw (take_more_set out at b here, append_assoc) (h.prefix ∙ ap (λ (z : List ℕ). take at out ++ z) split.1);
       back = back_of before out at b here h.back;
       len = length-set out at b ∙ h.len;
     }
@@ -70,24 +70,24 @@ ends n before out at b h low =
     let early = h.early in
     let len = h.len in
     let here : at < length out = omega arith in
-    let spelled : varuint n ≡ take at out ++ b ∷ [] = h.front ∙ rw (in_bytes-last (9 - at) b low) refl in
-    let front : varuint n ≡ take (at + 1) (set out at b) = spelled ∙ sym (take_more_set out at b here) in
-    let size : length (varuint n) ≡ at + 1 = ap length front ∙ length-take-le (at + 1) (set out at b) (omega (arith, length-set out at b)) in (
+    let spelled : varuint n ≡ take at out ++ b ∷ [] = h.prefix ∙ rw (in_bytes-last (9 - at) b low) refl in
+    let prefix : varuint n ≡ take (at + 1) (set out at b) = spelled ∙ sym (take_more_set out at b here) in
+    let size : length (varuint n) ≡ at + 1 = ap length prefix ∙ length-take-le (at + 1) (set out at b) (omega (arith, length-set out at b)) in (
       sym size,
-      rw (size, front) (sym (take-append-drop (at + 1) (set out at b)) ∙ ap (λ (z : List ℕ). take (at + 1) (set out at b) ++ z) (back_of before out at b here h.back)),
+      rw (size, prefix) (sym (take-append-drop (at + 1) (set out at b)) ∙ ap (λ (z : List ℕ). take (at + 1) (set out at b) ++ z) (back_of before out at b here h.back)),
     )
 
--- ---- behind its length
+-- ---- after its length
 
 pub varbytes_length : (x : List ℕ) → length (varbytes x) ≡ length (varuint (length x)) + length x
 unfolding varbytes
 varbytes_length x = length-append (varuint (length x)) x
 
--- bytes behind their number, written at the front
-pub behind_written : (start : ℕ) (x middle old : List ℕ) → start ≡ length (varuint (length x)) → middle ≡ varuint (length x) ++ drop (length (varuint (length x))) old
+-- bytes after their number, written at the start
+pub after_written : (start : ℕ) (x middle old : List ℕ) → start ≡ length (varuint (length x)) → middle ≡ varuint (length x) ++ drop (length (varuint (length x))) old
     → take start middle ++ (x ++ drop (start + length x - start) (drop start middle)) ≡ varbytes x ++ drop (length (varbytes x)) old
 unfolding varbytes
-behind_written start x middle old e f = rw (e, f) (grind (arith, common_steps))
+after_written start x middle old e f = rw (e, f) (grind (arith, common_steps))
 
 -- ---- counted
 

@@ -3,7 +3,8 @@ use Rattle.std.specs.Prelude.{ℕ, Bool, true, false, nat_lt, if◌then◌else�
 use Rattle.ots_varint.specs.declared.reading.VaruintRead.{VaruintRead}
 use Rattle.ots_varint.specs.declared.reading.VaruintRead.TheVariants as read
 use Rattle.ots_varint.specs.declared.varbytes_state.LengthStep.{LengthStep}
-use Rattle.ots_varint.specs.declared.varbytes_state.LengthStep.TheVariants.{More, Length, NonMinimal, TooLarge, TooShort, TooLong}
+use Rattle.ots_varint.specs.declared.varbytes_state.LengthStep.TheVariants.{More, Length, NonMinimal, TooLarge}
+use Rattle.ots_varint.specs.declared.varbytes_state.LengthStep.TheVariants.{TooShort, TooLong}
 
 -- by what is read of all bytes so far
 abbrev pub length_step : ℕ → ℕ → VaruintRead → LengthStep

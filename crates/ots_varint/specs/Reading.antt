@@ -1,7 +1,8 @@
 -- What a reader answers to the bytes at a number's place. It looks at them one by one, and at each
 -- the first line that fits decides: a tenth byte above 1 is too large; a byte of 0 that isn't the
 -- first is not minimal; a byte below 128 ends the number; else more bytes are needed.
-use Rattle.std.specs.Prelude.{◌≡◌, ◌<◌, ◌^◌, length, drop, ◌++◌, ℕ, suc, ◌+◌, ◌*◌, ◌-◌, List, [], ◌∷◌, nat_lt, nat_eq, ◌&&◌, if◌then◌else◌}
+use Rattle.std.specs.Prelude.{◌≡◌, ◌<◌, ◌^◌, length, drop, ◌++◌, ℕ, suc, ◌+◌, ◌*◌, ◌-◌, List, [], ◌∷◌, nat_lt, nat_eq}
+use Rattle.std.specs.Prelude.{◌&&◌, if◌then◌else◌}
 use Rattle.ots_varint.specs.Varuint.{varuint}
 use Rattle.ots_varint.specs.declared.reading.VaruintRead.{VaruintRead}
 use Rattle.ots_varint.specs.declared.reading.VaruintRead.TheVariants.{Value, Short, NonMinimal, TooLarge}
@@ -28,5 +29,5 @@ reading bytes = reading_from 0 bytes
 -- the first `used` bytes are the spelling of n, a number below 2^64
 pub record IsSpelledAt (bytes : List ℕ) (n used : ℕ) : Type 0 where
   pub small : n < 2 ^ 64
-  pub front : bytes ≡ varuint n ++ drop used bytes
+  pub prefix : bytes ≡ varuint n ++ drop used bytes
   pub len : used ≡ length (varuint n)

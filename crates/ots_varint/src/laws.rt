@@ -21,7 +21,8 @@ pub fn one_spelling()
 
 /// The bytes read as the number n of `used` bytes exactly where the first `used` of them spell n.
 pub fn numbers_read_as_spelled()
-    ensures { (bytes : List ℕ) (n used : ℕ) → AllByRecursion (λ b. b < 256) bytes → (reading bytes ≡ Value n used) ↔ IsSpelledAt bytes n used }
+    ensures { (bytes : List ℕ) (n used : ℕ) → AllByRecursion (λ b. b < 256) bytes
+        → (reading bytes ≡ Value n used) ↔ IsSpelledAt bytes n used }
 {}
 
 /// An answer but `Short` stays, whatever follows.

@@ -1,10 +1,10 @@
-//! Reading the number at the front of some bytes.
+//! Reading the number at the start of some bytes.
 ghost use Rattle.std.specs.Prelude.{◌≡◌, ◌↔◌, ℕ};
 ghost use Rattle.ots_varint.specs.Reading.{reading, IsSpelledAt};
 
 use crate::state::{Step, VaruintState};
 
-/// What stands at the front of some bytes.
+/// What stands at the start of some bytes.
 #[derive(Clone, Copy, Debug, PartialEq, Eq)]
 pub enum VaruintRead {
     /// A number, and how many bytes spell it: 1 to 10.
@@ -17,7 +17,7 @@ pub enum VaruintRead {
     TooLarge,
 }
 
-/// The number at the front of the bytes, and how many of them it takes. What follows doesn't
+/// The number at the start of the bytes, and how many of them it takes. What follows doesn't
 /// matter.
 #[inline(always)]
 pub fn read_varuint(bytes: &[u8]) -> VaruintRead

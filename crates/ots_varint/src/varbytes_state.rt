@@ -57,8 +57,10 @@ impl VarbytesState {
     /// before this byte, which is then none of the bytes so far: the next byte comes in its place.
     pub fn feed(&mut self, byte: u8) -> LengthStep
         ensures answer { result ≡ length_step self.old.least self.old.greatest (reading (self.old.fed ++ byte ∷ [])) }
-        ensures length { (n : ℕ) → (result ≡ LengthStep.Length n) ↔ ((self.old.least ≤ n) × (n ≤ self.old.greatest) × (self.old.fed ++ byte ∷ [] ≡ varuint n)) }
-        ensures fed { self.new ≡ record self.old { fed = (if is_more result then self.old.fed ++ byte ∷ [] else self.old.fed) } }
+        ensures length { (n : ℕ) → (result ≡ LengthStep.Length n)
+            ↔ ((self.old.least ≤ n) × (n ≤ self.old.greatest) × (self.old.fed ++ byte ∷ [] ≡ varuint n)) }
+        ensures fed { self.new
+            ≡ record self.old { fed = (if is_more result then self.old.fed ++ byte ∷ [] else self.old.fed) } }
     {
         let (least, greatest) = (self.least, self.greatest);
         match self.state.feed(byte) {

@@ -5,7 +5,7 @@ ghost use Rattle.ots_varint.specs.Varuint.{varuint, varbytes};
 /// The most bytes of a number's spelling: seven bits a byte hold the 64 bits of any number in ten.
 pub const MAX_SPELLED_NUMBER: usize = 10;
 
-/// Writes the spelling of the number at the front of the bytes, leaves the others as they were, and
+/// Writes the spelling of the number at the start of the bytes, leaves the others as they were, and
 /// answers its length, 1 to `MAX_SPELLED_NUMBER`.
 pub fn put_varuint(n: u64, out: &mut [u8; MAX_SPELLED_NUMBER]) -> usize
     ensures length { result ≡ length (varuint n) }
@@ -35,8 +35,8 @@ pub fn varuint_length(n: u64) -> usize
     length
 }
 
-/// Writes the spelling of the number at the front of a slice that has room for it, leaves the bytes
-/// behind it as they were, and answers its length.
+/// Writes the spelling of the number at the start of a slice that has room for it, leaves the bytes
+/// after it as they were, and answers its length.
 pub fn put_number(n: u64, out: &mut [u8]) -> usize
     requires { length (varuint n) ≤ length out.old }
     ensures length { result ≡ length (varuint n) }
@@ -48,8 +48,8 @@ pub fn put_number(n: u64, out: &mut [u8]) -> usize
     used
 }
 
-/// Writes the bytes behind their number at the front of a slice that has room for both, leaves the
-/// bytes behind them as they were, and answers how many were written.
+/// Writes the bytes after their number at the start of a slice that has room for both, leaves the
+/// bytes after them as they were, and answers how many were written.
 #[tactic(auto, using(crate::proofs::Written::varbytes_length))]
 pub fn put_varbytes(bytes: &[u8], out: &mut [u8]) -> usize
     requires { length (varbytes bytes.now) ≤ length out.old }

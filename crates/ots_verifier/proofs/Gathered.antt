@@ -9,10 +9,10 @@ use Rattle.ots_detached.specs.File.{header, IsHeader}
 use Rattle.ots_detached.specs.FileFault.{header_fault}
 use Rattle.ots_reader.specs.declared.fault.Fault.{Fault}
 use Rattle.ots_verifier.specs.declared.progress.Progress.{Progress}
-use Rattle.ots_verifier.specs.declared.progress.State.TheVariants.{Header, Behind}
+use Rattle.ots_verifier.specs.declared.progress.State.TheVariants.{Header, After}
 use Rattle.ots_verifier.specs.Progress.{IsGathering, IsIn, HasCome}
 use Rattle.ots_detached.proofs.Headers.{header_length}
-use Rattle.ots_bitcoin.specs.HeaderTable.{Table}
+use Rattle.ots_headers.specs.HeaderTable.{Table}
 use Rattle.ots_verifier.specs.declared.following.Following.{Following}
 use Rattle.ots_verifier.specs.declared.stage.Stage.{Stage}
 use Rattle.ots_verifier.specs.declared.stage.Stage.TheVariants.{Tree}
@@ -22,7 +22,7 @@ use Rattle.ots_verifier.proofs.OnePiece.{header_fits}
 
 -- the header alone
 header_alone : (g : List ℕ) (h : FileHeader) → IsHeader g h.hash h.digest → take (33 + length h.digest) g ≡ header h.hash h.digest
-header_alone g h i = ap (take (33 + length h.digest)) i.front ∙ take_at (header h.hash h.digest) (drop (33 + length h.digest) g) (33 + length h.digest) (header_length h.hash h.digest)
+header_alone g h i = ap (take (33 + length h.digest)) i.prefix ∙ take_at (header h.hash h.digest) (drop (33 + length h.digest) g) (33 + length h.digest) (header_length h.hash h.digest)
 
 pub entered : (bitcoin : Table) (litecoin : Option Table) (g : List ℕ) (h : FileHeader) (f : Following) (start : ℕ) → IsHeader g h.hash h.digest → start ≡ 33 + length h.digest
     → Follows bitcoin litecoin h.digest f.reader f.messages f.best → f.reader.kept ≡ [] → f.reader.came ≡ [] → Stands bitcoin litecoin (take (33 + length h.digest) g) start (Tree h) f
@@ -35,7 +35,7 @@ entered bitcoin litecoin g h f start i is follows kept came =
       is_at = record {
         header = record {
           digest = i.digest;
-          front = header_alone g h i ∙ sym (append-nil (header h.hash h.digest)) ∙ ap (λ (z : List ℕ). header h.hash h.digest ++ z) (sym none);
+          prefix = header_alone g h i ∙ sym (append-nil (header h.hash h.digest)) ∙ ap (λ (z : List ℕ). header h.hash h.digest ++ z) (sym none);
         };
         rest = rw (kept, came, none) refl;
         follows = follows;
@@ -54,9 +54,9 @@ take_fewer n m xs is =
       | inr low ↦ take_all n xs (omega arith) ∙ sym (take_all m xs (omega arith))
     ]
 
-pub kept_front : (old piece bytes new : List ℕ) (count taken : ℕ) → length old ≡ 65 → count ≤ 65 → taken ≡ min (length piece) (65 - count) → bytes ≡ take taken piece
+pub kept_prefix : (old piece bytes new : List ℕ) (count taken : ℕ) → length old ≡ 65 → count ≤ 65 → taken ≡ min (length piece) (65 - count) → bytes ≡ take taken piece
     → new ≡ (take count old ++ bytes) ++ drop (count + length bytes) old → take (count + taken) new ≡ take 65 (take count old ++ piece)
-kept_front old piece bytes new count taken size low is are put =
+kept_prefix old piece bytes new count taken size low is are put =
     let p = take count old in
     let long : length p ≡ count = length-take-le count old (omega arith) in
     let all : bytes ≡ take (65 - count) piece = are ∙ take_fewer taken (65 - count) piece is in
@@ -88,7 +88,7 @@ no_header bytes piece p q i full count header following =
     let size : min q.count 65 ≡ min p.count 65 = omega arith in
     record {
       counted = omega (arith, i.counted, length-append bytes piece);
-      front = (λ j. take (size j) (header j)) ∙ i.front ∙ sym same;
+      prefix = (λ j. take (size j) (header j)) ∙ i.prefix ∙ sym same;
       bad = subst (λ (z : List ℕ). IsSome (header_fault z)) (sym same) i.bad;
       fresh = subst IsFresh (sym following) i.fresh;
     }
@@ -97,7 +97,7 @@ no_header bytes piece p q i full count header following =
 kept_bytes : (bytes : List ℕ) (p : Progress) → IsGathering bytes p → p.count < 65 → take p.count p.header ≡ bytes
 kept_bytes bytes p i low =
     let size : p.count ≡ min p.count 65 = omega arith in
-    ap (λ (k : ℕ). take k p.header) size ∙ i.front ∙ take_all 65 bytes (omega (arith, i.counted))
+    ap (λ (k : ℕ). take k p.header) size ∙ i.prefix ∙ take_all 65 bytes (omega (arith, i.counted))
 
 some_fault : (o : Option Fault) (f : Fault) → o ≡ Some f → IsSome o
 some_fault None f e = absurd cc
@@ -107,12 +107,12 @@ pub header_cut : (bytes piece : List ℕ) (p q : Progress) (end : ℕ) (f : Faul
     → take end q.header ≡ take 65 (take p.count p.header ++ piece) → header_fault (take end q.header) ≡ Some f → q.count ≡ p.count + length piece → q.following ≡ p.following
     → IsGathering (bytes ++ piece) q
 header_cut bytes piece p q end f i low is kept bad count following =
-    let front : take end q.header ≡ take 65 (bytes ++ piece) = kept ∙ ap (λ (z : List ℕ). take 65 (z ++ piece)) (kept_bytes bytes p i low) in
+    let prefix : take end q.header ≡ take 65 (bytes ++ piece) = kept ∙ ap (λ (z : List ℕ). take 65 (z ++ piece)) (kept_bytes bytes p i low) in
     let size : min q.count 65 ≡ end = omega arith in
     record {
       counted = omega (arith, i.counted, length-append bytes piece);
-      front = ap (λ (k : ℕ). take k q.header) size ∙ front;
-      bad = subst (λ (z : List ℕ). IsSome (header_fault z)) front (some_fault (header_fault (take end q.header)) f bad);
+      prefix = ap (λ (k : ℕ). take k q.header) size ∙ prefix;
+      bad = subst (λ (z : List ℕ). IsSome (header_fault z)) prefix (some_fault (header_fault (take end q.header)) f bad);
       fresh = subst IsFresh (sym following) i.fresh;
     }
 
@@ -120,20 +120,20 @@ header_cut bytes piece p q end f i low is kept bad count following =
 all_there : (bytes piece : List ℕ) (n : ℕ) → length bytes ≤ 65 → n ≡ min (length piece) (65 - length bytes) → take 65 (bytes ++ piece) ++ take (length piece - n) (drop n piece) ≡ bytes ++ piece
 all_there bytes piece n low is =
     let sum : length bytes + (65 - length bytes) ≡ 65 = omega arith in
-    let front : take 65 (bytes ++ piece) ≡ bytes ++ take n piece =
+    let prefix : take 65 (bytes ++ piece) ≡ bytes ++ take n piece =
     ap (λ (k : ℕ). take k (bytes ++ piece)) (sym sum) ∙ take-append-add bytes piece (65 - length bytes) ∙ ap (λ (z : List ℕ). bytes ++ z) (sym (take_fewer n (65 - length bytes) piece is)) in
-    ap (λ (z : List ℕ). z ++ take (length piece - n) (drop n piece)) front
+    ap (λ (z : List ℕ). z ++ take (length piece - n) (drop n piece)) prefix
     ∙ append_assoc bytes (take n piece) (take (length piece - n) (drop n piece))
     ∙ ap (λ (z : List ℕ). bytes ++ z) (rejoined piece n)
 
 pub header_whole : (bitcoin : Table) (litecoin : Option Table) (bytes piece kept : List ℕ) (p q : Progress) (end n : ℕ) (s : Stage) → IsGathering bytes p → p.count < 65
     → end ≡ min (p.count + length piece) 65 → n ≡ end - p.count → kept ≡ take 65 (take p.count p.header ++ piece)
     → IsAt bitcoin litecoin (kept ++ take (length piece - n) (drop n piece)) s q.following
-    → q.count ≡ p.count + length piece → q.count ≤ 4194304 → q.state ≡ Behind s → HasCome bitcoin litecoin (bytes ++ piece) q
+    → q.count ≡ p.count + length piece → q.count ≤ 4194304 → q.state ≡ After s → HasCome bitcoin litecoin (bytes ++ piece) q
 header_whole bitcoin litecoin bytes piece kept p q end n s i low is taken are on count room state =
-    let front : kept ≡ take 65 (bytes ++ piece) = are ∙ ap (λ (z : List ℕ). take 65 (z ++ piece)) (kept_bytes bytes p i low) in
+    let prefix : kept ≡ take 65 (bytes ++ piece) = are ∙ ap (λ (z : List ℕ). take 65 (z ++ piece)) (kept_bytes bytes p i low) in
     let whole : kept ++ take (length piece - n) (drop n piece) ≡ bytes ++ piece =
-    ap (λ (z : List ℕ). z ++ take (length piece - n) (drop n piece)) front ∙ all_there bytes piece n (omega (arith, i.counted)) (omega (arith, i.counted)) in
+    ap (λ (z : List ℕ). z ++ take (length piece - n) (drop n piece)) prefix ∙ all_there bytes piece n (omega (arith, i.counted)) (omega (arith, i.counted)) in
     record {
       room = room;
       is_in = subst (IsIn bitcoin litecoin (bytes ++ piece) q) (sym state) (record {

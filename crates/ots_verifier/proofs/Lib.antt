@@ -1,7 +1,6 @@
 pub mod Gathered
-pub mod HeaderFront
+pub mod HeaderPrefix
 pub mod InRows
-pub mod NoSize
 pub mod OneToken
 pub mod OnePiece
 pub mod Valued

@@ -14,9 +14,9 @@ use Rattle.ots_tree.proofs.Walks.{at, map_open, opened_along}
 use Rattle.ots_reader.specs.declared.next.Next.{Next}
 use Rattle.ots_reader.proofs.WithinPiece.{IsReadUpTo, read_more, read_whole, read_ended}
 use Rattle.ots_reader.specs.Tokens.{Tokens, with_token, with_bytes, IsReading, Stands, Brings}
-use Rattle.ots_bitcoin.specs.HeaderTable.{Table}
-use Rattle.ots_eval.specs.declared.best.Best.{Best}
-use Rattle.ots_eval.specs.Walked.{messages_by, messages, noted, walked, nothing}
+use Rattle.ots_headers.specs.HeaderTable.{Table}
+use Rattle.ots_verdicts.specs.declared.best.Best.{Best}
+use Rattle.ots_verdicts.specs.Walked.{messages_by, messages, noted, walked, nothing}
 use Rattle.ots_verifier.specs.Following.{MayCome, best_in, Follows, FollowsTo, FollowsWhole, Takes}
 use Rattle.ots_verifier.proofs.Valued.{valued, HasRows, rows_for, next_of, last_met}
 
@@ -130,9 +130,9 @@ pub followed_more : (bitcoin : Table) (litecoin : Option Table) (digest : List �
     → IsFollowed bitcoin litecoin digest old piece now m best place → Brings now (rest_of place piece) n → new ≡ with_token now (token_of n.token) → n.last ≡ false
     → Takes bitcoin litecoin (token_of n.token) m best after better → IsFollowed bitcoin litecoin digest old piece new after better (place + n.used)
 followed_more bitcoin litecoin digest old now new m after best better piece place n i b is going t =
-    let behind = with_token now (token_of n.token) in
+    let following = with_token now (token_of n.token) in
     rw is (record {
-      read = read_more old now behind piece now.came behind.came place n i.read b refl going refl;
+      read = read_more old now following piece now.came following.came place n i.read b refl going refl;
       follows = follow_on bitcoin litecoin digest now m after best better (rest_of place piece) n i.follows b going t;
     })
 

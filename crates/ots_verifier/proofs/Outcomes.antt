@@ -17,27 +17,27 @@ use Rattle.ots_detached.specs.File.{file, header, IsFileOf}
 use Rattle.ots_detached.specs.FileFault.{header_fault, moved, HasFault, in_header, in_tree}
 use Rattle.ots_detached.proofs.BothWays.{one_file, no_fault, file_size}
 use Rattle.ots_detached.proofs.Files.{one_fault}
-use Rattle.ots_bitcoin.specs.HeaderTable.{Table}
-use Rattle.ots_eval.specs.declared.best.Best.{Best}
-use Rattle.ots_eval.specs.Walked.{confirmation_of}
+use Rattle.ots_headers.specs.HeaderTable.{Table}
+use Rattle.ots_verdicts.specs.declared.best.Best.{Best}
+use Rattle.ots_verdicts.specs.Walked.{confirmation_of}
 use Rattle.ots_verifier.specs.declared.checked.Checked.{Checked}
 use Rattle.ots_verifier.specs.declared.checked.CheckError.{CheckError}
 use Rattle.ots_verifier.specs.declared.checked.CheckError.TheVariants.{TooBig, BadProof}
 use Rattle.ots_verifier.specs.declared.following.Following.{Following}
 use Rattle.ots_verifier.specs.declared.progress.Progress.{Progress}
 use Rattle.ots_verifier.specs.Checked.{IsCheckOf, Checks, IsExactCheck}
-use Rattle.ots_verifier.specs.declared.progress.State.TheVariants.{Header, Behind}
+use Rattle.ots_verifier.specs.declared.progress.State.TheVariants.{Header, After}
 use Rattle.ots_verifier.specs.Following.{IsFresh}
 use Rattle.ots_verifier.specs.Progress.{HasCome, IsGathering, IsIn}
 use Rattle.ots_verifier.specs.declared.stage.Stage.{Stage}
-use Rattle.ots_verifier.specs.Stage.{behind, IsOpen, IsWhole, IsWithin}
-use Rattle.ots_verifier.proofs.HeaderFront.{front_fault}
+use Rattle.ots_verifier.specs.Stage.{after, IsOpen, IsWhole, IsWithin}
+use Rattle.ots_verifier.proofs.HeaderPrefix.{prefix_fault}
 use Rattle.ots_verifier.proofs.OnePiece.{header_fits}
-use Rattle.ots_eval.proofs.Judged.{walk_verdict}
+use Rattle.ots_verdicts.proofs.Judged.{walk_verdict}
 
 -- ---- how many bytes have come
 
-pub within : (bitcoin : Table) (litecoin : Option Table) (b : List ℕ) (p : Progress) (s : Stage) → p.state ≡ Behind s → HasCome bitcoin litecoin b p → IsWithin bitcoin litecoin b s p.following
+pub within : (bitcoin : Table) (litecoin : Option Table) (b : List ℕ) (p : Progress) (s : Stage) → p.state ≡ After s → HasCome bitcoin litecoin b p → IsWithin bitcoin litecoin b s p.following
 within bitcoin litecoin b p s is h = let t = subst (IsIn bitcoin litecoin b p) is h.is_in in let room = h.room in record { size = omega (arith, t.counted); within = t.is_at }
 
 -- ---- a header that is none
@@ -50,15 +50,15 @@ same_fault : (b : List ℕ) → header_fault (take 65 b) ≡ header_fault b
 same_fault b =
     elim (cases_lt (length b) 65) [
       | inl short ↦ ap header_fault (take_all 65 b (omega arith))
-      | inr long ↦ sym (front_fault (take 65 b) (drop 65 b) (omega (arith, length-take-le 65 b long))) ∙ ap header_fault (take-append-drop 65 b)
+      | inr long ↦ sym (prefix_fault (take 65 b) (drop 65 b) (omega (arith, length-take-le 65 b long))) ∙ ap header_fault (take-append-drop 65 b)
     ]
 
 pub some_there : (b : List ℕ) (p : Progress) → IsGathering b p → IsSome (header_fault (take (min p.count 65) p.header))
-some_there b p g = subst (λ (z : List ℕ). IsSome (header_fault z)) (sym g.front) g.bad
+some_there b p g = subst (λ (z : List ℕ). IsSome (header_fault z)) (sym g.prefix) g.bad
 
 pub header_bad : (b : List ℕ) (p : Progress) (f : Fault) → IsGathering b p → p.count ≤ 4194304 → header_fault (take (min p.count 65) p.header) ≡ Some f
     → (length b ≤ 4194304) × HasFault b f
-header_bad b p f g room e = (omega (arith, g.counted), in_header (sym (same_fault b) ∙ ap header_fault (sym g.front) ∙ e))
+header_bad b p f g room e = (omega (arith, g.counted), in_header (sym (same_fault b) ∙ ap header_fault (sym g.prefix) ∙ e))
 
 -- ---- a tree that goes on
 
@@ -88,17 +88,17 @@ proof_of bitcoin litecoin b h best w = record {
   tree_sound = ∣ w.tree.sound ∣₁;
 }
 
-whole_bytes : (b : List ℕ) (h : FileHeader) (tokens : List Token) → b ≡ header h.hash h.digest ++ behind h b → behind h b ≡ spelled tokens ++ drop (length (behind h b)) (behind h b)
+whole_bytes : (b : List ℕ) (h : FileHeader) (tokens : List Token) → b ≡ header h.hash h.digest ++ after h b → after h b ≡ spelled tokens ++ drop (length (after h b)) (after h b)
     → b ≡ header h.hash h.digest ++ spelled tokens
-whole_bytes b h tokens front is =
-    front ∙ ap (λ (z : List ℕ). header h.hash h.digest ++ z)
-    (is ∙ ap (λ (z : List ℕ). spelled tokens ++ z) (drop_all (length (behind h b)) (behind h b) (omega arith)) ∙ append-nil (spelled tokens))
+whole_bytes b h tokens prefix is =
+    prefix ∙ ap (λ (z : List ℕ). header h.hash h.digest ++ z)
+    (is ∙ ap (λ (z : List ℕ). spelled tokens ++ z) (drop_all (length (after h b)) (after h b) (omega arith)) ∙ append-nil (spelled tokens))
 
 whole_file : (bitcoin : Table) (litecoin : Option Table) (b : List ℕ) (h : FileHeader) (best : Best) (w : IsWhole bitcoin litecoin b h best) → length b ≤ 4194304
     → IsFileOf b (proof_of bitcoin litecoin b h best w)
 whole_file bitcoin litecoin b h best w size =
     let sound = w.tree.sound in
-    let all : b ≡ file h.hash h.digest sound.0 = whole_bytes b h w.tokens w.header.front w.tree.front ∙ ap (λ (z : List Token). header h.hash h.digest ++ spelled z) (sym sound.2) in
+    let all : b ≡ file h.hash h.digest sound.0 = whole_bytes b h w.tokens w.header.prefix w.tree.front ∙ ap (λ (z : List Token). header h.hash h.digest ++ spelled z) (sym sound.2) in
     record {
       tree = sound.0;
       tokens = sound.2;
@@ -143,4 +143,4 @@ none_come = refl
 
 pub before_any : (bitcoin : Table) (litecoin : Option Table) (p : Progress) → IsFresh p.following → p.count ≡ 0 → p.state ≡ Header → HasCome bitcoin litecoin [] p
 before_any bitcoin litecoin p fresh count state =
-    record { room = omega arith; is_in = subst (IsIn bitcoin litecoin [] p) (sym state) (record { counted = count; front = rw count refl; bad = none_come; fresh = fresh }) }
+    record { room = omega arith; is_in = subst (IsIn bitcoin litecoin [] p) (sym state) (record { counted = count; prefix = rw count refl; bad = none_come; fresh = fresh }) }

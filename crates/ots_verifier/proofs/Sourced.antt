@@ -4,7 +4,7 @@ use Rattle.std.specs.Prelude.{Result, Ok, Err}
 use Rattle.std.specs.Io.KnownBytes.{IsAtEnd}
 use Rattle.std.proofs.lemmas.List.{length-take-le}
 use Rattle.ots_outside.specs.Streams.{Gives, Gives-trans}
-use Rattle.ots_bitcoin.specs.HeaderTable.{Table}
+use Rattle.ots_headers.specs.HeaderTable.{Table}
 use Rattle.ots_verifier.specs.declared.checked.Checked.{Checked}
 use Rattle.ots_verifier.specs.declared.checked.CheckError.{CheckError}
 use Rattle.ots_verifier.specs.declared.checked.CheckError.TheVariants.{TooBig, BadProof}

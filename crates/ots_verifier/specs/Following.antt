@@ -12,9 +12,9 @@ use Rattle.ots_reader.specs.Held.{IsReadTo}
 use Rattle.ots_reader.specs.Progress.{EndsIn}
 use Rattle.ots_reader.specs.Tokens.{Tokens, begun as before_any, so_far, IsReading}
 use Rattle.ots_reader.specs.TreeFault.{HasTreeFault}
-use Rattle.ots_bitcoin.specs.HeaderTable.{Table}
-use Rattle.ots_eval.specs.declared.best.Best.{Best}
-use Rattle.ots_eval.specs.Walked.{messages, noted, walked, nothing}
+use Rattle.ots_headers.specs.HeaderTable.{Table}
+use Rattle.ots_verdicts.specs.declared.best.Best.{Best}
+use Rattle.ots_verdicts.specs.Walked.{messages, noted, walked, nothing}
 use Rattle.ots_verifier.specs.declared.following.Following.{Following}
 use Rattle.ots_verifier.specs.declared.messages.TheConstants.{ROWS}
 
@@ -28,9 +28,10 @@ MayCome (token.Attestation a) m = Unit {0}
 abbrev pub best_in : Table → Option Table → List ℕ → List Token → Best
 best_in bitcoin litecoin digest came = walked bitcoin litecoin nothing (messages digest came)
 
--- The messages are those behind the tokens that have come of a tree on a digest, and the least heights
+-- The messages are those after the tokens that have come of a tree on a digest, and the least heights
 -- are those among them.
-pub record Follows (bitcoin : Table) (litecoin : Option Table) (digest : List ℕ) (r : Tokens) (m : Position (List ℕ)) (best : Best) : Type 0 where
+pub record Follows (bitcoin : Table) (litecoin : Option Table) (digest : List ℕ) (r : Tokens) (m : Position (List ℕ))
+    (best : Best) : Type 0 where
   pub shape : r.shape ≡ record { length = length digest; depth = 0 }
   pub reading : IsReading r
   pub opens : opened apply (begun digest) r.came ≡ Some (open_at m)
@@ -41,25 +42,31 @@ pub record IsFresh (f : Following) : Type 0 where
   pub reader : f.reader ≡ before_any f.reader.shape
   pub none : f.best ≡ nothing
 
--- the messages and the least heights, behind one more token
-pub record Takes (bitcoin : Table) (litecoin : Option Table) (x : Token) (m : Position (List ℕ)) (best : Best) (after : Position (List ℕ)) (better : Best) : Type 0 where
+-- the messages and the least heights, after one more token
+pub record Takes (bitcoin : Table) (litecoin : Option Table) (x : Token) (m : Position (List ℕ)) (best : Best)
+    (after : Position (List ℕ)) (better : Best) : Type 0 where
   pub going : Bool
   pub step : IsStep apply x m after going
   pub is_noted : better ≡ noted bitcoin litecoin x (Some m.last) best
 
 -- these bytes more have come, and the tree goes on
-pub record FollowsTo (bitcoin : Table) (litecoin : Option Table) (digest : List ℕ) (old : Tokens) (more : List ℕ) (new : Tokens) (m : Position (List ℕ)) (best : Best) : Type 0 where
+pub record FollowsTo (bitcoin : Table) (litecoin : Option Table) (digest : List ℕ) (old : Tokens) (more : List ℕ)
+    (new : Tokens) (m : Position (List ℕ)) (best : Best) : Type 0 where
   pub read : IsReadTo old more new
   pub follows : Follows bitcoin litecoin digest new m best
 
 -- The tree's last byte is the one before this place of the piece.
-pub record FollowsWhole (bitcoin : Table) (litecoin : Option Table) (digest : List ℕ) (old : Tokens) (piece : List ℕ) (used : ℕ) (best : Best) : Type 0 where
+pub record FollowsWhole (bitcoin : Table) (litecoin : Option Table) (digest : List ℕ) (old : Tokens) (piece : List ℕ)
+    (used : ℕ) (best : Best) : Type 0 where
   pub tokens : List Token
   pub ends : EndsIn old.shape (so_far old) piece tokens used
   pub is_best : best ≡ best_in bitcoin litecoin digest tokens
 
 -- What is found with a piece.
-abbrev pub Finds : Table → Option Table → List ℕ → Tokens → List ℕ → Tokens → Position (List ℕ) → Best → Result Fed Fault → Type 0
+abbrev pub Finds : Table → Option Table → List ℕ → Tokens → List ℕ → Tokens → Position (List ℕ) → Best
+    → Result Fed Fault → Type 0
 Finds bitcoin litecoin digest old piece new m best (Ok More) = FollowsTo bitcoin litecoin digest old piece new m best
-Finds bitcoin litecoin digest old piece new m best (Ok (Done used)) = FollowsWhole bitcoin litecoin digest old piece used best
-Finds bitcoin litecoin digest old piece new m best (Err f) = HasTreeFault old.shape.length old.shape.depth (so_far old ++ piece) f × (f.reason ≢ Truncated)
+Finds bitcoin litecoin digest old piece new m best (Ok (Done used)) = FollowsWhole bitcoin litecoin digest old piece
+    used best
+Finds bitcoin litecoin digest old piece new m best (Err f) = HasTreeFault old.shape.length old.shape.depth
+    (so_far old ++ piece) f × (f.reason ≢ Truncated)

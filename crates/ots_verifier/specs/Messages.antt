@@ -11,23 +11,24 @@ abbrev pub in_rows : List (List ℕ) → List ℕ → List (List ℕ)
 in_rows rows [] = []
 in_rows rows (n ∷ ns) = take n (slice_index_or rows (length ns) []) ∷ in_rows rows ns
 
--- The last node's message lies in the row behind those, but directly behind a fork in the last of them.
-abbrev pub position : List (List ℕ) → ℕ → List ℕ → Bool → ℕ → Position (List ℕ)
-position rows n ns forked room = record {
-  last = take n (slice_index_or rows (row_of forked (length ns)) []);
-  others = in_rows rows ns;
-  forked = forked;
-  room = room;
+-- A walk that carries lengths, with the messages of these lengths. The last node's message lies in the row after
+-- those of the others, but directly after a fork in the last of them.
+abbrev pub position : List (List ℕ) → Position ℕ → Position (List ℕ)
+position rows lengths = record {
+  last = take lengths.last (slice_index_or rows (row_of lengths.forked (length lengths.others)) []);
+  others = in_rows rows lengths.others;
+  forked = lengths.forked;
+  room = lengths.room;
 }
 
--- Behind a fork there is another open node, and otherwise a row for the last one.
+-- After a fork there is another open node, and otherwise a row for the last one.
 abbrev pub IsRoom : Bool → ℕ → Type 0
 IsRoom false others = others < ROWS
 IsRoom true others = (1 ≤ others) × (others ≤ ROWS)
 
-pub record AreHeld (rows : List (List ℕ)) (n : ℕ) (ns : List ℕ) (forked : Bool) (room : ℕ) : Type 0 where
+pub record AreHeld (rows : List (List ℕ)) (lengths : Position ℕ) : Type 0 where
   pub count : length rows ≡ ROWS
-  pub last : n ≤ MAX_MESSAGE
-  pub others : AllByRecursion (λ m. m ≤ MAX_MESSAGE) ns
-  pub places : IsRoom forked (length ns)
-  pub kept : ROWS ≤ room
+  pub last : lengths.last ≤ MAX_MESSAGE
+  pub others : AllByRecursion (λ m. m ≤ MAX_MESSAGE) lengths.others
+  pub places : IsRoom lengths.forked (length lengths.others)
+  pub kept : ROWS ≤ lengths.room

@@ -6,7 +6,7 @@ use Rattle.ots_outside.specs.Streams.{Gives}
 use Rattle.ots_tree.specs.declared.detached.Detached.{Detached}
 use Rattle.ots_detached.specs.File.{IsFileOf}
 use Rattle.ots_detached.specs.FileFault.{HasFault}
-use Rattle.ots_bitcoin.specs.HeaderTable.{Table}
+use Rattle.ots_headers.specs.HeaderTable.{Table}
 use Rattle.ots_verifier.specs.declared.checked.Checked.{Checked}
 use Rattle.ots_verifier.specs.declared.checked.CheckError.{CheckError}
 use Rattle.ots_verifier.specs.declared.checked.CheckError.TheVariants as check
@@ -30,7 +30,8 @@ Tells bitcoin litecoin came whole (Err TooBig) = MAX_PROOF_FILE < length came
 Tells bitcoin litecoin came whole (Err (BadProof f)) = whole × (length came ≤ MAX_PROOF_FILE) × HasFault came f
 Tells bitcoin litecoin came whole (Err ReadFault) = Unit {0}
 
-pub record ChecksSource (bitcoin : Table) (litecoin : Option Table) (old new : Option (List ℕ)) (result : Result Checked SourceError) : Type 0 where
+pub record ChecksSource (bitcoin : Table) (litecoin : Option Table) (old new : Option (List ℕ))
+    (result : Result Checked SourceError) : Type 0 where
   -- what the reads gave
   pub came : List ℕ
   pub gave : Gives old new came

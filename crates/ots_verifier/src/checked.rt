@@ -2,13 +2,13 @@
 ghost use Rattle.std.specs.Prelude.{◌≡◌};
 ghost use Rattle.std.specs.declared.option.Option.{Option};
 ghost use Rattle.ots_tree.specs.declared.detached.Detached.{Detached};
-ghost use Rattle.ots_bitcoin.specs.HeaderTable.{Table};
-ghost use Rattle.ots_eval.specs.Confirmed.{IsVerdict};
+ghost use Rattle.ots_headers.specs.HeaderTable.{Table};
+ghost use Rattle.ots_verdicts.specs.Confirmed.{IsVerdict};
 ghost use Rattle.ots_verifier.specs.Checked.{IsCheckOf};
 
-use ots_eval::{Confirmation, Verdict};
 use ots_ops::{Digest, HashOp};
 use ots_reader::Fault;
+use ots_verdicts::{Confirmation, Verdict};
 
 /// What a proof is a proof of, and what it confirms by the headers that were given.
 #[derive(Clone, Copy, Debug, PartialEq, Eq)]
@@ -33,7 +33,8 @@ pub enum CheckError {
 impl Checked {
     /// The verdict on the file with the digest `target`: `NoDigest` exactly where it is not the proof's.
     pub fn verdict(&self, target: &Digest) -> Verdict
-        ensures { (proof : Detached) (bitcoin : Table) (litecoin : Option Table) → IsCheckOf proof bitcoin litecoin self.now
+        ensures { (proof : Detached) (bitcoin : Table) (litecoin : Option Table)
+            → IsCheckOf proof bitcoin litecoin self.now
             → IsVerdict proof target.now bitcoin litecoin result }
     {
         if *target != self.digest {

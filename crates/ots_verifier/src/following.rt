@@ -3,16 +3,16 @@ ghost use Rattle.std.specs.Prelude.{◌≡◌, ◌+◌, ◌^◌, ◌<◌, List, 
 ghost use Rattle.std.specs.Option.{option_copied};
 ghost use Rattle.ots_tree.specs.TokenRef.{token_of};
 ghost use Rattle.ots_reader.specs.Tokens.{so_far};
-ghost use Rattle.ots_eval.specs.Walked.{noted};
+ghost use Rattle.ots_verdicts.specs.Walked.{noted};
 ghost use Rattle.ots_verifier.specs.Following.{Finds, Follows, IsFresh};
 
 use crate::messages::Messages;
 use ots_attest::AttestationRef;
 use ots_base::OutOfMemory;
-use ots_bitcoin::Headers;
-use ots_eval::{Best, Chain};
+use ots_headers::Headers;
 use ots_reader::{Fault, Fed, TokenReader};
 use ots_tree::{Shape, TokenRef};
+use ots_verdicts::{Best, Chain};
 use std::alloc::Global;
 
 /// A tree that comes in pieces, the messages of its open nodes, and what its attestations confirm.
@@ -47,10 +47,13 @@ pub(crate) fn follow_piece(
     bitcoin: &Headers,
     litecoin: Option<&Headers>,
 ) -> Result<Fed, Fault>
-    requires follows { (digest : List ℕ) × Follows bitcoin.now (option_copied litecoin) digest following.old.reader following.old.messages following.old.best }
+    requires follows { (digest : List ℕ) × Follows bitcoin.now (option_copied litecoin) digest following.old.reader
+        following.old.messages following.old.best }
     requires few { length (so_far following.old.reader) + length piece.now < 2 ^ 64 }
-    ensures { (digest : List ℕ) → Follows bitcoin.now (option_copied litecoin.entry) digest following.old.reader following.old.messages following.old.best
-        → Finds bitcoin.now (option_copied litecoin.entry) digest following.old.reader piece.now following.new.reader following.new.messages following.new.best result }
+    ensures { (digest : List ℕ) → Follows bitcoin.now (option_copied litecoin.entry) digest following.old.reader
+        following.old.messages following.old.best
+        → Finds bitcoin.now (option_copied litecoin.entry) digest following.old.reader piece.now following.new.reader
+        following.new.messages following.new.best result }
 {
     let mut at = 0;
     loop {
@@ -67,7 +70,7 @@ pub(crate) fn follow_piece(
     }
 }
 
-/// The least heights, with what a token behind this message adds.
+/// The least heights, with what a token after this message adds.
 fn noted(
     token: TokenRef<'_>,
     message: &[u8],

@@ -5,7 +5,6 @@
 #![tactic(auto)]
 
 mod checked;
-mod fed;
 mod following;
 mod messages;
 mod outcome;

@@ -12,7 +12,7 @@ ghost use Rattle.ots_verifier.specs.Rows.{row_of};
 use crate::rows::{Row, part, put_message, put_result};
 use ots_base::{MAX_MESSAGE, OutOfMemory};
 use ots_ops::OpRef;
-use ots_tree::TokenRef;
+use ots_tree::{TokenRef, Walk};
 use std::alloc::Global;
 use std::marker::Model;
 
@@ -26,28 +26,24 @@ pub(crate) const ROWS: usize = 256;
 /// stands, and `others`, the last one first.
 #[derive(Drop)]
 pub(crate) struct Messages {
-    /// At the front of the rows the messages of the other nodes lie, the first node's in the first row,
-    /// and behind them that of the last node. Directly behind a fork it shares the row of the node that
+    /// At the start of the rows the messages of the other nodes lie, the first node's in the first row,
+    /// and after them that of the last node. Directly after a fork it shares the row of the node that
     /// was kept open.
     rows: Vec<Row>,
-    /// How long the last node's message is.
-    last: u16,
-    /// How long those of the other nodes are, the last one last.
-    others: Vec<u16>,
-    /// Whether the last token is a fork.
-    forked: bool,
+    /// How long the message of each open node is.
+    lengths: Walk<u16>,
 }
 
 impl Model for Messages {
-    ghost use Rattle.std.specs.Prelude.{ℕ, List, reverse, vec_capacity};
+    ghost use Rattle.std.specs.Prelude.{ℕ, List};
     ghost use Rattle.ots_tree.specs.Walk.{Position};
     ghost use Rattle.ots_verifier.specs.Messages.{position, AreHeld};
 
     ghost Value = { Position (List ℕ) };
 
-    ghost view = { λ m. position m.rows.items m.last (reverse m.others.items) m.forked (vec_capacity m.others) };
+    ghost view = { λ m. position m.rows.items m.lengths };
 
-    ghost invariant = { λ m. AreHeld m.rows.items m.last (reverse m.others.items) m.forked (vec_capacity m.others) };
+    ghost invariant = { λ m. AreHeld m.rows.items m.lengths };
 }
 
 impl Messages {
@@ -57,9 +53,7 @@ impl Messages {
     {
         Ok(Messages {
             rows: empty_rows(alloc)?,
-            last: 0,
-            others: Vec::with_capacity(alloc, ROWS)?,
-            forked: false,
+            lengths: Walk::begin_with_room(alloc, 0, ROWS)?,
         })
     }
 
@@ -69,20 +63,18 @@ impl Messages {
         ensures { open_at self.new ≡ begun message.now }
     {
         put_message(&mut self.rows, 0, message);
-        self.last = message.len() as u16;
-        self.others.clear();
-        self.forked = false;
+        self.lengths.restart(message.len() as u16);
     }
 
     /// The message of the node at which the next token stands.
     pub fn last(&self) -> &[u8]
         ensures { result.now ≡ self.now.last }
     {
-        let row = last_row(self.others.len(), self.forked);
-        &self.rows[row][..self.last as usize]
+        let row = last_row(self.lengths.others(), self.lengths.is_forked());
+        &self.rows[row][..self.lengths.last() as usize]
     }
 
-    /// One more token. Whether a node is open behind it. It takes no memory.
+    /// One more token. Whether a node is open after it. It takes no memory.
     pub fn follow(&mut self, token: TokenRef<'_>) -> bool
         requires { MayCome (token_of token) self.old }
         ensures { IsStep apply (token_of token.entry) self.old self.new result }
@@ -101,8 +93,7 @@ impl Messages {
         requires room { length self.old.others < ROWS }
         ensures { next apply token.Fork (open_at self.old) ≡ Some (open_at self.new) }
     {
-        self.others.push(self.last).unwrap();
-        self.forked = true;
+        self.lengths.fork().unwrap();
     }
 
     /// An operation, which has a result there, and leads to the node of it.
@@ -112,24 +103,18 @@ impl Messages {
         requires has_result { IsSome (apply (op_of op) self.old.last) }
         ensures { next apply (token.Op (op_of op.entry)) (open_at self.old) ≡ Some (open_at self.new) }
     {
-        let row = self.others.len();
-        part(&mut self.rows, row, self.forked);
-        self.last = put_result(&mut self.rows, row, self.last as usize, op) as u16;
-        self.forked = false;
+        let row = self.lengths.others();
+        part(&mut self.rows, row, self.lengths.is_forked());
+        let length = put_result(&mut self.rows, row, self.lengths.last() as usize, op);
+        self.lengths.lead(length as u16);
     }
 
     /// An attestation, which closes the last node. Whether another node is open.
     fn close(&mut self) -> bool
-        ensures { (a : Attestation) → next apply (token.Attestation a) (open_at self.old) ≡ Some (if result then open_at self.new else none_open) }
+        ensures { (a : Attestation) → next apply (token.Attestation a) (open_at self.old)
+            ≡ Some (if result then open_at self.new else none_open) }
     {
-        self.forked = false;
-        match self.others.pop() {
-            Some(last) => {
-                self.last = last;
-                true
-            }
-            None => false,
-        }
+        self.lengths.close()
     }
 }
 

@@ -2,7 +2,7 @@
 ghost use Rattle.std.specs.Prelude.{◌≡◌, ◌+◌, ◌^◌, ◌<◌, List, ℕ, Some, IsSome, length, min, take};
 ghost use Rattle.std.specs.declared.option.Option.{Option};
 ghost use Rattle.ots_tree.specs.Wire.{spelled};
-ghost use Rattle.ots_bitcoin.specs.HeaderTable.{Table};
+ghost use Rattle.ots_headers.specs.HeaderTable.{Table};
 ghost use Rattle.ots_reader.specs.Progress.{ends_at};
 ghost use Rattle.ots_detached.specs.FileFault.{header_fault, moved};
 ghost use Rattle.ots_verifier.specs.Checked.{Checks};
@@ -18,8 +18,10 @@ use ots_reader::{Fault, Reason};
 
 /// What the proof file confirms that has come whole, or why it is none. It takes no memory.
 pub(crate) fn found(progress: &Progress) -> Result<Checked, CheckError>
-    requires { (bitcoin : Table) × (litecoin : Option Table) × (bytes : List ℕ) × HasCome bitcoin litecoin bytes progress.now }
-    ensures { (bitcoin : Table) (litecoin : Option Table) (bytes : List ℕ) → HasCome bitcoin litecoin bytes progress.now → Checks bitcoin litecoin bytes result }
+    requires { (bitcoin : Table) × (litecoin : Option Table) × (bytes : List ℕ)
+        × HasCome bitcoin litecoin bytes progress.now }
+    ensures { (bitcoin : Table) (litecoin : Option Table) (bytes : List ℕ) → HasCome bitcoin litecoin bytes progress.now
+        → Checks bitcoin litecoin bytes result }
 {
     match progress.state {
         State::TooBig => Err(CheckError::TooBig),
@@ -27,14 +29,16 @@ pub(crate) fn found(progress: &Progress) -> Result<Checked, CheckError>
             let fault = fault_of_header(&progress.header, progress.count);
             Err(CheckError::BadProof(fault))
         }
-        State::Behind(stage) => found_behind(stage, &progress.following),
+        State::After(stage) => found_after(stage, &progress.following),
     }
 }
 
 /// The same of one of which the header is whole.
-fn found_behind(stage: Stage, following: &Following) -> Result<Checked, CheckError>
-    requires { (bitcoin : Table) × (litecoin : Option Table) × (bytes : List ℕ) × IsWithin bitcoin litecoin bytes stage following.now }
-    ensures { (bitcoin : Table) (litecoin : Option Table) (bytes : List ℕ) → IsWithin bitcoin litecoin bytes stage following.now → Checks bitcoin litecoin bytes result }
+fn found_after(stage: Stage, following: &Following) -> Result<Checked, CheckError>
+    requires { (bitcoin : Table) × (litecoin : Option Table) × (bytes : List ℕ)
+        × IsWithin bitcoin litecoin bytes stage following.now }
+    ensures { (bitcoin : Table) (litecoin : Option Table) (bytes : List ℕ)
+        → IsWithin bitcoin litecoin bytes stage following.now → Checks bitcoin litecoin bytes result }
 {
     match stage {
         Stage::Tree(header) => Err(CheckError::BadProof(fault_of_end(header, following))),
@@ -58,7 +62,7 @@ fn fault_of_header(header: &[u8; MAX_HEADER], count: usize) -> Fault
     }
 }
 
-/// The fault of bytes that end behind this header before the tree does.
+/// The fault of bytes that end after this header before the tree does.
 fn fault_of_end(header: FileHeader, following: &Following) -> Fault
     requires { 33 + length header.digest + length (spelled following.now.reader.came) < 2 ^ 64 }
     ensures { result ≡ moved (33 + length header.digest) (ends_at (length (spelled following.now.reader.came))) }

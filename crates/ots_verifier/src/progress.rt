@@ -1,17 +1,17 @@
 //! How far a proof file has come.
 ghost use Rattle.std.specs.Prelude.{◌≡◌, ◌+◌, ◌<◌, ◌≤◌, ◌++◌, [], List, ℕ, Option, IfOk, length, min, take, drop};
 ghost use Rattle.std.specs.Option.{option_copied};
-ghost use Rattle.ots_bitcoin.specs.HeaderTable.{Table};
+ghost use Rattle.ots_headers.specs.HeaderTable.{Table};
 ghost use Rattle.ots_detached.specs.File.{IsHeader};
 ghost use Rattle.ots_verifier.specs.Following.{Follows, IsFresh};
 ghost use Rattle.ots_verifier.specs.Progress.{HasCome, IsGathering};
 ghost use Rattle.ots_verifier.specs.Stage.{IsAt, Stands};
 
 use crate::following::Following;
-use crate::stage::{Stage, read_behind};
+use crate::stage::{Stage, read_after};
 use ots_base::{MAX_PROOF_FILE, OutOfMemory};
-use ots_bitcoin::Headers;
 use ots_detached::{FileHeader, read_header};
+use ots_headers::Headers;
 use ots_ops::Digest;
 use ots_tree::Shape;
 use std::alloc::Global;
@@ -52,7 +52,7 @@ pub(crate) enum State {
     /// The header is not whole, or is none.
     Header,
     /// The header is whole.
-    Behind(Stage),
+    After(Stage),
     /// They are more than a proof file may have.
     TooBig,
 }
@@ -74,8 +74,8 @@ pub(crate) fn advance(
     }
     match progress.state {
         State::Header => gather(progress, piece, bitcoin, litecoin),
-        State::Behind(stage) => {
-            let next = read_behind(
+        State::After(stage) => {
+            let next = read_after(
                 stage,
                 &mut progress.following,
                 progress.count,
@@ -83,7 +83,7 @@ pub(crate) fn advance(
                 bitcoin,
                 litecoin,
             );
-            progress.state = State::Behind(next);
+            progress.state = State::After(next);
             progress.count += piece.len();
         }
         State::TooBig => {}
@@ -95,25 +95,26 @@ fn gather(progress: &mut Progress, piece: &[u8], bitcoin: &Headers, litecoin: Op
     requires gathering { (bytes : List ℕ) × IsGathering bytes progress.old }
     requires in_header { progress.old.state ≡ State.Header }
     requires size { progress.old.count + length piece.now ≤ MAX_PROOF_FILE }
-    ensures { (bytes : List ℕ) → IsGathering bytes progress.old → HasCome bitcoin.now (option_copied litecoin.entry) (bytes ++ piece.now) progress.new }
+    ensures { (bytes : List ℕ) → IsGathering bytes progress.old
+        → HasCome bitcoin.now (option_copied litecoin.entry) (bytes ++ piece.now) progress.new }
 {
     if progress.count >= MAX_HEADER {
         progress.count += piece.len();
         return;
     }
-    let end = keep_front(&mut progress.header, progress.count, piece);
+    let end = keep_prefix(&mut progress.header, progress.count, piece);
     let rest = &piece[end - progress.count..];
     progress.count += piece.len();
     let gathered = progress.header;
     if let Ok(header) = read_header(&gathered[..end]) {
         let following = &mut progress.following;
         let stage = enter(following, header, &gathered[..end], rest, bitcoin, litecoin);
-        progress.state = State::Behind(stage);
+        progress.state = State::After(stage);
     }
 }
 
-/// Keeps the piece behind the first `count` bytes, as far as there is room. How many are kept then.
-fn keep_front(header: &mut [u8; MAX_HEADER], count: usize, piece: &[u8]) -> usize
+/// Keeps the piece after the first `count` bytes, as far as there is room. How many are kept then.
+fn keep_prefix(header: &mut [u8; MAX_HEADER], count: usize, piece: &[u8]) -> usize
     requires { count ≤ MAX_HEADER }
     ensures end { result ≡ min (count + length piece.now) MAX_HEADER }
     ensures within { result ≤ length header.new }
@@ -124,7 +125,7 @@ fn keep_front(header: &mut [u8; MAX_HEADER], count: usize, piece: &[u8]) -> usiz
     count + taken
 }
 
-/// Puts these bytes behind the first `count` bytes of the header.
+/// Puts these bytes after the first `count` bytes of the header.
 fn put_at(header: &mut [u8], count: usize, bytes: &[u8])
     requires { count + length bytes.now ≤ length header.old }
     ensures { header.new ≡ take count header.old ++ bytes.now ++ drop (count + length bytes.now) header.old }
@@ -132,7 +133,7 @@ fn put_at(header: &mut [u8], count: usize, bytes: &[u8])
     header[count..count + bytes.len()].copy_from_slice(bytes);
 }
 
-/// Goes on behind a header that has come whole, with the bytes that were gathered behind it and the rest
+/// Goes on after a header that has come whole, with the bytes that were gathered after it and the rest
 /// of the piece.
 fn enter(
     following: &mut Following,
@@ -149,7 +150,7 @@ fn enter(
 {
     let start = 33 + header.digest.bytes().len();
     begin_tree(following, &header.digest);
-    let stage = read_behind(
+    let stage = read_after(
         Stage::Tree(header),
         following,
         start,
@@ -157,13 +158,14 @@ fn enter(
         bitcoin,
         litecoin,
     );
-    read_behind(stage, following, gathered.len(), rest, bitcoin, litecoin)
+    read_after(stage, following, gathered.len(), rest, bitcoin, litecoin)
 }
 
 /// Begins the tree on a digest.
 fn begin_tree(following: &mut Following, digest: &Digest)
     requires { IsFresh following.old }
-    ensures follows { (bitcoin : Table) (litecoin : Option Table) → Follows bitcoin litecoin digest.now following.new.reader following.new.messages following.new.best }
+    ensures follows { (bitcoin : Table) (litecoin : Option Table)
+        → Follows bitcoin litecoin digest.now following.new.reader following.new.messages following.new.best }
     ensures none { following.new.reader.kept ≡ [] }
     ensures no_tokens { following.new.reader.came ≡ [] }
 {

@@ -1,4 +1,4 @@
-//! Rows of bytes, at the front of which messages lie.
+//! Rows of bytes, at the start of which messages lie.
 ghost use Rattle.std.specs.Prelude.{◌≡◌, ◌<◌, ◌≤◌, true, [], Some, length, take, slice_index_or, IsSome};
 ghost use Rattle.ots_ops.specs.Apply.{apply};
 ghost use Rattle.ots_ops.specs.OpRef.{op_of};
@@ -21,7 +21,7 @@ pub(crate) fn part(rows: &mut Vec<Row>, row: usize, shared: bool)
     }
 }
 
-/// Puts the result of an operation in the place of the message of so many bytes at the front of a row,
+/// Puts the result of an operation in the place of the message of so many bytes at the start of a row,
 /// and answers how long it is.
 pub(crate) fn put_result(rows: &mut Vec<Row>, row: usize, count: usize, op: OpRef<'_>) -> usize
     requires within { row < length rows.old.items }
@@ -29,12 +29,13 @@ pub(crate) fn put_result(rows: &mut Vec<Row>, row: usize, count: usize, op: OpRe
     requires has_result { IsSome (apply (op_of op) (take count (slice_index_or rows.old.items row []))) }
     ensures put { IsPut rows.old.items rows.new.items row (slice_index_or rows.new.items row []) }
     ensures fits { result ≤ MAX_MESSAGE }
-    ensures value { apply (op_of op.entry) (take count (slice_index_or rows.old.items row [])) ≡ Some (take result (slice_index_or rows.new.items row [])) }
+    ensures value { apply (op_of op.entry) (take count (slice_index_or rows.old.items row []))
+        ≡ Some (take result (slice_index_or rows.new.items row [])) }
 {
     put_applied(&mut rows[row], count, op)
 }
 
-/// Puts the result of an operation in the place of the message of so many bytes at the front of the row.
+/// Puts the result of an operation in the place of the message of so many bytes at the start of the row.
 fn put_applied(row: &mut Row, count: usize, op: OpRef<'_>) -> usize
     requires fits { count ≤ MAX_MESSAGE }
     requires has_result { IsSome (apply (op_of op) (take count row.old)) }
@@ -47,18 +48,18 @@ fn put_applied(row: &mut Row, count: usize, op: OpRef<'_>) -> usize
     }
 }
 
-/// Puts a message at the front of one of the rows.
+/// Puts a message at the start of one of the rows.
 pub(crate) fn put_message(rows: &mut Vec<Row>, row: usize, message: &[u8])
     requires within { row < length rows.old.items }
     requires fits { length message.now ≤ MAX_MESSAGE }
     ensures put { IsPut rows.old.items rows.new.items row (slice_index_or rows.new.items row []) }
     ensures message { take (length message.now) (slice_index_or rows.new.items row []) ≡ message.now }
 {
-    put_front(&mut rows[row], message);
+    put_prefix(&mut rows[row], message);
 }
 
-/// Puts a message at the front of a row.
-fn put_front(row: &mut Row, message: &[u8])
+/// Puts a message at the start of a row.
+fn put_prefix(row: &mut Row, message: &[u8])
     requires { length message.now ≤ MAX_MESSAGE }
     ensures { take (length message.now) row.new ≡ message.now }
 {

@@ -43,7 +43,8 @@ pub fn check_source<S: Source>(
     source: &mut S,
 ) -> Result<Checked, SourceError>
     requires { verifier.bytes ≡ [] }
-    ensures input { ChecksSource verifier.entry.bitcoin verifier.entry.litecoin (S.left source.old) (S.left source.new) result }
+    ensures input { ChecksSource verifier.entry.bitcoin verifier.entry.litecoin (S.left source.old) (S.left source.new)
+        result }
     ensures cause { HasCauseWhere (IsErrOf result SourceError.ReadFault) (S.faults source.old) (S.faults source.new) }
     ensures same { S.same source.old source.new }
 {
@@ -61,7 +62,7 @@ pub fn check_source<S: Source>(
     Err(SourceError::TooBig)
 }
 
-/// Reads into the front of a piece, at most one byte more than `left`.
+/// Reads into the start of a piece, at most one byte more than `left`.
 fn read_piece<S: Source>(source: &mut S, piece: &mut [u8], left: usize) -> Result<usize, Failed>
     requires room { 0 < length piece.old }
     requires small { left ≤ MAX_PROOF_FILE }

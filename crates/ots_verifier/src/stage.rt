@@ -1,4 +1,4 @@
-//! How far a proof file has come behind its header.
+//! How far a proof file has come after its header.
 ghost use Rattle.std.specs.Prelude.{◌≡◌, ◌+◌, ◌^◌, ◌<◌, ◌≤◌, ◌++◌, List, ℕ, length};
 ghost use Rattle.std.specs.Option.{option_copied};
 ghost use Rattle.ots_detached.specs.FileFault.{at, moved};
@@ -7,23 +7,23 @@ ghost use Rattle.ots_verifier.specs.Stage.{IsAt, IsOpen, Stands};
 
 use crate::following::{Following, follow_piece};
 use ots_base::MAX_PROOF_FILE;
-use ots_bitcoin::Headers;
 use ots_detached::FileHeader;
+use ots_headers::Headers;
 use ots_reader::{Fault, Fed, Reason};
 
-/// How far a proof file has come behind its header.
+/// How far a proof file has come after its header.
 #[derive(Clone, Copy)]
 pub(crate) enum Stage {
     /// The tree goes on.
     Tree(FileHeader),
-    /// The tree is whole, and nothing is behind it.
+    /// The tree is whole, and nothing is after it.
     Whole(FileHeader),
     /// It is no proof file.
     Refused(Fault),
 }
 
-/// The stage behind one more piece, before which so many bytes have come. It takes no memory.
-pub(crate) fn read_behind(
+/// The stage after one more piece, before which so many bytes have come. It takes no memory.
+pub(crate) fn read_after(
     stage: Stage,
     following: &mut Following,
     count: usize,
@@ -58,9 +58,11 @@ fn read_tree(
     bitcoin: &Headers,
     litecoin: Option<&Headers>,
 ) -> Stage
-    requires stands { (bytes : List ℕ) × IsOpen bitcoin.now (option_copied litecoin) bytes header following.old × (count ≡ length bytes) }
+    requires stands { (bytes : List ℕ) × IsOpen bitcoin.now (option_copied litecoin) bytes header following.old
+        × (count ≡ length bytes) }
     requires size { count + length piece.now ≤ MAX_PROOF_FILE }
-    ensures { (bytes : List ℕ) → IsOpen bitcoin.now (option_copied litecoin.entry) bytes header following.old → count ≡ length bytes
+    ensures { (bytes : List ℕ) → IsOpen bitcoin.now (option_copied litecoin.entry) bytes header following.old
+        → count ≡ length bytes
         → IsAt bitcoin.now (option_copied litecoin.entry) (bytes ++ piece.now) result following.new }
 {
     match follow_piece(following, piece, bitcoin, litecoin) {

@@ -4,12 +4,11 @@ ghost use Rattle.std.specs.Option.{option_copied};
 ghost use Rattle.ots_verifier.specs.Checked.{Checks, IsExactCheck};
 
 use crate::checked::{CheckError, Checked};
-use crate::fed::Fed;
 use crate::messages::ROWS;
 use crate::outcome::found;
 use crate::progress::{MAX_HEADER, Progress, advance};
-use ots_base::{MAX_MESSAGE, OutOfMemory};
-use ots_bitcoin::Headers;
+use ots_base::{GhostBytes, MAX_MESSAGE, OutOfMemory};
+use ots_headers::Headers;
 use ots_reader::TOKEN_READER_BYTES;
 use std::alloc::Global;
 use std::marker::Model;
@@ -30,7 +29,8 @@ pub struct Verifier<'a> {
     bitcoin: &'a Headers,
     litecoin: Option<&'a Headers>,
     progress: Progress,
-    fed: Fed,
+    // Which bytes have come, for contracts alone.
+    fed: GhostBytes,
 }
 
 impl<'a> Model for Verifier<'a> {
@@ -53,13 +53,17 @@ impl<'a> Verifier<'a> {
         bitcoin: &'a Headers,
         litecoin: Option<&'a Headers>,
     ) -> Result<Verifier<'a>, OutOfMemory>
-        ensures { IfOk result (λ v. v ≡ record { bitcoin = bitcoin.entry.now; litecoin = option_copied litecoin.entry; bytes = [] }) }
+        ensures { IfOk result (λ v. v ≡ record {
+          bitcoin = bitcoin.entry.now;
+          litecoin = option_copied litecoin.entry;
+          bytes = [];
+        }) }
     {
         Ok(Verifier {
             bitcoin,
             litecoin,
             progress: Progress::begin(alloc)?,
-            fed: Fed::nothing(),
+            fed: GhostBytes::nothing(),
         })
     }
 

@@ -1,7 +1,7 @@
 //! The calendar `otsd`.
 #![tactic(auto)]
 
-use ots_server_program::run_program;
+use ots_calendar_program::run_program;
 use std::process::ExitCode;
 
 fn main(rt: HostRuntime) -> ExitCode {

@@ -1,7 +1,7 @@
 //! The calendar `otsd` once more, whose stored run is refused: it shows that the status is passed on.
 #![tactic(auto)]
 
-use ots_server_program::run_program;
+use ots_calendar_program::run_program;
 use std::process::ExitCode;
 
 fn main(rt: HostRuntime) -> ExitCode {

@@ -1,5 +1,5 @@
 //! Blocks with roots in them.
-use ots_block::Block;
+use ots_bitcoin::Block;
 use std::alloc::Global;
 use std::test::Fail;
 
@@ -32,7 +32,7 @@ pub fn hash_of(digits: &str) -> Result<[u8; 32], Fail> {
 }
 
 /// A transaction with one output, whose script is of these two parts, of at most 4,096 bytes each: 56 bytes stand
-/// before a script of fewer than 253 bytes, 58 before a longer one, and 4 behind it.
+/// before a script of fewer than 253 bytes, 58 before a longer one, and 4 after it.
 pub fn transaction(alloc: Global, first: &[u8], second: &[u8]) -> Result<Vec<u8>, Fail> {
     if first.len() > 4096 || second.len() > 4096 {
         return Err("too long")?;

@@ -1,7 +1,7 @@
 //! Which transaction holds a root.
 use super::blocks::{COINBASE, GENESIS_ROOT, HEADER, block_of, decoded, hash_of, transaction};
 use ots_anchor::{FindError, Found, find};
-use ots_block::Block;
+use ots_bitcoin::Block;
 use std::alloc::Global;
 use std::process::Abort;
 use std::test::Fail;

@@ -1,7 +1,7 @@
 //! Complete paths, beside operations that were computed with Python's hashlib.
 use super::blocks::{COINBASE, GENESIS_ROOT, decoded, hash_of};
 use ots_anchor::{complete_path, find};
-use ots_block::Block;
+use ots_bitcoin::Block;
 use ots_merkle::{Branch, block_branch};
 use ots_ops::{MAX_SPELLED_OP, Op, Ops, apply, spell_op};
 use std::alloc::Global;
@@ -146,7 +146,7 @@ fn alone_spells(
 }
 
 #[test]
-fn nothing_stands_before_or_behind_where_there_are_no_bytes(rt: HostRuntime) -> Result<(), Fail> {
+fn nothing_stands_before_or_after_where_there_are_no_bytes(rt: HostRuntime) -> Result<(), Fail> {
     let alloc = rt.alloc();
     alone_spells(&rt, alloc, b"", b"", "080808")?;
     alone_spells(&rt, alloc, b"ab", b"", "08f10261620808")?;
@@ -156,7 +156,7 @@ fn nothing_stands_before_or_behind_where_there_are_no_bytes(rt: HostRuntime) -> 
 
 #[test]
 fn the_genesis_transaction_leads_to_its_block(rt: HostRuntime) -> Result<(), Fail> {
-    // The root stands at 135 of 204 bytes. It is not the hash of a commitment, so the path is tried behind that.
+    // The root stands at 135 of 204 bytes. It is not the hash of a commitment, so the path is tried after that.
     let alloc = rt.alloc();
     let form = decoded(alloc, COINBASE)?;
     let (Some(prefix), Some(suffix)) = (form.get(..135), form.get(167..204)) else {

@@ -59,7 +59,7 @@ fn a_header_has_its_block_hash(rt: HostRuntime) -> Result<(), Fail> {
     Ok(())
 }
 
-// The value is that of the page "Protocol documentation" of the Bitcoin wiki.
+/// The value is that of the page "Protocol documentation" of the Bitcoin wiki.
 #[test]
 fn a_text_has_its_double_hash(rt: HostRuntime) -> Result<(), Fail> {
     let hash = bytes_of("9595c9df90075148eb06860365df33584b75bff782a510c6cd4883a419833d50")?;

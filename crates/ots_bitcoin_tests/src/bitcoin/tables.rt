@@ -104,7 +104,7 @@ fn the_longest_table_is_read(rt: HostRuntime) -> Result<(), Fail> {
 
 #[test]
 fn one_byte_past_the_longest_table_is_read_and_no_more(rt: HostRuntime) -> Result<(), Fail> {
-    // How many bytes the input has, and how many are left behind the one past the limit.
+    // How many bytes the input has, and how many are left the one past the limit.
     for (length, left) in [
         (83_886_081, 0),
         (83_886_160, 79),

@@ -50,7 +50,7 @@ pub const SECOND: &str =
 
 pub const SECOND_ID: &str = "289b0ba7dc24cf678f737c20b1987cc7aac100b036752e867ce18fec6c0abfbb";
 
-/// A transaction without an input behind a marker, and its id, by the library.
+/// A transaction without an input after a marker, and its id, by the library.
 pub const NO_INPUT: &str = "01000000000100010100000000000000015100000000";
 
 pub const NO_INPUT_ID: &str = "14180092832c9e49f36e37c2cfa6695a6670cc66dcba42266245e11c8f9de4cf";

@@ -1,6 +1,6 @@
 //! Bytes that are no block. The places are those of the fields of the blocks that were changed.
 use super::bytes::{GENESIS, WITH_WITNESS, decoded, genesis_with};
-use ots_block::{Block, BlockError, BlockReason};
+use ots_bitcoin::{Block, BlockError, BlockReason};
 use std::alloc::Global;
 use std::process::Abort;
 use std::test::Fail;
@@ -72,7 +72,7 @@ fn a_block_has_a_transaction_and_no_more_than_it_says(rt: HostRuntime) -> Result
 }
 
 #[test]
-fn behind_a_marker_stands_the_flag_1(rt: HostRuntime) -> Result<(), Fail> {
+fn after_a_marker_stands_the_flag_1(rt: HostRuntime) -> Result<(), Fail> {
     // The second transaction begins at 146, its marker stands at 150.
     let alloc = rt.alloc();
     refused(
@@ -100,14 +100,14 @@ fn behind_a_marker_stands_the_flag_1(rt: HostRuntime) -> Result<(), Fail> {
     refused(
         &rt,
         alloc,
-        bytes.get(..151).ok_or("a front")?,
+        bytes.get(..151).ok_or("a prefix")?,
         151,
         BlockReason::Truncated,
     );
     refused(
         &rt,
         alloc,
-        bytes.get(..150).ok_or("a front")?,
+        bytes.get(..150).ok_or("a prefix")?,
         150,
         BlockReason::Truncated,
     );
@@ -138,7 +138,7 @@ fn a_witness_has_its_fields(rt: HostRuntime) -> Result<(), Fail> {
         refused(
             &rt,
             alloc,
-            bytes.get(..length).ok_or("a front")?,
+            bytes.get(..length).ok_or("a prefix")?,
             place,
             BlockReason::Truncated,
         );

@@ -1,11 +1,11 @@
 //! The genesis block, as block explorers show it.
 use super::bytes::{GENESIS, decoded, genesis_with, hash_of};
-use ots_block::{Block, BlockError, BlockReason};
+use ots_bitcoin::{Block, BlockError, BlockReason};
 use std::test::Fail;
 
 /// The places of its fields: six of the header, the number of transactions, and of the transaction the version, the
-/// number of inputs, the outpoint, the script behind its length, the sequence, the number of outputs, the value, the
-/// script behind its length, and the lock time.
+/// number of inputs, the outpoint, the script after its length, the sequence, the number of outputs, the value, the
+/// script after its length, and the lock time.
 const FIELDS: [usize; 18] = [
     0, 4, 36, 68, 72, 76, 80, 81, 85, 86, 122, 123, 200, 204, 205, 213, 214, 281,
 ];
@@ -40,8 +40,8 @@ fn it_ends_within_a_field_at_every_length(rt: HostRuntime) -> Result<(), Fail> {
             .filter(|place| *place <= length)
             .max();
         let place = last.ok_or("a field begins at 0")? as u64;
-        let front = bytes.get(..length).ok_or("a front")?;
-        let error = Block::read(alloc, front).err();
+        let prefix = bytes.get(..length).ok_or("a prefix")?;
+        let error = Block::read(alloc, prefix).err();
         let reason = BlockReason::Truncated;
         assert_eq!(rt; error, Some(BlockError::BadBlock { place, reason }));
     }

@@ -3,7 +3,7 @@ use super::bytes::{
     FIRST, FIRST_ID, GENESIS, NO_INPUT, NO_INPUT_ID, SECOND, SECOND_ID, WITH_WITNESS, decoded,
     hash_of,
 };
-use ots_block::Block;
+use ots_bitcoin::Block;
 use std::test::Fail;
 
 #[test]
@@ -27,7 +27,7 @@ fn an_id_leaves_the_witness_out(rt: HostRuntime) -> Result<(), Fail> {
 }
 
 #[test]
-fn behind_a_marker_there_may_be_no_input(rt: HostRuntime) -> Result<(), Fail> {
+fn after_a_marker_there_may_be_no_input(rt: HostRuntime) -> Result<(), Fail> {
     let alloc = rt.alloc();
     let mut bytes = decoded(alloc, GENESIS[0])?;
     bytes.extend_from_slice(&decoded(alloc, "01")?)?;

@@ -69,7 +69,7 @@ fn shown(digits: &str) -> Result<[u8; 32], Fail> {
     Ok(hash)
 }
 
-// The ids and the root are those that block explorers show.
+/// The ids and the root are those that block explorers show.
 #[test]
 fn block_170_has_its_root(rt: HostRuntime) -> Result<(), Fail> {
     let alloc = rt.alloc();

@@ -17,7 +17,7 @@ fn gives(alloc: Global, key: &[u8], message: &[u8], digits: &str) -> Result<bool
     Ok(text.as_str() == digits)
 }
 
-// RFC 4231, section 4.2, test case 1.
+/// RFC 4231, section 4.2, test case 1.
 #[test]
 fn gives_the_hash_of_case_1(rt: HostRuntime) -> Result<(), Fail> {
     let digits = "b0344c61d8db38535ca8afceaf0bf12b881dc200c9833da726e9376c2e32cff7";
@@ -25,7 +25,7 @@ fn gives_the_hash_of_case_1(rt: HostRuntime) -> Result<(), Fail> {
     Ok(())
 }
 
-// RFC 4231, section 4.3, test case 2.
+/// RFC 4231, section 4.3, test case 2.
 #[test]
 fn gives_the_hash_of_case_2(rt: HostRuntime) -> Result<(), Fail> {
     let digits = "5bdcc146bf60754e6a042426089575c75a003f089d2739839dec58b964ec3843";
@@ -33,7 +33,7 @@ fn gives_the_hash_of_case_2(rt: HostRuntime) -> Result<(), Fail> {
     Ok(())
 }
 
-// RFC 4231, section 4.4, test case 3.
+/// RFC 4231, section 4.4, test case 3.
 #[test]
 fn gives_the_hash_of_case_3(rt: HostRuntime) -> Result<(), Fail> {
     let digits = "773ea91e36800e46854db8ebd09181a72959098b3ef8c122d9635514ced565fe";
@@ -41,7 +41,7 @@ fn gives_the_hash_of_case_3(rt: HostRuntime) -> Result<(), Fail> {
     Ok(())
 }
 
-// RFC 4231, section 4.5, test case 4.
+/// RFC 4231, section 4.5, test case 4.
 #[test]
 fn gives_the_hash_of_case_4(rt: HostRuntime) -> Result<(), Fail> {
     let digits = "82558a389a443c0ea4cc819899f2083a85f0faa3e578f8077a2e3ff46729665b";
@@ -51,7 +51,7 @@ fn gives_the_hash_of_case_4(rt: HostRuntime) -> Result<(), Fail> {
     Ok(())
 }
 
-// A key that fills a block, and no message. Computed with OpenSSL's HMAC.
+/// A key that fills a block, and no message. Computed with OpenSSL's HMAC.
 #[test]
 fn gives_the_hash_under_a_whole_block(rt: HostRuntime) -> Result<(), Fail> {
     let digits = "83026a325aaee70e36cfe607536aa1054104ad1077c36134810d4ccded1ccd3b";

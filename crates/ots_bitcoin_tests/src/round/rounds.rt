@@ -19,7 +19,7 @@ fn ticket() -> Result<Ticket, Fail> {
     })
 }
 
-// Computed with Python's hashlib and hmac: second 1700000000, key "Jefe".
+/// Computed with Python's hashlib and hmac: second 1700000000, key "Jefe".
 #[test]
 fn a_round_of_one_leaf_has_its_commitment(rt: HostRuntime) -> Result<(), Fail> {
     let alloc = rt.alloc();

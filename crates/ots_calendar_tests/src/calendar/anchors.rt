@@ -14,7 +14,7 @@ use std::alloc::Global;
 use std::process::Abort;
 use std::test::Fail;
 
-// A tip is anchored in the block of these bytes at this height, or why not.
+/// A tip is anchored in the block of these bytes at this height, or why not.
 fn anchored(
     alloc: Global,
     book: &mut Memory,
@@ -24,7 +24,7 @@ fn anchored(
     anchor_in(book, &block_of(alloc, block)?, height)
 }
 
-// The digest alone in its round, whose tip is anchored at height 7. Its ticket.
+/// The digest alone in its round, whose tip is anchored at height 7. Its ticket.
 fn anchor_one(rt: &impl Abort, alloc: Global, book: &mut Memory) -> Result<Ticket, Fail> {
     let ticket = put(book, &DIGEST, NONCE)?;
     assert_eq!(rt; close(book, SECOND)?, Ok(Some(0)));
@@ -33,7 +33,7 @@ fn anchor_one(rt: &impl Abort, alloc: Global, book: &mut Memory) -> Result<Ticke
     Ok(ticket)
 }
 
-// The anchor covers all, and the answer is its path.
+/// The anchor covers all, and the answer is its path.
 fn ask_for_one(rt: &impl Abort, alloc: Global, book: &mut Memory) -> Result<(), Fail> {
     anchor_one(rt, alloc, book)?;
     assert!(rt; is_complete(alloc, book, COMMITMENT, COMPLETE)?);
@@ -50,7 +50,7 @@ fn a_block_of_one_transaction_anchors_a_tip(rt: HostRuntime) -> Result<(), Fail>
     ended
 }
 
-// The way of the digest leads to the root in the header of the block.
+/// The way of the digest leads to the root in the header of the block.
 fn go_the_way(rt: &impl Abort, alloc: Global, book: &mut Memory) -> Result<(), Fail> {
     let ticket = anchor_one(rt, alloc, book)?;
     assert!(rt; leads_to(alloc, book, &ticket, BLOCK_ROOT)?);
@@ -65,8 +65,8 @@ fn the_way_of_a_digest_leads_to_the_root_of_the_block(rt: HostRuntime) -> Result
     ended
 }
 
-// A round of three digests and a tip over it; a second round of one digest, and a tip over both. The
-// ticket of the third digest.
+/// A round of three digests and a tip over it; a second round of one digest, and a tip over both. The
+/// ticket of the third digest.
 fn two_rounds(rt: &impl Abort, alloc: Global, book: &mut Memory) -> Result<Ticket, Fail> {
     put(book, &[1; 32], [10; 16])?;
     put(book, &[2; 20], [11; 16])?;
@@ -79,7 +79,7 @@ fn two_rounds(rt: &impl Abort, alloc: Global, book: &mut Memory) -> Result<Ticke
     Ok(third)
 }
 
-// The first tip is anchored, and then the second.
+/// The first tip is anchored, and then the second.
 fn anchor_both(rt: &impl Abort, alloc: Global, book: &mut Memory) -> Result<(), Fail> {
     let third = two_rounds(rt, alloc, book)?;
     assert!(rt; is_pending(alloc, book, FIRST)? && is_pending(alloc, book, SECOND_ONE)?);
@@ -107,8 +107,8 @@ fn each_commitment_is_answered_by_its_first_anchor(rt: HostRuntime) -> Result<()
     ended
 }
 
-// The second tip is anchored, and covers the first. Then a commitment is stored once more, whose
-// least index is covered.
+/// The second tip is anchored, and covers the first. Then a commitment is stored once more, whose
+/// least index is covered.
 fn anchor_the_later(rt: &impl Abort, alloc: Global, book: &mut Memory) -> Result<(), Fail> {
     let third = two_rounds(rt, alloc, book)?;
     assert_eq!(rt;
@@ -135,7 +135,7 @@ fn a_later_block_anchors_both_rounds(rt: HostRuntime) -> Result<(), Fail> {
     ended
 }
 
-// The first tip is anchored, and the next begins behind it.
+/// The first tip is anchored, and the next begins after it.
 fn anchor_the_earlier(rt: &impl Abort, alloc: Global, book: &mut Memory) -> Result<(), Fail> {
     two_rounds(rt, alloc, book)?;
     assert_eq!(rt;
@@ -147,7 +147,7 @@ fn anchor_the_earlier(rt: &impl Abort, alloc: Global, book: &mut Memory) -> Resu
 }
 
 #[test]
-fn a_tip_begins_behind_what_is_anchored(rt: HostRuntime) -> Result<(), Fail> {
+fn a_tip_begins_after_what_is_anchored(rt: HostRuntime) -> Result<(), Fail> {
     let mut book = new_book(rt.alloc(), &[])?;
     let ended = anchor_the_earlier(&rt, rt.alloc(), &mut book);
     let_go(book);

@@ -14,7 +14,7 @@ use std::alloc::Global;
 use std::process::Abort;
 use std::test::Fail;
 
-// How many of each there are where one digest waits and this many calls have failed.
+/// How many of each there are where one digest waits and this many calls have failed.
 fn still_waits(faults: u64) -> Counts {
     Counts {
         commits: 0,
@@ -25,8 +25,8 @@ fn still_waits(faults: u64) -> Counts {
     }
 }
 
-// So many closes are refused and leave the digest waiting; the next one stores its commitment at this
-// index.
+/// So many closes are refused and leave the digest waiting; the next one stores its commitment at this
+/// index.
 fn close_again(
     rt: &impl Abort,
     alloc: Global,
@@ -46,7 +46,7 @@ fn close_again(
     Ok(())
 }
 
-// These calls of the disk fail.
+/// These calls of the disk fail.
 fn fail_close(
     rt: &impl Abort,
     alloc: Global,
@@ -70,7 +70,7 @@ fn a_close_that_fails_leaves_its_ticket_waiting(rt: HostRuntime) -> Result<(), F
     fail_close(&rt, rt.alloc(), &[8, 9], 2, 1)
 }
 
-// A commitment and its tip, and a call that failed.
+/// A commitment and its tip, and a call that failed.
 const ONE_TIP: Counts = Counts {
     commits: 1,
     tips: 1,
@@ -79,7 +79,7 @@ const ONE_TIP: Counts = Counts {
     faults: 1,
 };
 
-// The tip over the digest alone in its round is refused, and then given twice by one entry.
+/// The tip over the digest alone in its round is refused, and then given twice by one entry.
 fn tip_again(rt: &impl Abort, alloc: Global, book: &mut Memory) -> Result<(), Fail> {
     put(book, &DIGEST, NONCE)?;
     assert_eq!(rt; close(book, SECOND)?, Ok(Some(0)));
@@ -90,7 +90,7 @@ fn tip_again(rt: &impl Abort, alloc: Global, book: &mut Memory) -> Result<(), Fa
     Ok(())
 }
 
-// This call of the disk fails.
+/// This call of the disk fails.
 fn fail_tip(rt: &impl Abort, alloc: Global, failing: u64) -> Result<(), Fail> {
     let mut book = new_book(alloc, &[failing])?;
     let ended = tip_again(rt, alloc, &mut book);
@@ -106,7 +106,7 @@ fn a_tip_that_failed_is_stored_once(rt: HostRuntime) -> Result<(), Fail> {
     Ok(())
 }
 
-// The anchor is refused. It may be stored, which the next call finds: then no tip is open.
+/// The anchor is refused. It may be stored, which the next call finds: then no tip is open.
 fn anchor_again(
     rt: &impl Abort,
     alloc: Global,
@@ -129,7 +129,7 @@ fn anchor_again(
     Ok(())
 }
 
-// This call of the disk fails. Then the bytes are those of the commitment, its tip and its anchor.
+/// This call of the disk fails. Then the bytes are those of the commitment, its tip and its anchor.
 fn fail_anchor(rt: &impl Abort, alloc: Global, failing: u64) -> Result<(), Fail> {
     let block = block_of(alloc, BLOCK)?;
     let mut book = new_book(alloc, &[failing])?;

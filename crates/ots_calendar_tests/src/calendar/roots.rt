@@ -1,5 +1,5 @@
 // Headers with another root than that of their block's transactions.
-use crate::calendar::values::{GENESIS_FRONT, GENESIS_REST, GENESIS_ROOT};
+use crate::calendar::values::{GENESIS_PREFIX, GENESIS_REST, GENESIS_ROOT};
 use crate::calendar_runs::{Memory, anchor_in, bytes_of, calls_under, is_written, new_book};
 use ots_block::Block;
 use ots_calendar::AnchorError;
@@ -7,7 +7,7 @@ use std::alloc::Global;
 use std::process::Abort;
 use std::test::Fail;
 
-// The Merkle root of the genesis block with a bit of this byte turned.
+/// The Merkle root of the genesis block with a bit of this byte turned.
 fn turned(alloc: Global, place: usize) -> Result<Vec<u8>, Fail> {
     let mut root = bytes_of(alloc, GENESIS_ROOT)?;
     if let Some(byte) = root.get_mut(place) {
@@ -16,15 +16,15 @@ fn turned(alloc: Global, place: usize) -> Result<Vec<u8>, Fail> {
     Ok(root)
 }
 
-// The genesis block with another root in its header.
+/// The genesis block with another root in its header.
 fn genesis(alloc: Global, root: &[u8]) -> Result<Block, Fail> {
-    let mut bytes = bytes_of(alloc, GENESIS_FRONT)?;
+    let mut bytes = bytes_of(alloc, GENESIS_PREFIX)?;
     bytes.extend_from_slice(root)?;
     bytes.extend_from_slice(&bytes_of(alloc, GENESIS_REST)?)?;
     Ok(Block::read(alloc, &bytes)?)
 }
 
-// Whether the block with this byte of its header's root changed is refused, with both roots.
+/// Whether the block with this byte of its header's root changed is refused, with both roots.
 fn is_bad_root(alloc: Global, book: &mut Memory, place: usize) -> Result<bool, Fail> {
     let changed = turned(alloc, place)?;
     match anchor_in(book, &genesis(alloc, &changed)?, 7)? {
@@ -36,7 +36,7 @@ fn is_bad_root(alloc: Global, book: &mut Memory, place: usize) -> Result<bool, F
     }
 }
 
-// Before any tip is looked for, a block with a byte of its root changed is refused.
+/// Before any tip is looked for, a block with a byte of its root changed is refused.
 fn change_roots(rt: &impl Abort, alloc: Global, book: &mut Memory) -> Result<(), Fail> {
     for place in [0, 15, 16, 31] {
         assert!(rt; is_bad_root(alloc, book, place)?, "byte {place}");

@@ -9,7 +9,7 @@ use std::alloc::Global;
 use std::process::Abort;
 use std::test::Fail;
 
-// Puts 65,536 digests, each the 8 bytes of its number, the high byte first.
+/// Puts 65,536 digests, each the 8 bytes of its number, the high byte first.
 fn fill(alloc: Global, book: &mut Memory) -> Result<Vec<Ticket>, Fail> {
     let mut tickets = Vec::new(alloc);
     for number in 0..65_536u64 {
@@ -18,15 +18,15 @@ fn fill(alloc: Global, book: &mut Memory) -> Result<Vec<Ticket>, Fail> {
     Ok(tickets)
 }
 
-// Whether a ticket of a full round is given, in a tree of 37 tokens that leads to its commitment, and
-// is then gone.
+/// Whether a ticket of a full round is given, in a tree of 37 tokens that leads to its commitment, and
+/// is then gone.
 fn is_in_full_round(alloc: Global, book: &mut Memory, ticket: &Ticket) -> Result<bool, Fail> {
     let given = give(alloc, book, ticket)?;
     let full = is_written(alloc, &given.receipt.commitment, FULL)?;
     Ok(full && given.receipt.index == 0 && given.tokens == 37 && is_gone(alloc, book, ticket)?)
 }
 
-// A round is stored, and nothing waits.
+/// A round is stored, and nothing waits.
 const ONE_ROUND: Counts = Counts {
     commits: 1,
     tips: 0,
@@ -35,7 +35,7 @@ const ONE_ROUND: Counts = Counts {
     faults: 0,
 };
 
-// Closes a full round, and takes some of its tickets.
+/// Closes a full round, and takes some of its tickets.
 fn close_full(rt: &impl Abort, alloc: Global, book: &mut Memory) -> Result<(), Fail> {
     let tickets = fill(alloc, book)?;
     assert!(rt; is_busy(book, &DIGEST)?);
@@ -58,7 +58,7 @@ fn one_commitment_settles_a_full_round(rt: HostRuntime) -> Result<(), Fail> {
     ended
 }
 
-// One of two tickets is withdrawn, and the other's round is closed.
+/// One of two tickets is withdrawn, and the other's round is closed.
 fn withdraw_one(rt: &impl Abort, alloc: Global, book: &mut Memory) -> Result<(), Fail> {
     let left = put(book, &DIGEST, NONCE)?;
     let given_up = put(book, &DIGEST, NONCE)?;
@@ -79,7 +79,7 @@ fn a_ticket_that_is_withdrawn_leaves_the_other(rt: HostRuntime) -> Result<(), Fa
     ended
 }
 
-// One of two tickets whose rounds are closed is withdrawn. Their commitments are the same.
+/// One of two tickets whose rounds are closed is withdrawn. Their commitments are the same.
 fn withdraw_settled(rt: &impl Abort, alloc: Global, book: &mut Memory) -> Result<(), Fail> {
     let first = put(book, &DIGEST, NONCE)?;
     assert_eq!(rt; close(book, SECOND)?, Ok(Some(0)));

@@ -19,7 +19,7 @@ enum Answered {
     Complete,
 }
 
-// Closes the second round, and gives and anchors its tip.
+/// Closes the second round, and gives and anchors its tip.
 fn play(rt: &impl Abort, alloc: Global, book: &mut Memory) -> Result<(), Fail> {
     put(book, &DIGEST, NONCE)?;
     assert_eq!(rt; close(book, SECOND + 1)?, Ok(Some(1)));
@@ -29,13 +29,13 @@ fn play(rt: &impl Abort, alloc: Global, book: &mut Memory) -> Result<(), Fail> {
     Ok(())
 }
 
-// The book of these bytes.
+/// The book of these bytes.
 fn reopened(alloc: Global, bytes: &[u8]) -> Result<Memory, Fail> {
     let disk = disk_of(alloc, bytes, &[])?;
     book_of(alloc, disk)
 }
 
-// The disk of such a book, with all its calls.
+/// The disk of such a book, with all its calls.
 fn made(rt: &impl Abort, alloc: Global) -> Result<MemoryDisk, Fail> {
     let bytes = bytes_of(alloc, JOURNAL)?;
     let mut book = reopened(alloc, &bytes)?;
@@ -45,7 +45,7 @@ fn made(rt: &impl Abort, alloc: Global) -> Result<MemoryDisk, Fail> {
     Ok(disk)
 }
 
-// An image of a crash.
+/// An image of a crash.
 fn image_at(
     alloc: Global,
     made: &MemoryDisk,
@@ -59,13 +59,13 @@ fn image_at(
     Ok(image.items().to_vec(alloc)?)
 }
 
-// The book of an image.
+/// The book of an image.
 fn left(alloc: Global, made: &MemoryDisk, moment: u64, choice: Choice) -> Result<Memory, Fail> {
     let image = image_at(alloc, made, moment, choice)?;
     reopened(alloc, &image)
 }
 
-// What a book answers of the second commitment, where it answers the first by its anchor.
+/// What a book answers of the second commitment, where it answers the first by its anchor.
 fn answer_of(alloc: Global, book: &Memory) -> Result<Answered, Fail> {
     if !is_complete(alloc, book, COMMITMENT, COMPLETE)? {
         return Err(Fail::from("the first is lost"));
@@ -82,7 +82,7 @@ fn answer_of(alloc: Global, book: &Memory) -> Result<Answered, Fail> {
     Err(Fail::from("another anchor"))
 }
 
-// What a book answers of the second commitment, once it is shown that it goes on: it closes a round.
+/// What a book answers of the second commitment, once it is shown that it goes on: it closes a round.
 fn found(alloc: Global, book: &mut Memory) -> Result<Answered, Fail> {
     let answer = answer_of(alloc, book)?;
     put(book, &DIGEST, NONCE)?;
@@ -93,7 +93,7 @@ fn found(alloc: Global, book: &mut Memory) -> Result<Answered, Fail> {
     Ok(answer)
 }
 
-// The same of the book of an image.
+/// The same of the book of an image.
 fn found_at(
     alloc: Global,
     made: &MemoryDisk,
@@ -123,7 +123,7 @@ const CHOICES: [(Choice, bool); 5] = [
     (Choice::Fill(0xa5), true),
 ];
 
-// Each image at this moment has its answer.
+/// Each image at this moment has its answer.
 fn leave(
     rt: &impl Abort,
     alloc: Global,
@@ -142,7 +142,7 @@ fn leave(
     Ok(())
 }
 
-// These answers, whatever becomes of the writes.
+/// These answers, whatever becomes of the writes.
 fn both(answer: Answered) -> Answers {
     Answers {
         closed: answer,
@@ -150,7 +150,7 @@ fn both(answer: Answered) -> Answers {
     }
 }
 
-// The moments up to the first one behind `close`.
+/// The moments up to the first one after `close`.
 fn close_moments(rt: &impl Abort, alloc: Global, made: &MemoryDisk) -> Result<(), Fail> {
     let stored = Answers {
         closed: Answered::Unknown,
@@ -170,12 +170,12 @@ fn a_crash_while_a_round_is_closed(rt: HostRuntime) -> Result<(), Fail> {
     close_moments(&rt, rt.alloc(), &made)
 }
 
-// Whether a book gives the tip over the second commitment, and has it once.
+/// Whether a book gives the tip over the second commitment, and has it once.
 fn has_the_tip(alloc: Global, book: &mut Memory) -> Result<bool, Fail> {
     Ok(is_tip(alloc, book, 1, 1, LATER_TIP_ROOT)? && counts_of(book).tips == 2)
 }
 
-// The same of the book of an image.
+/// The same of the book of an image.
 fn has_it_at(alloc: Global, made: &MemoryDisk, moment: u64, choice: Choice) -> Result<bool, Fail> {
     let mut book = left(alloc, made, moment, choice)?;
     let has = has_the_tip(alloc, &mut book);
@@ -183,7 +183,7 @@ fn has_it_at(alloc: Global, made: &MemoryDisk, moment: u64, choice: Choice) -> R
     has
 }
 
-// The moments from the first in `tip` to the first one behind it.
+/// The moments from the first in `tip` to the first one after it.
 fn tip_moments(rt: &impl Abort, alloc: Global, made: &MemoryDisk) -> Result<(), Fail> {
     for moment in 8..13 {
         leave(rt, alloc, made, moment, both(Answered::Pending))?;
@@ -200,7 +200,7 @@ fn a_crash_while_a_tip_is_stored(rt: HostRuntime) -> Result<(), Fail> {
     tip_moments(&rt, rt.alloc(), &made)
 }
 
-// The moments from the first in `anchor` to now.
+/// The moments from the first in `anchor` to now.
 fn anchor_moments(rt: &impl Abort, alloc: Global, made: &MemoryDisk) -> Result<(), Fail> {
     let stored = Answers {
         closed: Answered::Pending,

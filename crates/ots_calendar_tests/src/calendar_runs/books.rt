@@ -11,8 +11,8 @@ use ots_store::Store;
 use std::alloc::Global;
 use std::test::Fail;
 
-// A commitment takes 56 bytes, a tip 60, an anchor in these blocks at most 300, and each four calls
-// of the disk.
+/// A commitment takes 56 bytes, a tip 60, an anchor in these blocks at most 300, and each four calls
+/// of the disk.
 const ROOM: DiskRoom = DiskRoom {
     calls: 200,
     write: 300,
@@ -52,7 +52,7 @@ pub fn disk_of(alloc: Global, bytes: &[u8], failing: &[u64]) -> Result<MemoryDis
     Ok(MemoryDisk::new(alloc, bytes, ROOM, failing)?)
 }
 
-// Its journal.
+/// Its journal.
 fn journal_of(alloc: Global, disk: MemoryDisk) -> Result<Journal<MemoryDisk>, Fail>
     ensures { IfOk result (λ j. j.is_sure ≡ true) }
 {
@@ -62,7 +62,7 @@ fn journal_of(alloc: Global, disk: MemoryDisk) -> Result<Journal<MemoryDisk>, Fa
     }
 }
 
-// Its store.
+/// Its store.
 fn store_of(alloc: Global, disk: MemoryDisk) -> Result<Store<MemoryDisk>, Fail>
     ensures { IfOk result (λ s. s.journal.is_sure ≡ true) }
 {

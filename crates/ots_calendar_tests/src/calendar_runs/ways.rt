@@ -66,7 +66,7 @@ pub fn is_spelled(alloc: Global, tree: &Tree, digits: &str) -> Result<bool, Fail
     is_written(alloc, sink.bytes(), digits)
 }
 
-// The tree and the receipt of a ticket whose round is closed.
+/// The tree and the receipt of a ticket whose round is closed.
 fn taken(alloc: Global, book: &mut Memory, ticket: &Ticket) -> Result<(Tree, Receipt), Fail> {
     match book.take(ticket, &uri(alloc)?)? {
         Taken::Settled(tree, receipt) => Ok((tree, receipt)),
@@ -74,25 +74,25 @@ fn taken(alloc: Global, book: &mut Memory, ticket: &Ticket) -> Result<(Tree, Rec
     }
 }
 
-// Whether the commitment of a receipt is stored where it says.
+/// Whether the commitment of a receipt is stored where it says.
 fn stands(book: &Memory, receipt: &Receipt) -> bool {
     let store = book.store();
     receipt.index < store.commits() && store.commit(receipt.index) == receipt.commitment
 }
 
-// What the operations of a tree of one path make of a message, by plain means.
+/// What the operations of a tree of one path make of a message, by plain means.
 fn led_to(alloc: Global, tree: &Tree, message: &[u8]) -> Result<Vec<u8>, Fail> {
     let mut reached = Vec::from_slice(alloc, message)?;
     for token in tree.tokens() {
         if let Token::Op(op) = token {
-            reached = behind(alloc, op, &reached)?;
+            reached = after(alloc, op, &reached)?;
         }
     }
     Ok(reached)
 }
 
-// What one of these operations makes of a message.
-fn behind(alloc: Global, op: &Op, message: &[u8]) -> Result<Vec<u8>, Fail> {
+/// What one of these operations makes of a message.
+fn after(alloc: Global, op: &Op, message: &[u8]) -> Result<Vec<u8>, Fail> {
     match op {
         Op::Append(argument) => joined(alloc, message, argument.bytes()),
         Op::Prepend(argument) => joined(alloc, argument.bytes(), message),

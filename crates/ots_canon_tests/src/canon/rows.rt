@@ -12,7 +12,7 @@ type Row = (&'static [u8], &'static [u8]);
 
 /// Trees that are not canonical, and their canonical forms: equal siblings; what stands twice; an
 /// attestation before an operation; operations by their tags and then their arguments, of which a
-/// front comes first; attestations by their kinds, heights as numbers; equal siblings three deep; an
+/// prefix comes first; attestations by their kinds, heights as numbers; equal siblings three deep; an
 /// unknown kind by its payload.
 const FORMS: [Row; 13] = [
     (b"ff 08 A5 08 A3", b"08 ff A3 A5"),
@@ -119,7 +119,7 @@ fn pruning_keeps_the_first_path_of_the_least_height(rt: HostRuntime) -> Result<(
     Ok(())
 }
 
-/// The SHA-256 of `Hello World!` and a line feed, behind its tag.
+/// The SHA-256 of `Hello World!` and a line feed, after its tag.
 const HELLO: &[u8] =
     b"08 03 ba 20 4e 50 d1 26 e4 67 4c 00 5e 04 d8 2e 84 c2 13 66 78 0a f1 f4 3b d5 4a 37 81 6b 6a b3 40";
 

@@ -20,7 +20,7 @@ fn what_is_written_is_read(rt: HostRuntime) -> Result<(), Fail> {
     Ok(())
 }
 
-// Whether a call is this write, and did not fail.
+/// Whether a call is this write, and did not fail.
 fn is_write(made: &MadeCall, at: u64, bytes: &[u8]) -> bool {
     match &made.call {
         DiskCall::Write(place, piece) => { *place == at && piece.items() == bytes && !made.failed }

@@ -10,7 +10,7 @@ use ots_store::Store;
 use std::alloc::Global;
 use std::test::Fail;
 
-// The book on a disk, or the disk where it can't be opened.
+/// The book on a disk, or the disk where it can't be opened.
 fn open<D: Disk + Drop>(alloc: Global, disk: D) -> Result<Book<D>, D> {
     let journal = match Journal::open(alloc, disk, 1000) {
         Ok(journal) => journal,
@@ -26,7 +26,7 @@ fn open<D: Disk + Drop>(alloc: Global, disk: D) -> Result<Book<D>, D> {
     }
 }
 
-// Puts a digest, closes the round, and adds the commitment of its receipt, if one is given.
+/// Puts a digest, closes the round, and adds the commitment of its receipt, if one is given.
 fn stamp<D: Disk + Drop>(
     alloc: Global,
     book: &mut Book<D>,
@@ -45,8 +45,8 @@ fn stamp<D: Disk + Drop>(
     }
 }
 
-// Opens a new book, stamps three digests, and asks for the tip. It answers the commitments of the
-// receipts that were given.
+/// Opens a new book, stamps three digests, and asks for the tip. It answers the commitments of the
+/// receipts that were given.
 fn stamp_three<D: Disk + Drop>(alloc: Global, disk: D) -> Result<(Vec<u8>, D), Fail> {
     let mut receipts = Vec::new(alloc);
     match open(alloc, disk) {
@@ -61,7 +61,7 @@ fn stamp_three<D: Disk + Drop>(alloc: Global, disk: D) -> Result<(Vec<u8>, D), F
     }
 }
 
-// How many receipts were given where this call fails. The device must hold their commitments.
+/// How many receipts were given where this call fails. The device must hold their commitments.
 fn kept(alloc: Global, failing: u64) -> Result<usize, Fail> {
     let (receipts, disk) = stamp_three(alloc, disk(alloc, failing)?)?;
     let held = payloads(alloc, &device(alloc, disk)?)?;

@@ -26,7 +26,7 @@ pub fn device(alloc: Global, disk: Disk) -> Result<Vec<u8>, Fail> {
     Ok(disk.into_file().device().to_vec(alloc)?)
 }
 
-/// The payloads of the entries in these bytes of a journal, one behind the other.
+/// The payloads of the entries in these bytes of a journal, one after the other.
 pub fn payloads(alloc: Global, bytes: &[u8]) -> Result<Vec<u8>, Fail> {
     let journal = match Journal::open(alloc, MemoryDisk::new(alloc, bytes, ROOM, &[])?, 1000) {
         Ok(journal) => journal,

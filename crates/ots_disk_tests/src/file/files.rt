@@ -12,7 +12,7 @@ fn file<'a>(rt: &'a HostRuntime, name: &str) -> Result<File<'a>, Fail> {
     Ok(FileDisk::new(SystemFile::new(rt, name)))
 }
 
-// Whether so many bytes are there.
+/// Whether so many bytes are there.
 fn has(disk: &mut File<'_>, length: u64) -> bool {
     disk.len() == Ok(length)
 }
@@ -21,7 +21,7 @@ fn write(disk: &mut File<'_>, place: u64, piece: &[u8]) -> bool {
     disk.write_at(place, piece).is_ok()
 }
 
-// Whether a read of eight bytes from a place on gives these.
+/// Whether a read of eight bytes from a place on gives these.
 fn read(disk: &mut File<'_>, place: u64, bytes: &[u8]) -> bool {
     let mut buf = [b'-'; 8];
     match disk.read_at(place, &mut buf) {
@@ -34,7 +34,7 @@ fn settle(disk: &mut File<'_>) -> bool {
     disk.sync().is_ok()
 }
 
-// What the system says that the file holds.
+/// What the system says that the file holds.
 fn holds(rt: &HostRuntime, name: &str, bytes: &[u8]) -> bool {
     match fs::read(rt, name) {
         Ok(held) => held.as_slice() == bytes,
@@ -89,7 +89,7 @@ fn a_second_holder_is_kept_out_until_the_first_is_gone(rt: HostRuntime) -> Resul
     Ok(())
 }
 
-// Whether a name can't be used, with a fault at each call.
+/// Whether a name can't be used, with a fault at each call.
 fn is_refused(rt: &HostRuntime, name: &str) -> Result<bool, Fail> {
     let mut disk = file(rt, name)?;
     let used = has(&mut disk, 0) || read(&mut disk, 0, b"");

@@ -5,8 +5,8 @@ use ots_journal::Journal;
 use std::alloc::Global;
 use std::test::Fail;
 
-// Opens a new journal and appends three entries, the first of fifty times the byte 1. It answers the
-// bytes of those that were acknowledged.
+/// Opens a new journal and appends three entries, the first of fifty times the byte 1. It answers the
+/// bytes of those that were acknowledged.
 fn append_three<D: Disk + Drop>(alloc: Global, disk: D) -> Result<(Vec<u8>, D), Fail> {
     let mut acknowledged = Vec::new(alloc);
     match Journal::open(alloc, disk, 1000) {
@@ -22,7 +22,7 @@ fn append_three<D: Disk + Drop>(alloc: Global, disk: D) -> Result<(Vec<u8>, D), 
     }
 }
 
-// How many entries were acknowledged where this call fails. The device must hold them.
+/// How many entries were acknowledged where this call fails. The device must hold them.
 fn kept(alloc: Global, failing: u64) -> Result<usize, Fail> {
     let (acknowledged, disk) = append_three(alloc, disk(alloc, failing)?)?;
     let held = payloads(alloc, &device(alloc, disk)?)?;

@@ -6,10 +6,10 @@ use std::alloc::Global;
 use std::fs;
 use std::test::Fail;
 
-// The most bytes of the file.
+/// The most bytes of the file.
 const LIMIT: u64 = 1000;
 
-// The disk of a file.
+/// The disk of a file.
 fn file<'a>(
     rt: &'a HostRuntime,
     name: &str,
@@ -18,7 +18,7 @@ fn file<'a>(
     Ok(FileDisk::new(SystemFile::new(rt, name)))
 }
 
-// The journal on a disk, where it opens.
+/// The journal on a disk, where it opens.
 fn opened<D: Disk + Drop>(alloc: Global, disk: D) -> Result<Journal<D>, Fail> {
     match Journal::open(alloc, disk, LIMIT) {
         Ok(journal) => Ok(journal),
@@ -26,7 +26,7 @@ fn opened<D: Disk + Drop>(alloc: Global, disk: D) -> Result<Journal<D>, Fail> {
     }
 }
 
-// Why a disk is refused, if it is.
+/// Why a disk is refused, if it is.
 fn refusal<D: Disk + Drop>(alloc: Global, disk: D) -> Option<JournalError> {
     match Journal::open(alloc, disk, LIMIT) {
         Ok(_) => None,
@@ -34,7 +34,7 @@ fn refusal<D: Disk + Drop>(alloc: Global, disk: D) -> Option<JournalError> {
     }
 }
 
-// Whether so many entries are there, each of 50 bytes of its index.
+/// Whether so many entries are there, each of 50 bytes of its index.
 fn holds<D: Disk>(journal: &Journal<D>, count: u64) -> bool {
     if journal.count() != count {
         return false;
@@ -47,7 +47,7 @@ fn holds<D: Disk>(journal: &Journal<D>, count: u64) -> bool {
     true
 }
 
-// Whether an entry of 50 bytes of this index is appended under it.
+/// Whether an entry of 50 bytes of this index is appended under it.
 fn appends<D: Disk>(journal: &mut Journal<D>, index: u8) -> bool {
     journal.append(7, &[index; 50]) == Ok(u64::from(index))
 }

@@ -1,6 +1,6 @@
 //! Bitcoin's first block, and proofs that a file stands in it.
-use ots_bitcoin::Headers;
 use ots_detached::read_bytes;
+use ots_headers::Headers;
 use ots_io::BytesSource;
 use ots_tree::Detached;
 use std::alloc::Global;
@@ -34,7 +34,7 @@ pub const COINBASE_DIGEST: &str =
     "27362e66e032c731c1c8519f43063fe0e5d070db1c0c3552bb04afa18a31c6bf";
 
 /// What stands before the digest in a proof of a file's SHA-256.
-const FRONT: &[u8] = b"\0OpenTimestamps\0\0Proof\0\xbf\x89\xe2\xe8\x84\xe8\x92\x94\x01\x08";
+const PREFIX: &[u8] = b"\0OpenTimestamps\0\0Proof\0\xbf\x89\xe2\xe8\x84\xe8\x92\x94\x01\x08";
 
 /// The bytes that these hexadecimal digits write.
 pub fn bytes_of(alloc: Global, digits: &str) -> Result<Vec<u8>, Fail> {
@@ -44,7 +44,7 @@ pub fn bytes_of(alloc: Global, digits: &str) -> Result<Vec<u8>, Fail> {
 /// The proof of the transaction with this tree.
 pub fn proof_with(alloc: Global, tree: &[u8]) -> Result<Detached, Fail> {
     let mut bytes: Vec<u8> = Vec::new(alloc);
-    bytes.extend_from_slice(FRONT)?;
+    bytes.extend_from_slice(PREFIX)?;
     bytes.extend_from_slice(&bytes_of(alloc, COINBASE_DIGEST)?)?;
     bytes.extend_from_slice(tree)?;
     read_bytes(alloc, &bytes).map_err(|_| Fail::from("a proof"))

@@ -3,8 +3,8 @@
 use crate::eval::genesis::{
     COINBASE_DIGEST, HEADER, NEXT_HEADER, TIME, bytes_of, proof_with, table,
 };
-use ots_bitcoin::Headers;
 use ots_eval::{Chain, Verdict, verdict};
+use ots_headers::Headers;
 use ots_ops::Digest;
 use std::alloc::Global;
 use std::process::Abort;
@@ -77,7 +77,7 @@ fn both_decide(
     has_verdict(rt, alloc, tree, &bitcoin, Some(&litecoin), want)
 }
 
-/// SHA-256, and both attestations behind it.
+/// SHA-256, and both attestations after it.
 const BOTH: &[u8] =
     b"\x08\xff\0\x06\x86\x9a\x0d\x73\xd7\x1b\x45\x01\0\0\x05\x88\x96\x0d\x73\xd7\x19\x01\x01\0";
 
@@ -138,7 +138,7 @@ fn is_told(rt: &impl Abort, alloc: Global, tree: &[u8], height: u64) -> Result<(
 #[test]
 fn the_least_height_is_told_with_its_own_time(rt: HostRuntime) -> Result<(), Fail> {
     let alloc = rt.alloc();
-    // Behind the operation heights in several orders.
+    // After the operation heights in several orders.
     is_told(
         &rt,
         alloc,
@@ -160,7 +160,7 @@ fn the_least_height_is_told_with_its_own_time(rt: HostRuntime) -> Result<(), Fai
         b"\xff\xf0\x01a\x08\0\x05\x88\x96\x0d\x73\xd7\x19\x01\x01\x06\x08\0\x05\x88\x96\x0d\x73\xd7\x19\x01\x01\x07",
         7,
     )?;
-    // Behind forks within forks.
+    // After forks within forks.
     is_told(
         &rt,
         alloc,

@@ -4,14 +4,13 @@ use crate::verifier::genesis::{
     digest, joined, table,
 };
 use crate::verifier::pieces::{Tables, found};
-use ots_eval::{Chain, Confirmation, Verdict};
+use ots_eval::{Chain, Checked, Confirmation, VERIFIER_BYTES, Verdict, Verifier};
 use ots_ops::HashOp;
-use ots_verifier::{Checked, VERIFIER_BYTES, Verifier};
 use std::alloc::Global;
 use std::process::Abort;
 use std::test::Fail;
 
-/// The proof with this front and this tree, which is read.
+/// The proof with this prefix and this tree, which is read.
 fn checked(alloc: Global, head: &[u8], tree: &[u8], tables: Tables<'_>) -> Result<Checked, Fail> {
     let bytes = joined(alloc, &[head, tree])?;
     match found(alloc, &bytes, tables)? {
@@ -146,7 +145,7 @@ fn bitcoin_is_told_before_litecoin(rt: HostRuntime) -> Result<(), Fail> {
     confirms(&rt, alloc, BOTH, (&other, Some(&right)), litecoin)
 }
 
-/// A `b` before the digest, and three items on that: hexlified, with an `a` behind it, and reversed;
+/// A `b` before the digest, and three items on that: hexlified, with an `a` after it, and reversed;
 /// then SHA-256, and the Bitcoin blocks 8, 7 and 6.
 const FORKS: &[u8] = b"\xf1\x01b\
     \xff\xf3\x08\0\x05\x88\x96\x0d\x73\xd7\x19\x01\x01\x08\
@@ -211,7 +210,7 @@ fn the_messages_of_256_open_nodes_are_kept(rt: HostRuntime) -> Result<(), Fail> 
     confirms_by(&rt, alloc, &tree, 0, &[OTHER_ROOT], None)
 }
 
-/// The SHA-256 of the digest with 4064 times `a` behind it, and of those 4096 bytes reversed, by Python's
+/// The SHA-256 of the digest with 4064 times `a` after it, and of those 4096 bytes reversed, by Python's
 /// hashlib.
 const LONGEST: &str = "13d86cef4deac2acfc8b0601f1d87bbfe8e88053d5fbf60297ea088288699320";
 

@@ -1,5 +1,5 @@
 //! Bitcoin's first block, and proofs of its one transaction.
-use ots_bitcoin::Headers;
+use ots_headers::Headers;
 use ots_io::BytesSource;
 use ots_ops::Digest;
 use std::alloc::Global;
@@ -40,11 +40,11 @@ pub const OTHER_ROOT: &str = "982051fd1e4ba744bbbe680e1fee14677ba1a3c3540bf7b1cd
 /// The time in the header of block 0, as block explorers show it.
 pub const TIME: u32 = 1_231_006_505;
 
-/// Its header, up to the root, and behind it.
+/// Its header, up to the root, and after it.
 const BEFORE_ROOT: &str =
     "010000000000000000000000000000000000000000000000000000000000000000000000";
 
-const BEHIND_ROOT: &str = "29ab5f49ffff001d1dac2b7c";
+const AFTER_ROOT: &str = "29ab5f49ffff001d1dac2b7c";
 
 /// The bytes of these parts, one after another.
 pub fn joined(alloc: Global, parts: &[&[u8]]) -> Result<Vec<u8>, Fail> {
@@ -67,7 +67,7 @@ pub fn table(alloc: Global, first: u32, roots: &[&str]) -> Result<Headers, Fail>
     for root in roots {
         digits.push_str(BEFORE_ROOT)?;
         digits.push_str(root)?;
-        digits.push_str(BEHIND_ROOT)?;
+        digits.push_str(AFTER_ROOT)?;
     }
     let bytes = hex::decode(alloc, &digits).map_err(|_| Fail::from("digits"))?;
     let mut source = BytesSource::new(alloc, &bytes, &[], &[])?;

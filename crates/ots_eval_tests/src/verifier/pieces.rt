@@ -1,8 +1,8 @@
 //! Bytes that are fed in pieces, and what they come to.
 ghost use Rattle.std.specs.Prelude.{◌≤◌};
 
-use ots_bitcoin::Headers;
-use ots_verifier::{CheckError, Checked, Verifier};
+use ots_eval::{CheckError, Checked, Verifier};
+use ots_headers::Headers;
 use std::alloc::Global;
 use std::test::Fail;
 

@@ -2,8 +2,8 @@
 use crate::verifier::genesis::{BITCOIN, ROOT, SHA1_HEAD, SHA256_HEAD, joined, table};
 use crate::verifier::pieces::{Found, fed, fed_by, found};
 use ots_detached::{FileError, read_bytes};
+use ots_eval::CheckError;
 use ots_reader::{Fault, Reason};
-use ots_verifier::CheckError;
 use std::alloc::Global;
 use std::process::Abort;
 use std::test::Fail;
@@ -18,7 +18,7 @@ const TREE: &[u8] = b"\xf1\x01b\xff\xf3\x08\0\x05\x88\x96\x0d\x73\xd7\x19\x01\x0
     \xff\xf0\x03abc\x02\0\x83\xdf\xe3\x0d\x2e\xf9\x0c\x8e\x17\x16http://127.0.0.1:14788\
     \x08\0\x06\x86\x9a\x0d\x73\xd7\x1b\x45\x01\0";
 
-/// Where the parts of the header begin, and the tokens of the tree behind it.
+/// Where the parts of the header begin, and the tokens of the tree after it.
 const STARTS: [usize; 15] = [0, 31, 32, 33, 65, 68, 69, 70, 71, 82, 83, 88, 89, 122, 123];
 
 /// The last of these places that is not past this one.
@@ -61,11 +61,11 @@ fn come_to_in_any_cut(
     Ok(())
 }
 
-/// The front of a file that ends here is truncated at its last token.
-fn is_truncated(rt: &impl Abort, alloc: Global, front: &[u8]) -> Result<(), Fail> {
-    let place = last_start(front.len());
-    come_to_in_any_cut(rt, alloc, front, bad(place, Reason::Truncated))?;
-    let given = fault_of_reading(alloc, front);
+/// The prefix of a file that ends here is truncated at its last token.
+fn is_truncated(rt: &impl Abort, alloc: Global, prefix: &[u8]) -> Result<(), Fail> {
+    let place = last_start(prefix.len());
+    come_to_in_any_cut(rt, alloc, prefix, bad(place, Reason::Truncated))?;
+    let given = fault_of_reading(alloc, prefix);
     assert_eq!(rt; given, Some(bad(place, Reason::Truncated)));
     Ok(())
 }
@@ -102,13 +102,13 @@ fn are_refused(
     come_to(rt, alloc, parts, bad(place, reason))
 }
 
-/// The bytes of these parts have something behind their tree, at this place.
+/// The bytes of these parts have something after their tree, at this place.
 fn are_trailing(rt: &impl Abort, alloc: Global, parts: &[&[u8]], place: u64) -> Result<(), Fail> {
     are_refused(rt, alloc, parts, place, Reason::TrailingBytes)
 }
 
 #[test]
-fn bytes_behind_the_tree_are_refused(rt: HostRuntime) -> Result<(), Fail> {
+fn bytes_after_the_tree_are_refused(rt: HostRuntime) -> Result<(), Fail> {
     let alloc = rt.alloc();
     are_trailing(&rt, alloc, &[SHA256_HEAD, BITCOIN, b"\x99"], 77)?;
     are_trailing(
@@ -186,8 +186,8 @@ fn an_empty_piece_changes_nothing(rt: HostRuntime) -> Result<(), Fail> {
     let alloc = rt.alloc();
     let want = proof(alloc)?;
     assert!(rt; want.is_ok());
-    let (front, back) = (&SHA256_HEAD[..40], &SHA256_HEAD[40..]);
-    let pieces: &[&[u8]] = &[b"", front, b"", back, b"", BITCOIN, b"", b""];
+    let (prefix, back) = (&SHA256_HEAD[..40], &SHA256_HEAD[40..]);
+    let pieces: &[&[u8]] = &[b"", prefix, b"", back, b"", BITCOIN, b"", b""];
     come_to(&rt, alloc, pieces, want)?;
     come_to(&rt, alloc, &[], bad(0, Reason::Truncated))?;
     come_to(&rt, alloc, &[b"", b""], bad(0, Reason::Truncated))
@@ -210,11 +210,11 @@ fn come_to_in_large_pieces(
 fn are_too_big(
     rt: &impl Abort,
     alloc: Global,
-    front: &[u8],
+    prefix: &[u8],
     place: u64,
     reason: Reason,
 ) -> Result<(), Fail> {
-    let mut bytes = joined(alloc, &[front])?;
+    let mut bytes = joined(alloc, &[prefix])?;
     bytes.resize(4_194_304, 0x99)?;
     come_to_in_large_pieces(rt, alloc, &bytes, bad(place, reason))?;
     bytes.push(0x99)?;

@@ -1,8 +1,8 @@
 //! Proof files that are a source's whole input.
 use crate::verifier::genesis::{BITCOIN, ROOT, SHA256_HEAD, joined, table};
+use ots_eval::{Checked, SourceError, Verifier, check_source};
 use ots_io::BytesSource;
 use ots_reader::{Fault, Reason};
-use ots_verifier::{Checked, SourceError, Verifier, check_source};
 use std::alloc::Global;
 use std::process::Abort;
 use std::test::Fail;
@@ -41,7 +41,7 @@ fn an_input_is_read_to_its_end(rt: HostRuntime) -> Result<(), Fail> {
 }
 
 #[test]
-fn a_byte_behind_a_proof_is_read(rt: HostRuntime) -> Result<(), Fail> {
+fn a_byte_after_a_proof_is_read(rt: HostRuntime) -> Result<(), Fail> {
     let alloc = rt.alloc();
     let trailing = joined(alloc, &[SHA256_HEAD, BITCOIN, b"\0"])?;
     assert_eq!(rt;

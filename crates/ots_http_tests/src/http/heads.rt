@@ -6,10 +6,10 @@ use std::test::Fail;
 
 /// A head of so many bytes with a start line, one field and these bytes after it.
 fn head_of(alloc: Global, line: &[u8], length: usize, after: &[u8]) -> Result<Vec<u8>, Fail> {
-    let mut front = Vec::from_slice(alloc, line)?;
-    front.extend_from_slice(b"a:")?;
-    let count = length.saturating_sub(front.len()).saturating_sub(4);
-    let mut text = filled(alloc, &front, b'x', count, b"\r\n\r\n")?;
+    let mut prefix = Vec::from_slice(alloc, line)?;
+    prefix.extend_from_slice(b"a:")?;
+    let count = length.saturating_sub(prefix.len()).saturating_sub(4);
+    let mut text = filled(alloc, &prefix, b'x', count, b"\r\n\r\n")?;
     text.extend_from_slice(after)?;
     Ok(text)
 }
@@ -136,7 +136,7 @@ fn a_head_is_answered_as_soon_as_it_is_whole(rt: HostRuntime) -> Result<(), Fail
 #[test]
 fn another_protocol_is_refused_at_its_first_piece(rt: HostRuntime) -> Result<(), Fail> {
     let alloc = rt.alloc();
-    // The front of a TLS greeting, in which no line ends.
+    // The prefix of a TLS greeting, in which no line ends.
     let text = filled(
         alloc,
         b"\x16\x03\x01\x02\0\x01\0\x01\xfc\x03\x03",

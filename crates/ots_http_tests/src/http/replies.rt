@@ -27,7 +27,8 @@ fn the_worked_rows(rt: HostRuntime) -> Result<(), Fail> {
     says(
         &rt,
         alloc,
-        b"HTTP/1.1 404 Not Found\r\nContent-Type: text/plain\r\nContent-Length: 8\r\nConnection: close\r\n\r\npending\n",
+        b"HTTP/1.1 404 Not Found\r\nContent-Type: text/plain\r\nContent-Length: 8\r\n\
+        Connection: close\r\n\r\npending\n",
         "status 404",
     )?;
     says(

@@ -20,7 +20,8 @@ fn asks_for(rt: &impl Abort, alloc: Global, digits: usize, words: &str) -> Resul
 fn a_commitment_has_at_most_128_digits(rt: HostRuntime) -> Result<(), Fail> {
     let alloc = rt.alloc();
     let most =
-        "timestamp 00000000000000000000000000000000000000000000000000000000000000000000000000000000000000000000000000000000000000000000000000000000";
+        "timestamp 00000000000000000000000000000000000000000000000000000000000000000000000000000000\
+        000000000000000000000000000000000000000000000000";
     asks_for(&rt, alloc, 127, "refused 400")?;
     asks_for(&rt, alloc, 128, most)?;
     asks_for(&rt, alloc, 129, "refused 404")?;
@@ -31,11 +32,12 @@ fn a_commitment_has_at_most_128_digits(rt: HostRuntime) -> Result<(), Fail> {
 #[test]
 fn a_digest_has_at_most_64_bytes(rt: HostRuntime) -> Result<(), Fail> {
     let alloc = rt.alloc();
-    let front = b"POST /digest HTTP/1.1\r\nContent-Length: 64\r\n\r\n";
+    let prefix = b"POST /digest HTTP/1.1\r\nContent-Length: 64\r\n\r\n";
     let most =
-        "digest 61616161616161616161616161616161616161616161616161616161616161616161616161616161616161616161616161616161616161616161616161616161";
+        "digest 61616161616161616161616161616161616161616161616161616161616161616161616161616161616\
+        161616161616161616161616161616161616161616161";
     for (count, words) in [(63, "refused 400"), (64, most), (65, most)] {
-        let text = filled(alloc, front, b'a', count, b"")?;
+        let text = filled(alloc, prefix, b'a', count, b"")?;
         is_answered_at_each_fault(&rt, Reader::Requests, alloc, &text, words)?;
     }
     Ok(())

@@ -109,12 +109,12 @@ pub fn is_answered_at_each_fault(
 /// These bytes, a byte so many times, and then these.
 pub fn filled(
     alloc: Global,
-    front: &[u8],
+    prefix: &[u8],
     byte: u8,
     count: usize,
     back: &[u8],
 ) -> Result<Vec<u8>, Fail> {
-    let mut text = Vec::from_slice(alloc, front)?;
+    let mut text = Vec::from_slice(alloc, prefix)?;
     for _ in 0..count {
         text.push(byte)?;
     }

@@ -156,7 +156,9 @@ fn a_whole_reply(rt: HostRuntime) -> Result<(), Fail> {
     assert!(rt; done);
     assert_eq!(rt;
         taken.as_slice(),
-        b"HTTP/1.1 404 Not Found\r\nContent-Type: text/plain\r\nContent-Length: 8\r\nConnection: close\r\n\r\npending\n".as_slice()
+        b"HTTP/1.1 404 Not Found\r\nContent-Type: text/plain\r\nContent-Length: 8\r\n\
+        Connection: close\r\n\r\npending\n"
+            .as_slice()
     );
     Ok(())
 }
@@ -166,7 +168,8 @@ const PENDING: &[u8] = b"\x00\x83\xdf\xe3\x0d\x2e\xf9\x0c\x8e\x17\x16http://127.
 
 /// The reply with this tree.
 const WITH_TREE: &[u8] =
-    b"HTTP/1.1 200 OK\r\nContent-Type: application/octet-stream\r\nContent-Length: 33\r\nConnection: close\r\n\r\n\x00\x83\xdf\xe3\x0d\x2e\xf9\x0c\x8e\x17\x16http://127.0.0.1:14788";
+    b"HTTP/1.1 200 OK\r\nContent-Type: application/octet-stream\r\nContent-Length: 33\r\n\
+    Connection: close\r\n\r\n\x00\x83\xdf\xe3\x0d\x2e\xf9\x0c\x8e\x17\x16http://127.0.0.1:14788";
 
 /// How many bytes of it are its head.
 const TREE_HEAD: usize = 98;
@@ -192,7 +195,7 @@ fn a_tree_after_its_head(rt: HostRuntime) -> Result<(), Fail> {
     for (failing, count) in [(0, 131), (1, 0), (2, TREE_HEAD), (3, 131)] {
         let (tree, _) = read_tree(alloc, PENDING, shape).map_err(|_| "a tree")?;
         let (taken, done) = replied_with(alloc, tree, failing)?;
-        let expected = WITH_TREE.get(..count).ok_or("a front")?;
+        let expected = WITH_TREE.get(..count).ok_or("a prefix")?;
         assert_eq!(rt; taken.as_slice(), expected);
         assert_eq!(rt; done, count == 131);
     }
@@ -240,7 +243,9 @@ fn requests_of_a_client(rt: HostRuntime) -> Result<(), Fail> {
         alloc,
         "http://127.0.0.1:14788",
         &Asked::Post(digest),
-        b"POST /digest HTTP/1.1\r\nHost: 127.0.0.1:14788\r\nAccept: application/vnd.opentimestamps.v1\r\nContent-Type: application/octet-stream\r\nContent-Length: 20\r\nConnection: close\r\n\r\naaaaaaaaaaaaaaaaaaaa",
+        b"POST /digest HTTP/1.1\r\nHost: 127.0.0.1:14788\r\n\
+        Accept: application/vnd.opentimestamps.v1\r\nContent-Type: application/octet-stream\r\n\
+        Content-Length: 20\r\nConnection: close\r\n\r\naaaaaaaaaaaaaaaaaaaa",
     )?;
     let message = Message::new(alloc, b"\x00\xafz")?;
     asks(
@@ -248,7 +253,8 @@ fn requests_of_a_client(rt: HostRuntime) -> Result<(), Fail> {
         alloc,
         "http://a.org",
         &Asked::Get(message),
-        b"GET /timestamp/00af7a HTTP/1.1\r\nHost: a.org\r\nAccept: application/vnd.opentimestamps.v1\r\nConnection: close\r\n\r\n",
+        b"GET /timestamp/00af7a HTTP/1.1\r\nHost: a.org\r\n\
+        Accept: application/vnd.opentimestamps.v1\r\nConnection: close\r\n\r\n",
     )?;
     // A port that is written as the default is left out.
     let message = Message::new(alloc, b"")?;
@@ -257,7 +263,8 @@ fn requests_of_a_client(rt: HostRuntime) -> Result<(), Fail> {
         alloc,
         "http://a.org:80",
         &Asked::Get(message),
-        b"GET /timestamp/ HTTP/1.1\r\nHost: a.org\r\nAccept: application/vnd.opentimestamps.v1\r\nConnection: close\r\n\r\n",
+        b"GET /timestamp/ HTTP/1.1\r\nHost: a.org\r\nAccept: application/vnd.opentimestamps.v1\r\n\
+        Connection: close\r\n\r\n",
     )
 }
 

@@ -10,7 +10,8 @@ use std::test::Fail;
 
 /// A tree of 68 bytes, as a calendar answers it: four operations and a pending attestation.
 pub(crate) const TREE: &str =
-    "f010202122232425262728292a2b2c2d2e2f08f1046553f100f00801020304050607080083dfe30d2ef90c8e1716687474703a2f2f3132372e302e302e313a3134373838";
+    "f010202122232425262728292a2b2c2d2e2f08f1046553f100f00801020304050607080083dfe30d2ef90c8e171668\
+    7474703a2f2f3132372e302e302e313a3134373838";
 
 /// The bytes of these digits.
 pub(crate) fn bytes(alloc: Global, digits: &str) -> Result<Vec<u8>, Fail> {

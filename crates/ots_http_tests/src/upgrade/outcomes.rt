@@ -23,7 +23,7 @@ fn stamped(alloc: Global, dialer: &mut ScriptDialer, list: &str) -> Result<Vec<O
     Ok(stamp_with(alloc, dialer, &calendars, &root, 2)?)
 }
 
-/// These outcomes in words, each with a semicolon behind it.
+/// These outcomes in words, each with a semicolon after it.
 fn all_words(alloc: Global, outcomes: &[Outcome]) -> Result<String, Fail> {
     let mut all = String::new(alloc);
     for outcome in outcomes {
@@ -81,7 +81,7 @@ fn each_reply_has_its_outcome(rt: HostRuntime) -> Result<(), Fail> {
     )?;
     is_answered(&rt, alloc, b"220 mail.example ESMTP\r\n", "not http")?;
     is_answered(&rt, alloc, b"", "not http")?;
-    // 254 operations behind 2 are one too many.
+    // 254 operations after 2 are one too many.
     has_outcome(
         &rt,
         alloc,
@@ -115,7 +115,8 @@ fn each_tree_has_its_outcome(rt: HostRuntime) -> Result<(), Fail> {
 fn request(alloc: Global) -> Result<Vec<u8>, Fail> {
     let mut request = Vec::from_slice(
         alloc,
-        b"POST /digest HTTP/1.1\r\nHost: a:8080\r\nAccept: application/vnd.opentimestamps.v1\r\nContent-Type: application/octet-stream\r\nContent-Length: 32\r\nConnection: close\r\n\r\n",
+        b"POST /digest HTTP/1.1\r\nHost: a:8080\r\nAccept: application/vnd.opentimestamps.v1\r\n\
+        Content-Type: application/octet-stream\r\nContent-Length: 32\r\nConnection: close\r\n\r\n",
     )?;
     request.extend_from_slice(&[7; 32])?;
     Ok(request)

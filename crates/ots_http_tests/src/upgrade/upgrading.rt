@@ -10,7 +10,7 @@ use crate::upgrade::stamping::stamped;
 use ots_detached::read_bytes;
 use ots_io::{DialerRoom, ScriptDialer, SentTo};
 use ots_tree::Detached;
-use ots_upgrade::{AskedList, Batch, Upgraded, upgrade_with};
+use ots_upgrade::{AskedAt, AskedList, Batch, Upgraded, upgrade_with};
 use std::alloc::Global;
 use std::process::Abort;
 use std::test::Fail;
@@ -24,7 +24,8 @@ const ROOM: DialerRoom = DialerRoom {
 
 /// What stands before the tree in the proof of `Hello World!` and a line feed.
 const HEADER: &str =
-    "004f70656e54696d657374616d7073000050726f6f6600bf89e2e884e89294010803ba204e50d126e4674c005e04d82e84c21366780af1f43bd54a37816b6ab340";
+    "004f70656e54696d657374616d7073000050726f6f6600bf89e2e884e89294010803ba204e50d126e4674c005e04d8\
+    2e84c21366780af1f43bd54a37816b6ab340";
 
 /// A pending attestation of `http://127.0.0.1:14788`.
 const FIRST: &str = "0083dfe30d2ef90c8e1716687474703a2f2f3132372e302e302e313a3134373838";
@@ -45,7 +46,7 @@ const BITCOIN: &str = "000588960d73d7190101";
 /// The addresses of the first and the second.
 const BOTH: &str = "http://127.0.0.1:14788,http://127.0.0.1:14789";
 
-/// The bytes of these digits, one piece behind the other.
+/// The bytes of these digits, one piece after the other.
 fn joined(alloc: Global, pieces: &[&str]) -> Result<Vec<u8>, Fail> {
     let mut all = Vec::new(alloc);
     for piece in pieces {
@@ -61,12 +62,10 @@ fn file_with(alloc: Global, tree: &[&str]) -> Result<Vec<u8>, Fail> {
     Ok(file)
 }
 
-/// The pair at this place in words: its URI, a space, and what came of it.
-fn line(alloc: Global, asked: &AskedList, i: usize) -> Result<String, Fail>
-    requires { i < length asked.now }
-{
-    let uri = asked.uri(i).text();
-    let outcome = match asked.outcome(i) {
+/// The pair in words: its URI, a space, and what came of it.
+fn line(alloc: Global, pair: &AskedAt) -> Result<String, Fail> {
+    let uri = pair.uri.text();
+    let outcome = match &pair.outcome {
         Some(outcome) => words(alloc, outcome)?,
         None => String::from_str(alloc, "skipped")?,
     };
@@ -76,8 +75,8 @@ fn line(alloc: Global, asked: &AskedList, i: usize) -> Result<String, Fail>
 /// All pairs in words.
 fn lines(alloc: Global, asked: &AskedList) -> Result<String, Fail> {
     let mut all = String::new(alloc);
-    for i in 0..asked.len() {
-        all.push_str(&line(alloc, asked, i)?)?;
+    for pair in asked.items() {
+        all.push_str(&line(alloc, pair)?)?;
     }
     Ok(all)
 }
@@ -167,11 +166,11 @@ fn has_message(
     asked: &AskedList,
     digits: &str,
 ) -> Result<(), Fail> {
-    if asked.is_empty() {
+    let Some(pair) = asked.items().first() else {
         return Err(Fail::from("nothing was asked"));
-    }
+    };
     let message = bytes(alloc, digits)?;
-    assert_eq!(rt; asked.message(0).bytes(), message.as_slice());
+    assert_eq!(rt; pair.message.bytes(), message.as_slice());
     Ok(())
 }
 
@@ -241,10 +240,10 @@ const COMPLETE: &[&str] = &["f1020102f00203040808", BITCOIN, "07"];
 /// This file, whose tree ends with the first attestation, with a path to a block beside that.
 fn completed(alloc: Global, stamped: &[u8]) -> Result<Vec<u8>, Fail> {
     let first = bytes(alloc, FIRST)?;
-    let Some(front) = stamped.strip_suffix(first.as_slice()) else {
+    let Some(prefix) = stamped.strip_suffix(first.as_slice()) else {
         return Err(Fail::from("the attestation stands at the end"));
     };
-    let mut file = Vec::from_slice(alloc, front)?;
+    let mut file = Vec::from_slice(alloc, prefix)?;
     file.push(0xff)?;
     file.extend_from_slice(&first)?;
     file.extend_from_slice(&joined(alloc, COMPLETE)?)?;
@@ -383,7 +382,8 @@ const SECOND_ANSWER: &[&str] = &["ff", BITCOIN, "05", "f2", BITCOIN, "04"];
 /// The request for the message of these digits, at this port.
 fn request(alloc: Global, port: u16, digits: &str) -> Result<String, Fail> {
     Ok(format!(in alloc;
-        "GET /timestamp/{digits} HTTP/1.1\r\nHost: 127.0.0.1:{port}\r\nAccept: application/vnd.opentimestamps.v1\r\nConnection: close\r\n\r\n"
+        "GET /timestamp/{digits} HTTP/1.1\r\nHost: 127.0.0.1:{port}\r\n\
+        Accept: application/vnd.opentimestamps.v1\r\nConnection: close\r\n\r\n"
     )?)
 }
 
@@ -410,7 +410,8 @@ fn is_requested(
 fn in_words(alloc: Global, outcomes: [&str; 3]) -> Result<String, Fail> {
     let [one, two, three] = outcomes;
     Ok(format!(in alloc;
-        "http://127.0.0.1:14788 {one};https://alice.btc.calendar.opentimestamps.org skipped;http://127.0.0.1:14789 {two};http://127.0.0.1:14788 {three};"
+        "http://127.0.0.1:14788 {one};https://alice.btc.calendar.opentimestamps.org skipped;http://\
+        127.0.0.1:14789 {two};http://127.0.0.1:14788 {three};"
     )?)
 }
 
@@ -558,7 +559,7 @@ fn is_reply_refused(
 #[test]
 fn nothing_of_a_refused_answer_is_joined(rt: HostRuntime) -> Result<(), Fail> {
     let alloc = rt.alloc();
-    // Behind one operation 255 are one too many.
+    // After one operation 255 are one too many.
     is_reply_refused(
         &rt,
         alloc,

@@ -168,12 +168,12 @@ fn payload_length(attestation: &Attestation) -> Option<usize> {
 }
 
 /// What is written before a payload of at least 128 bytes: the tag, the kind, and the length.
-fn front(out: &[u8; 8203]) -> &[u8] {
+fn prefix(out: &[u8; 8203]) -> &[u8] {
     &out[..11]
 }
 
-/// What is written behind that.
-fn behind(out: &[u8; 8203]) -> &[u8] {
+/// What is written after that.
+fn after(out: &[u8; 8203]) -> &[u8] {
     &out[11..]
 }
 
@@ -188,10 +188,10 @@ fn the_longest_payload_is_read_and_written(rt: HostRuntime) -> Result<(), Fail> 
     let mut out = [0; 8203];
     assert_eq!(rt; spell_attestation(&longest, &mut out), 8203);
     assert_eq!(rt;
-        front(&out),
+        prefix(&out),
         [0x00, 1, 2, 3, 4, 5, 6, 7, 8, 0x80, 0x40].as_slice()
     );
-    assert_eq!(rt; behind(&out), bytes.as_slice());
+    assert_eq!(rt; after(&out), bytes.as_slice());
     Ok(())
 }
 

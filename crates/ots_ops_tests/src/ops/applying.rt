@@ -14,7 +14,7 @@ fn argument(alloc: Global, count: usize) -> Result<Arg, Fail>
     Ok(Arg::new(alloc, &bytes[..count])?)
 }
 
-/// The buffer, which held the message, holds what was made of it, and behind that what it held before.
+/// The buffer, which held the message, holds what was made of it, and after that what it held before.
 fn expect_made_in(rt: &impl Abort, buffer: &[u8], message: &[u8], made: &[u8]) {
     assert_eq!(rt; buffer.get(..made.len()), Some(made));
     assert_eq!(rt; buffer.get(made.len()..), message.get(made.len()..));

@@ -138,7 +138,7 @@ fn nothing_is_not_reversed_or_hexlified(rt: HostRuntime) {
     has_lengths(&rt, &Op::Hexlify, &cases);
 }
 
-/// The operation is spelled so, and what lies behind the spelling stays.
+/// The operation is spelled so, and what lies after the spelling stays.
 fn is_spelled(rt: &impl Abort, op: &Op, want: &[u8]) {
     let mut out = [0xaa; 4099];
     let length = spell_op(op, &mut out);

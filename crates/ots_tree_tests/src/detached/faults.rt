@@ -34,7 +34,7 @@ fn a_file_cut_short_is_refused_where_it_ends(rt: HostRuntime) -> Result<(), Fail
             (start, bytes.len(), start as u64),
         ] {
             for length in from..to {
-                let cut = bytes.get(..length).ok_or("a front")?;
+                let cut = bytes.get(..length).ok_or("a prefix")?;
                 assert_eq!(rt;
                     refusal_of(rt.alloc(), cut),
                     bad(place, Reason::Truncated),

@@ -94,7 +94,7 @@ fn a_file_of_the_greatest_length_is_taken_in_any_cut(rt: HostRuntime) -> Result<
 }
 
 #[test]
-fn a_write_that_fails_leaves_a_front(rt: HostRuntime) -> Result<(), Fail> {
+fn a_write_that_fails_leaves_a_prefix(rt: HostRuntime) -> Result<(), Fail> {
     let bytes = joined(rt.alloc(), &[(SHA256, 1), (BLOCK_0, 1)])?;
     let proof = read_bytes(rt.alloc(), &bytes).map_err(|_| Fail::from("a proof"))?;
     // The writes that fail, and how many bytes the sink takes then.

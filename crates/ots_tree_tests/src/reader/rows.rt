@@ -21,7 +21,7 @@ pub fn joined(alloc: Global, parts: &[Part]) -> Result<Vec<u8>, Fail> {
     Ok(bytes)
 }
 
-/// The tree at the front of the bytes below a message of this length and these operations.
+/// The tree at the start of the bytes below a message of this length and these operations.
 pub fn read(
     alloc: Global,
     length: u32,

@@ -117,9 +117,9 @@ fn sound_trees_are_taken_to_their_end_and_written_back(rt: HostRuntime) -> Resul
     let alloc = rt.alloc();
     for (length, depth, parts) in TREES {
         let tree_bytes = joined(alloc, parts)?;
-        for behind in [b"".as_slice(), b"\x99".as_slice(), b"\xff\xff".as_slice()] {
+        for after in [b"".as_slice(), b"\x99".as_slice(), b"\xff\xff".as_slice()] {
             let mut bytes = joined(alloc, parts)?;
-            bytes.extend_from_slice(behind)?;
+            bytes.extend_from_slice(after)?;
             let Ok((tree, used)) = read(alloc, length, depth, &bytes) else {
                 return Err(Fail::from("a sound tree is refused"));
             };

@@ -10,14 +10,14 @@ fn attested(alloc: Global, height: u64) -> Result<Tree, Fail> {
     Ok(single(alloc, &[], Attestation::Bitcoin(height))?)
 }
 
-/// A pending attestation and behind it one of the height 7, in one node.
+/// A pending attestation and after it one of the height 7, in one node.
 fn two_items(alloc: Global) -> Result<Tree, Fail> {
     let first = single(alloc, &[], pending(alloc)?)?;
     Ok(beside(first, attested(alloc, 7)?)?)
 }
 
-/// A pending attestation behind an append, a reversal and a SHA-256.
-fn behind_three(alloc: Global) -> Result<Tree, Fail> {
+/// A pending attestation after an append, a reversal and a SHA-256.
+fn after_three(alloc: Global) -> Result<Tree, Fail> {
     let ops = [
         Op::Append(Arg::new(alloc, b"\xaa\xbb")?),
         Op::Reverse,
@@ -29,7 +29,7 @@ fn behind_three(alloc: Global) -> Result<Tree, Fail> {
 #[test]
 fn a_single_path_has_its_operations_in_order(rt: HostRuntime) -> Result<(), Fail> {
     let alloc = rt.alloc();
-    let tree = behind_three(alloc)?;
+    let tree = after_three(alloc)?;
     expect(
         &rt,
         alloc,
@@ -76,7 +76,7 @@ fn beside_keeps_the_forks_of_the_second(rt: HostRuntime) -> Result<(), Fail> {
     expect(&rt, alloc, tree, parts, &[0, 0, 0, 0, 0])
 }
 
-/// An attestation, and beside it two items behind an operation.
+/// An attestation, and beside it two items after an operation.
 fn with_forks_below(alloc: Global) -> Result<Tree, Fail> {
     let below = under(alloc, &[Op::Sha256], two_items(alloc)?)?;
     Ok(beside(attested(alloc, 0)?, below)?)

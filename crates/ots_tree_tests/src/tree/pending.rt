@@ -10,15 +10,18 @@ use std::test::Fail;
 
 /// The SHA-256 digest of `Hello World!` and a line feed.
 const DIGEST: &[u8] =
-    b"\x03\xba\x20\x4e\x50\xd1\x26\xe4\x67\x4c\x00\x5e\x04\xd8\x2e\x84\xc2\x13\x66\x78\x0a\xf1\xf4\x3b\xd5\x4a\x37\x81\x6b\x6a\xb3\x40";
+    b"\x03\xba\x20\x4e\x50\xd1\x26\xe4\x67\x4c\x00\x5e\x04\xd8\x2e\x84\xc2\x13\x66\x78\x0a\xf1\xf4\
+    \x3b\xd5\x4a\x37\x81\x6b\x6a\xb3\x40";
 
 /// That of this digest and a byte 1, as another implementation of SHA-256 gives it.
 const WITH_NONCE: &[u8] =
-    b"\x09\x3b\xda\x9f\xb6\x28\x41\x00\x73\x8b\x51\xc3\x63\x11\x4b\x62\x69\xfb\x90\x5d\x69\xf7\xf5\x71\x42\xa5\xf3\x6f\x98\xcb\xed\x15";
+    b"\x09\x3b\xda\x9f\xb6\x28\x41\x00\x73\x8b\x51\xc3\x63\x11\x4b\x62\x69\xfb\x90\x5d\x69\xf7\xf5\
+    \x71\x42\xa5\xf3\x6f\x98\xcb\xed\x15";
 
 /// The bytes of the digest in opposite order.
 const REVERSED: &[u8] =
-    b"\x40\xb3\x6a\x6b\x81\x37\x4a\xd5\x3b\xf4\xf1\x0a\x78\x66\x13\xc2\x84\x2e\xd8\x04\x5e\x00\x4c\x67\xe4\x26\xd1\x50\x4e\x20\xba\x03";
+    b"\x40\xb3\x6a\x6b\x81\x37\x4a\xd5\x3b\xf4\xf1\x0a\x78\x66\x13\xc2\x84\x2e\xd8\x04\x5e\x00\x4c\
+    \x67\xe4\x26\xd1\x50\x4e\x20\xba\x03";
 
 /// The proof of the digest with this tree.
 fn proof_of(rt: &impl Abort, tree: Tree) -> Result<Detached, Fail> {
@@ -47,14 +50,14 @@ fn one_pending(alloc: Global) -> Result<Tree, Fail> {
     Ok(single(alloc, &[], pending(alloc)?)?)
 }
 
-/// A pending attestation behind a nonce.
-fn behind_nonce(alloc: Global) -> Result<Tree, Fail> {
+/// A pending attestation after a nonce.
+fn after_nonce(alloc: Global) -> Result<Tree, Fail> {
     let nonce = [Op::Append(Arg::new(alloc, b"\x01")?), Op::Sha256];
     Ok(single(alloc, &nonce, pending(alloc)?)?)
 }
 
-/// A pending attestation and one of Litecoin, behind a reversal.
-fn behind_reversal(alloc: Global) -> Result<Tree, Fail> {
+/// A pending attestation and one of Litecoin, after a reversal.
+fn after_reversal(alloc: Global) -> Result<Tree, Fail> {
     let complete = single(alloc, &[Op::Hexlify], Attestation::Litecoin(0))?;
     let branches = beside(one_pending(alloc)?, complete)?;
     Ok(under(alloc, &[Op::Reverse], branches)?)
@@ -63,8 +66,8 @@ fn behind_reversal(alloc: Global) -> Result<Tree, Fail> {
 /// Five paths, of which the first, the third and the last are pending.
 fn five_paths(alloc: Global) -> Result<Tree, Fail> {
     let second = single(alloc, &[], Attestation::Bitcoin(7))?;
-    let tree = beside(behind_nonce(alloc)?, second)?;
-    let tree = beside(tree, behind_reversal(alloc)?)?;
+    let tree = beside(after_nonce(alloc)?, second)?;
+    let tree = beside(tree, after_reversal(alloc)?)?;
     Ok(beside(tree, one_pending(alloc)?)?)
 }
 
@@ -98,8 +101,8 @@ fn many_pending(alloc: Global, count: u64) -> Result<Tree, Fail> {
     Ok(tree)
 }
 
-/// 5,000 pending attestations, behind an append that makes the longest message.
-fn behind_longest(alloc: Global) -> Result<Tree, Fail> {
+/// 5,000 pending attestations, after an append that makes the longest message.
+fn after_longest(alloc: Global) -> Result<Tree, Fail> {
     let longest = [append(alloc, 4064)?];
     Ok(under(alloc, &longest, many_pending(alloc, 5_000)?)?)
 }
@@ -115,7 +118,7 @@ fn expect_last(rt: &impl Abort, last: &PendingAt) {
 #[test]
 fn many_paths_are_pending_on_one_long_message(rt: HostRuntime) -> Result<(), Fail> {
     let alloc = rt.alloc();
-    let proof = proof_of(&rt, behind_longest(alloc)?)?;
+    let proof = proof_of(&rt, after_longest(alloc)?)?;
     let found = pending_messages(alloc, &proof)?;
     assert_eq!(rt; found.len(), 5_000);
     expect_last(&rt, &found[4_999]);

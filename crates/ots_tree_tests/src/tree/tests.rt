@@ -170,7 +170,7 @@ fn a_fork_below_an_operation_stays_below_it(rt: HostRuntime) -> Result<(), Fail>
     )
 }
 
-/// Two branches, and behind them a path of three operations.
+/// Two branches, and after them a path of three operations.
 fn add_branches(alloc: Global, tokens: &mut TreeBuilder) -> Result<(), Fail>
     requires { WantsNode tokens.old }
     ensures { OnOk result (WantsNode tokens.new) }
@@ -183,7 +183,7 @@ fn add_branches(alloc: Global, tokens: &mut TreeBuilder) -> Result<(), Fail>
 }
 
 #[test]
-fn behind_a_branch_the_depth_is_that_of_its_fork(rt: HostRuntime) -> Result<(), Fail> {
+fn after_a_branch_the_depth_is_that_of_its_fork(rt: HostRuntime) -> Result<(), Fail> {
     let alloc = rt.alloc();
     let mut tokens = begin(alloc);
     add_operation(&mut tokens, Op::Reverse)?;
@@ -253,8 +253,8 @@ fn two_operations(alloc: Global, first: Op, second: Op) -> Result<Tree, Fail> {
     end(tokens, Attestation::Bitcoin(0))
 }
 
-/// The operation behind an append of so many bytes is sound or not.
-fn expect_behind(
+/// The operation after an append of so many bytes is sound or not.
+fn expect_after(
     rt: &impl Abort,
     alloc: Global,
     count: usize,
@@ -271,10 +271,10 @@ fn expect_behind(
 #[test]
 fn each_result_is_held_to_its_length(rt: HostRuntime) -> Result<(), Fail> {
     let alloc = rt.alloc();
-    expect_behind(&rt, alloc, 2016, Op::Hexlify, true)?;
-    expect_behind(&rt, alloc, 2017, Op::Hexlify, false)?;
-    expect_behind(&rt, alloc, 4064, Op::Reverse, true)?;
-    expect_behind(&rt, alloc, 4065, Op::Reverse, false)
+    expect_after(&rt, alloc, 2016, Op::Hexlify, true)?;
+    expect_after(&rt, alloc, 2017, Op::Hexlify, false)?;
+    expect_after(&rt, alloc, 4064, Op::Reverse, true)?;
+    expect_after(&rt, alloc, 4065, Op::Reverse, false)
 }
 
 /// Two paths of one operation each.
@@ -309,8 +309,8 @@ fn each_path_counts_from_its_own_fork(rt: HostRuntime) -> Result<(), Fail> {
     expect_paths(&rt, alloc, 4000, 4065, false)
 }
 
-/// The sink, which fails, takes a front of the text that the tree is spelled in.
-fn expect_front(rt: &impl Abort, tree: &Tree, sink: &mut BytesSink, text: &[u8]) {
+/// The sink, which fails, takes a prefix of the text that the tree is spelled in.
+fn expect_prefix(rt: &impl Abort, tree: &Tree, sink: &mut BytesSink, text: &[u8]) {
     assert_eq!(rt; spell_to(tree, sink), Err(WriteFault));
     assert!(rt; text.starts_with(sink.bytes()));
 }
@@ -332,19 +332,19 @@ fn a_wide_tree_is_written_in_large_pieces(rt: HostRuntime) -> Result<(), Fail> {
     expect_wide(&rt, &tree, whole.bytes());
     // Of 49 writes the last but one fails.
     let mut sink = BytesSink::new(alloc, 2_000_000, &[48])?;
-    expect_front(&rt, &tree, &mut sink, whole.bytes());
+    expect_prefix(&rt, &tree, &mut sink, whole.bytes());
     assert!(rt; sink.bytes().len() >= 47 * 24_566);
     Ok(())
 }
 
 /// The sink, which fails, has taken so many whole pieces of the text then.
 fn expect_pieces(rt: &impl Abort, tree: &Tree, mut sink: BytesSink, text: &[u8], pieces: usize) {
-    expect_front(rt, tree, &mut sink, text);
+    expect_prefix(rt, tree, &mut sink, text);
     assert_eq!(rt; sink.bytes().len() / 24_566, pieces);
 }
 
 #[test]
-fn a_sink_that_fails_has_taken_a_front(rt: HostRuntime) -> Result<(), Fail> {
+fn a_sink_that_fails_has_taken_a_prefix(rt: HostRuntime) -> Result<(), Fail> {
     let alloc = rt.alloc();
     let tree = wide(alloc, 5_000)?;
     let whole = spelled(alloc, &tree)?;

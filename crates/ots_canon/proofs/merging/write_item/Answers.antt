@@ -15,14 +15,14 @@ slice_bounds-common_steps-end c =
 pub common_steps-steps-requires-clause-alike : goal.common_steps-steps-requires-clause-alike
 common_steps-steps-requires-clause-alike c = rw c.deref-2.ensures.value (run_chain (run_facts (rw c.deref.ensures.value at c.run_end-end.ensures) c.requires.frame.items))
 
-pub slice_bounds-items_behind-end : goal.slice_bounds-items_behind-end
-slice_bounds-items_behind-end c =
+pub slice_bounds-items_after-end : goal.slice_bounds-items_after-end
+slice_bounds-items_after-end c =
     let within = c.run_end-end.ensures.within in
     let l : c.run_end-end.result ≤ length c.deref-3.result.now = rw c.deref-3.ensures.value (rw c.deref.ensures.value at within) in
     search rules
 
-pub items_behind-requires-clause-items : goal.items_behind-requires-clause-items
-items_behind-requires-clause-items c =
+pub items_after-requires-clause-items : goal.items_after-requires-clause-items
+items_after-requires-clause-items c =
     let facts = run_facts (rw c.deref.ensures.value at c.run_end-end.ensures) c.requires.frame.items in
     rw c.deref-3.ensures.value (chain_items c.common_steps-steps.result _ c.requires.ends facts (rw c.deref-2.ensures.value at c.common_steps-steps.ensures))
 
@@ -59,6 +59,6 @@ returns c =
     on_ok c.open_some.result _ _
     (λ o. writes
     c.requires.limits c.requires.ends c.requires.frame
-    (record { is_end = run; chain = rw c.deref-2.ensures.value at c.common_steps-steps.ensures; are_behind = rw c.deref-3.ensures.value at c.in_ok-behind.ensures }) c.in_ok-leave.ensures
+    (record { is_end = run; chain = rw c.deref-2.ensures.value at c.common_steps-steps.ensures; are_after = rw c.deref-3.ensures.value at c.in_ok-after.ensures }) c.in_ok-leave.ensures
     (rw (n, e) at c.in_ok-write_line.ensures) o)
     c.open_some.ensures

@@ -12,8 +12,8 @@ first_leading-requires c = rw (c.deref-in-loop-first.ensures.value, c.deref-in-l
 pub run_of-requires : goal.run_of-requires
 run_of-requires c = rw (c.deref-in-Some.ensures.value, c.deref-in-Some-2.ensures.value) (within_marks c.loop-first.items.items c.loop-first.invariant.items c.in_ok-leads.ensures)
 
-pub items_behind-requires-clause-items : goal.items_behind-requires-clause-items
-items_behind-requires-clause-items c =
+pub items_after-requires-clause-items : goal.items_after-requires-clause-items
+items_after-requires-clause-items c =
     rw (c.deref-in-Some-4.ensures.value, shifted_none c.in_ok-run.run'.items)
     (run_items c.args.tokens.now c.in_ok-leads.leads.items c.in-Some.first c.loop-first.items.items c.in_ok-run.run'.items
     (rw (c.deref-in-Some.ensures.value, c.deref-in-Some-2.ensures.value) at c.in_ok-run.ensures) c.loop-first.invariant.items)
@@ -24,7 +24,7 @@ loop-first-smaller c =
       items = c.loop-first.invariant.items;
       marks = c.in_ok-leads.ensures;
       is_first = rw (c.deref-in-loop-first.ensures.value, c.deref-in-loop-first-2.ensures.value) at c.in-Some.ensures;
-      are_behind = rw (c.deref-in-Some-3.ensures.value, c.deref-in-Some-4.ensures.value, shifted_none c.in_ok-run.run'.items, c.in_ok-run.ensures, c.deref-in-Some.ensures.value, c.deref-in-Some-2.ensures.value) at c.in_ok-items.ensures;
+      are_after = rw (c.deref-in-Some-3.ensures.value, c.deref-in-Some-4.ensures.value, shifted_none c.in_ok-run.run'.items, c.in_ok-run.ensures, c.deref-in-Some.ensures.value, c.deref-in-Some-2.ensures.value) at c.in_ok-items.ensures;
     })
 
 pub loop-first-preserved : goal.loop-first-preserved
@@ -33,7 +33,7 @@ loop-first-preserved c =
       items = c.loop-first.invariant.items;
       marks = c.in_ok-leads.ensures;
       is_first = rw (c.deref-in-loop-first.ensures.value, c.deref-in-loop-first-2.ensures.value) at c.in-Some.ensures;
-      are_behind = rw (c.deref-in-Some-3.ensures.value, c.deref-in-Some-4.ensures.value, shifted_none c.in_ok-run.run'.items, c.in_ok-run.ensures, c.deref-in-Some.ensures.value, c.deref-in-Some-2.ensures.value) at c.in_ok-items.ensures;
+      are_after = rw (c.deref-in-Some-3.ensures.value, c.deref-in-Some-4.ensures.value, shifted_none c.in_ok-run.run'.items, c.in_ok-run.ensures, c.deref-in-Some.ensures.value, c.deref-in-Some-2.ensures.value) at c.in_ok-items.ensures;
     }) c.loop-first.invariant
 
 pub returns-in-Attestation : goal.returns-in-Attestation

@@ -1,7 +1,7 @@
 use Rattle.std.proofs.Common.{◌≡◌, ◌+◌, ◌-◌, ◌≤◌, ◌∙◌, sym, subst, ap, arith}
 use Rattle.std.proofs.Common.{Some, None, IsTrue, inl, inr}
-use Rattle.ots_bitcoin.specs.DoubleSha256.{double_sha256}
-use Rattle.ots_bitcoin.specs.HeaderTable.{header_at}
+use Rattle.ots_headers.specs.DoubleSha256.{double_sha256}
+use Rattle.ots_headers.specs.HeaderTable.{header_at}
 use Rattle.ots_chain.specs.Chain.{IsTip, IsLinked, FaultOf, MeetsTarget, HasFaultAt, hash_of}
 use Rattle.ots_chain.proofs.Heights.{end_of_table, within_table, one_more, same_bytes}
 use Rattle.ots_chain.proofs.checking.check.Goals as goal

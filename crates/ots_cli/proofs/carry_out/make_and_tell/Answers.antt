@@ -1,6 +1,6 @@
 use Rattle.std.proofs.Common.{inl, inr, rules}
 use Rattle.ots_detached.specs.File.{file_of}
-use Rattle.ots_cli.specs.declared.output.OutputError.TheVariants as output
+use Rattle.ots_outputs.specs.declared.output.OutputError.TheVariants as output
 use Rattle.ots_cli.proofs.Carrying.{as_said, made_then}
 use Rattle.ots_cli.proofs.carry_out.make_and_tell.Goals as goal
 

@@ -1,6 +1,6 @@
 use Rattle.std.proofs.Common.{[], ap}
 use Rattle.ots_cli.specs.Answer.{Completes, Merges, PrintsInfo, WithProof, WritesOf, is_given, is_list, is_refused}
-use Rattle.ots_words.specs.Words.{read_as, read_verification}
+use Rattle.ots_client_words.specs.Words.{read_as, read_verification}
 use Rattle.ots_cli.specs.Rewritten.{IsRewritten}
 use Rattle.ots_cli.specs.declared.rewriting.Rewriting.TheVariants.{Canon, Prune}
 use Rattle.ots_cli.proofs.Gathering.{handed_on, list_refused, of_command, reads_as, reads_none, stop_as, stops_reading, then_reads}

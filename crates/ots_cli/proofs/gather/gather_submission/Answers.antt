@@ -4,7 +4,8 @@ use Rattle.ots_cli.specs.Found.{AreHashed}
 use Rattle.ots_cli.specs.Gathered.{Reads}
 use Rattle.ots_cli.specs.Answer.{RefusesOne, WithHashes, are_hashed, is_list, one_refused}
 use Rattle.ots_cli.specs.Stamping.{Stamps}
-use Rattle.ots_words.specs.Words.{read_stamping, texts}
+use Rattle.ots_arguments.specs.Values.{texts}
+use Rattle.ots_client_words.specs.Words.{read_stamping}
 use Rattle.ots_cli.proofs.Gathering.{handed_on, list_refused, reads_into, stop_as, stop_into}
 use Rattle.ots_cli.proofs.gather.gather_submission.Goals as goal
 

@@ -1,10 +1,10 @@
 use Rattle.std.proofs.Common.{inl, inr, ◌∙◌}
 use Rattle.ots_cli.specs.Answer.{PrintsVerdict, VerifiesBy, VerifiesProof, VerifiesTarget, is_given, is_refused}
-use Rattle.ots_words.specs.Words.{read_verification}
+use Rattle.ots_client_words.specs.Words.{read_verification}
 use Rattle.ots_cli.specs.Opened.{names_of}
 use Rattle.ots_cli.proofs.Gathering.{handed_on, perhaps_given, perhaps_refused, reads_none, runs_short, stops_reading, then_reads}
-use Rattle.ots_cli.proofs.Opened.{front_of_more, then_opened}
-use Rattle.ots_cli.proofs.Short.{checked_by, hashed_by, ran_same, rose_from, whole_front}
+use Rattle.ots_inputs.proofs.Opened.{prefix_of_more, then_opened}
+use Rattle.ots_cli.proofs.Short.{checked_by, hashed_by, ran_same, rose_from, whole_prefix}
 use Rattle.ots_cli.proofs.gather.gather_verdict.Goals as goal
 
 pub returns-in_err-bitcoin-clause-reads : goal.returns-in_err-bitcoin-clause-reads
@@ -12,7 +12,7 @@ returns-in_err-bitcoin-clause-reads g c = handed_on _ c.from_residual.ensures.1
     (stops_reading _ (λ e h. is_refused h) c.in_err-bitcoin.ensures)
 
 pub returns-in_err-bitcoin-clause-bounded : goal.returns-in_err-bitcoin-clause-bounded
-returns-in_err-bitcoin-clause-bounded g c = λ ran. inl (front_of_more _ (names_of (read_verification c.args.verification).litecoin) _ _ c.in_err-bitcoin.ensures.front)
+returns-in_err-bitcoin-clause-bounded g c = λ ran. inl (prefix_of_more _ (names_of (read_verification c.args.verification).litecoin) _ _ c.in_err-bitcoin.ensures.prefix)
 
 pub returns-in_err-litecoin-clause-reads : goal.returns-in_err-litecoin-clause-reads
 returns-in_err-litecoin-clause-reads g c = handed_on _ c.from_residual-in_err-litecoin.ensures.1
@@ -20,7 +20,7 @@ returns-in_err-litecoin-clause-reads g c = handed_on _ c.from_residual-in_err-li
     (stops_reading _ (λ e h. perhaps_refused _ (read_verification c.args.verification).litecoin (VerifiesProof _ (read_verification c.args.verification) c.in_ok-bitcoin.bitcoin) e h) c.in_err-litecoin.ensures))
 
 pub returns-in_err-litecoin-clause-bounded : goal.returns-in_err-litecoin-clause-bounded
-returns-in_err-litecoin-clause-bounded g c = λ ran. inl (then_opened _ _ _ _ _ c.in_ok-bitcoin.ensures.opened c.in_err-litecoin.ensures.front)
+returns-in_err-litecoin-clause-bounded g c = λ ran. inl (then_opened _ _ _ _ _ c.in_ok-bitcoin.ensures.opened c.in_err-litecoin.ensures.prefix)
 
 pub returns-in_err-verifier-clause-reads : goal.returns-in_err-verifier-clause-reads
 returns-in_err-verifier-clause-reads g c =
@@ -29,7 +29,7 @@ returns-in_err-verifier-clause-reads g c =
     (runs_short _ c.from_residual-in_err-verifier.ensures.1))
 
 pub returns-in_err-verifier-clause-bounded : goal.returns-in_err-verifier-clause-bounded
-returns-in_err-verifier-clause-bounded g c = λ ran. inl (then_opened _ _ _ _ _ c.in_ok-bitcoin.ensures.opened (whole_front _ _ _ c.in_ok-litecoin.ensures.opened))
+returns-in_err-verifier-clause-bounded g c = λ ran. inl (then_opened _ _ _ _ _ c.in_ok-bitcoin.ensures.opened (whole_prefix _ _ _ c.in_ok-litecoin.ensures.opened))
 
 pub returns-in_err-checked-clause-reads : goal.returns-in_err-checked-clause-reads
 returns-in_err-checked-clause-reads g c = handed_on _ c.from_residual-in_err-checked.ensures.1

@@ -1,7 +1,8 @@
 use Rattle.std.proofs.Common.{ℕ, List, [], length, take, drop, ap, subst, ◌+◌, ◌∙◌}
 use Rattle.std.proofs.lemmas.List.{length-map, take_all}
+use Rattle.ots_ops.proofs.AppliedLength.{length_of_hashed}
 use Rattle.ots_ops.specs.declared.hash_op.HashOp.TheVariants.{Sha256}
-use Rattle.ots_words.specs.Words.{texts}
+use Rattle.ots_arguments.specs.Values.{texts}
 use Rattle.ots_cli.proofs.Gathering.{handed_on, reads_as, reads_none}
 use Rattle.ots_cli.proofs.Hashed.{Hashes, all_texts, are_sha256, as_many, first_texts, hashes_next, hashes_short, hashes_stop}
 use Rattle.ots_cli.proofs.hashing.hash_targets.Goals as goal
@@ -32,4 +33,4 @@ returns-clause-each g c =
     ∙ ap length (take_all c.loop-name.name-index c.args.names.now c.loop-name-test.false)
 
 pub returns-clause-sha256 : goal.returns-clause-sha256
-returns-clause-sha256 g c = are_sha256 _ _ c.loop-name.digests.items (λ m. c.lengths_of_results.ensures.digests Sha256 m) c.loop-name.invariant.given
+returns-clause-sha256 g c = are_sha256 _ _ c.loop-name.digests.items (λ m. length_of_hashed Sha256 m) c.loop-name.invariant.given

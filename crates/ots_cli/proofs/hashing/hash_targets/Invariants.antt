@@ -1,5 +1,5 @@
 use Rattle.std.proofs.Common.{take}
-use Rattle.ots_words.specs.Words.{texts}
+use Rattle.ots_arguments.specs.Values.{texts}
 use Rattle.ots_cli.proofs.Hashed.{Hashes}
 use Rattle.ots_cli.proofs.hashing.hash_targets.Given as goal
 

@@ -1,4 +1,4 @@
-use Rattle.ots_words.specs.Words.{asked}
+use Rattle.ots_client_words.specs.Words.{asked}
 use Rattle.ots_cli.proofs.Asked.{nothing}
 use Rattle.ots_cli.proofs.Gathering.{end_of_command, usage_ends}
 use Rattle.ots_cli.proofs.Short.{bounds_none, bounds_refused}

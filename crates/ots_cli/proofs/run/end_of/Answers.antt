@@ -3,7 +3,7 @@ use Rattle.ots_cli.specs.Asking.{alone}
 use Rattle.ots_cli.proofs.Asked.{asks_none, asks_of, draws_none, draws_of, nothing}
 use Rattle.ots_cli.proofs.Gathering.{decided_ends, ran_out, refusal_ends, refused_alone}
 use Rattle.ots_cli.proofs.Short.{bounds_decided, bounds_refused, bounds_stopped, no_status}
-use Rattle.ots_words.specs.Words.{read_as}
+use Rattle.ots_client_words.specs.Words.{read_as}
 use Rattle.ots_cli.proofs.run.end_of.Goals as goal
 
 pub returns-in-Ok-clause-ends : goal.returns-in-Ok-clause-ends

@@ -7,6 +7,7 @@ use Rattle.ots_cli.proofs.Sampled.{is_sampled}
 use Rattle.ots_cli.proofs.Taken.{are_taken}
 use Rattle.ots_cli.proofs.Short.{bounded_end, verdict_told}
 use Rattle.ots_cli.proofs.Yes.{done_exactly}
+use Rattle.ots_sample.proofs.Yes.{always_yes}
 use Rattle.ots_cli.proofs.run.run_client.Goals as goal
 
 pub returns-in-Ok-clause-faults : goal.returns-in-Ok-clause-faults
@@ -56,7 +57,7 @@ returns-in-Err-clause-bounded g c = λ v asks ran. bounded_end _ v _ _ _ asks c.
 
 pub returns-in-Ok-clause-samples : goal.returns-in-Ok-clause-samples
 returns-in-Ok-clause-samples g c = λ n asks.
-    is_sampled _ c.verdict_of_sample.ensures _ n _ _ _ _ _ _ _ _ _ _ _ _ asks (run_ends _ _ _ _ _ _ _ _ _ _ _ _ _ c.in-Ok.ensures.ends c.carry_out.ensures.ending)
+    is_sampled _ always_yes _ n _ _ _ _ _ _ _ _ _ _ _ _ asks (run_ends _ _ _ _ _ _ _ _ _ _ _ _ _ c.in-Ok.ensures.ends c.carry_out.ensures.ending)
 
 pub returns-in-Err-clause-samples : goal.returns-in-Err-clause-samples
 returns-in-Err-clause-samples g c = λ n asks. inr (inr refl)

@@ -1,4 +1,4 @@
-use Rattle.ots_printer.proofs.Pieces.{all_taken, front_taken}
+use Rattle.ots_printer.proofs.Pieces.{all_taken, prefix_taken}
 use Rattle.ots_cli.proofs.text.put_all.Goals as goal
 
 pub returns-in-Ok-clause-printed : goal.returns-in-Ok-clause-printed
@@ -12,5 +12,5 @@ pub returns-in-Err-clause-printed : goal.returns-in-Err-clause-printed
 returns-in-Err-clause-printed g c = (
   c.put_text.ensures.put.0,
   c.put_text.ensures.put.1,
-  front_taken c.put_text.ensures.put.2 c.finish.ensures.puts g.met.K.Sink.same_trans c.requires.empty c.requires.good c.in-Err.ensures.failed,
+  prefix_taken c.put_text.ensures.put.2 c.finish.ensures.puts g.met.K.Sink.same_trans c.requires.empty c.requires.good c.in-Err.ensures.failed,
 )

@@ -1,6 +1,6 @@
-use Rattle.ots_cli.specs.CarriedOut.{SinkStays}
 use Rattle.ots_cli.proofs.Acts.{MadeSoFar}
 use Rattle.ots_cli.proofs.write_stamps.make_each.Given as goal
+use Rattle.ots_outputs.specs.Printed.{SinkStays}
 
 -- The proofs of the first files were made.
 abbrev pub invariant-loop-i : goal.invariant-loop-i

@@ -38,12 +38,12 @@ returns-then-count-eq0-clause-calls g c =
     let so_far : length (joined inv.7.0) ≡ f = ap length inv.7.2 ∙ length-take-le f c.loop-filled.buf inv.0 in
     let none : n ≡ 0 = search rules in
     let buf = c.loop-filled.buf in
-    let front : take f (put_mid f (length buf - f) buf c.read_some.new.buf) ≡ take f buf = take-put_mid_below f (length buf - f) buf c.read_some.new.buf f (omega arith) inv.0 in
+    let prefix : take f (put_mid f (length buf - f) buf c.read_some.new.buf) ≡ take f buf = take-put_mid_below f (length buf - f) buf c.read_some.new.buf f (omega arith) inv.0 in
     let same : joined inv.7.0 ++ part ≡ take f buf = ap (λ (l : List ℕ). l ++ part) inv.7.2 ∙ ap (λ (m : ℕ). take f buf ++ take m c.read_some.new.buf) none ∙ append-nil (take f buf) in
     rw c.in_ok-count.ensures.noted (
       part ∷ inv.7.0,
       more_reads c.args.place (length c.loop-filled.buf) _ old mid inv.7.0 part f c.saturating_add.result asked true c.saturating_add.ensures left (search (rules, places)) inv.7.1 so_far,
-      same ∙ sym front,
+      same ∙ sym prefix,
       inr (ap (λ (m : ℕ). take m c.read_some.new.buf) none),
     )
 

@@ -10,7 +10,7 @@ invariant-loop-at g l =
     record {
       least : l.fn.filled ≤ l.at;
       most : l.at ≤ max l.fn.filled l.end;
-      front : take l.fn.filled l.buffer ≡ take l.fn.filled l.fn.buffer;
+      prefix : take l.fn.filled l.buffer ≡ take l.fn.filled l.fn.buffer;
       gives : BothTold (LinkGives (drop l.fn.filled (take l.at l.buffer))) (link.told l.fn.link) (link.told l.link);
       later : link.faults l.fn.link ≤ link.faults l.link;
       same : link.same l.fn.link l.link;

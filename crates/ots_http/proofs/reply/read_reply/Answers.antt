@@ -10,7 +10,7 @@ returns-then-head-ne200-clause-answer g c =
 
 pub returns-else-head-ne200-clause-answer : goal.returns-else-head-ne200-clause-answer
 returns-else-head-ne200-clause-answer g c =
-    found_body _ _ _ _ _ _ _ _ (rw c.in-Head.is at c.in_ok-read_reply_head.ensures.head) c.read_reply_head.auto.fields c.if-head-ne200.false c.reply_length-stated.ensures.stated c.read_body.ensures.answer
+    found_body _ _ _ _ _ _ _ _ (rw c.in-Head.is at c.in_ok-read_reply_head.ensures.head) c.read_reply_head.auto.fields c.if-head-ne200.false c.body_length-stated.ensures.stated c.read_body.ensures.answer
 
 pub returns-else-head-ne200-clause-came : goal.returns-else-head-ne200-clause-came
 returns-else-head-ne200-clause-came g c = at_most_both MAX_HEAD (MAX_REPLY_BODY + 1) _ _ _ c.read_reply_head.ensures.came c.read_body.ensures.came

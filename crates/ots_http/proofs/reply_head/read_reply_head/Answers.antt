@@ -18,7 +18,7 @@ loop-filled-init g c = record {
 
 pub parse_new-requires-clause-blank : goal.parse_new-requires-clause-blank
 parse_new-requires-clause-blank g c =
-    blank_more c.loop-filled.begun c.has_begun-begun.result c.loop-filled.buffer c.read_after.new.buffer c.loop-filled.filled c.in_ok-count.count c.in_ok-count.ensures.more.front
+    blank_more c.loop-filled.begun c.has_begun-begun.result c.loop-filled.buffer c.read_after.new.buffer c.loop-filled.filled c.in_ok-count.count c.in_ok-count.ensures.more.prefix
     c.loop-filled.invariant.blank c.has_begun-begun.ensures
 
 pub loop-filled-preserved : goal.loop-filled-preserved
@@ -28,7 +28,7 @@ loop-filled-preserved g c =
       fits = c.in_ok-count.ensures.more.within;
       gives = gives_more _ _ _ _ _ _ _ _ c.loop-filled.invariant.gives c.in_ok-count.ensures.more;
       none = rw c.in-Ok-Partial.field-0-is at c.in-Ok-Partial.ensures.partial;
-      blank = blank_more c.loop-filled.begun c.has_begun-begun.result c.loop-filled.buffer c.read_after.new.buffer c.loop-filled.filled c.in_ok-count.count c.in_ok-count.ensures.more.front
+      blank = blank_more c.loop-filled.begun c.has_begun-begun.result c.loop-filled.buffer c.read_after.new.buffer c.loop-filled.filled c.in_ok-count.count c.in_ok-count.ensures.more.prefix
           c.loop-filled.invariant.blank c.has_begun-begun.ensures;
       later = search rules;
       same = search rules;

@@ -6,7 +6,7 @@ use Rattle.ots_http.specs.LineEnds.{IsBlank}
 use Rattle.ots_http.specs.declared.limits.TheConstants.{MAX_HEAD}
 use Rattle.ots_http.proofs.reply_head.read_reply_head.Given as goal
 
--- What came stands at the front of the buffer, no prefix of it is a head, and until one begins it is blank.
+-- What came stands at the start of the buffer, no prefix of it is a head, and until one begins it is blank.
 abbrev pub invariant-loop-filled : goal.invariant-loop-filled
 invariant-loop-filled g l =
     let link = g.L.Link in

@@ -1,6 +1,7 @@
 use Rattle.std.proofs.Common.{◌≡◌, ◌≤◌, ℕ, List, [], inl, length, sym, ◌∙◌, ap, subst, arith, Some}
 use Rattle.std.proofs.lemmas.List.{length-take-le}
 use Rattle.ots_disk.specs.Moments.{joined, if_told}
+use Rattle.ots_journal.specs.declared.limits.TheConstants.{EMPTY_JOURNAL}
 use Rattle.ots_journal.specs.Image.{Stands}
 use Rattle.ots_journal.specs.Opening.{FoundTo, IsGate}
 use Rattle.ots_journal.specs.Stored.{entries_at}
@@ -14,7 +15,7 @@ use Rattle.ots_journal.proofs.opening.find_journal.Goals as goal
 pub returns-then-length-le-EMPTY_JOURNAL-clause-keeps : goal.returns-then-length-le-EMPTY_JOURNAL-clause-keeps
 returns-then-length-le-EMPTY_JOURNAL-clause-keeps g c =
     let d = g.D.Disk in
-    let short : (b : List ℕ) → d.bytes c.settled_length.new.disk ≡ Some b → length b ≤ 9 =
+    let short : (b : List ℕ) → d.bytes c.settled_length.new.disk ≡ Some b → length b ≤ EMPTY_JOURNAL =
     λ b is. omega (arith, told_at (d.bytes c.args.disk.now) _ b (sym c.settled_length.ensures.same ∙ is) c.in_ok-length.ensures.length, c.if-length-le-EMPTY_JOURNAL.true) in
     let none : c.of_file.result.entries ≡ [] = c.of_file.ensures.entries ∙ ap (λ l. entries_at c.in_ok-magic.magic.items l) c.new.ensures.items in
     let size : c.of_file.result.size ≡ 8 = c.of_file.ensures.size ∙ ap length c.in_ok-magic.ensures in
@@ -27,7 +28,7 @@ returns-then-length-le-EMPTY_JOURNAL-clause-any_moment g c =
     let d = g.D.Disk in
     let old = c.args.disk.now in
     let mid = c.settled_length.new.disk in
-    let short : (f : List ℕ) → d.images mid f → length f ≤ 9 =
+    let short : (f : List ℕ) → d.images mid f → length f ≤ EMPTY_JOURNAL =
     λ f image. omega (arith, told_at (d.bytes old) _ f (sym c.settled_length.ensures.same ∙ c.in_ok-length.ensures.only f image) c.in_ok-length.ensures.length, c.if-length-le-EMPTY_JOURNAL.true) in
     joined d.clock d.images_since old mid c.write_durably.new.disk _ _ _ c.settled_length.ensures.any_moment c.write_durably.ensures.any_moment
     (λ f image. inl image) (small_torn (d.images old) (d.images mid) c.settled_length.ensures.no_more short)

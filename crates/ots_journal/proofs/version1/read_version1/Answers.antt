@@ -10,7 +10,7 @@ pub loop-gate-init : goal.loop-gate-init
 loop-gate-init c =
     let is : take 8 c.args.bytes.now ≡ magic1 = grind (arith, common_steps) in
     let none : c.new-entries.result.items ≡ [] = c.new-entries.ensures.items in
-    rw none (first_gate1 c.args.bytes.now c.if-bytes-le9.false is)
+    rw none (first_gate1 c.args.bytes.now c.if-bytes-le-EMPTY_JOURNAL.false is)
 
 pub bounds-bytes-gate : goal.bounds-bytes-gate
 bounds-bytes-gate c = place_within1 c.args.bytes.now c.loop-gate.entries.items c.loop-gate.gate c.loop-gate.invariant
@@ -24,10 +24,10 @@ loop-gate-preserved c =
 pub returns-clause-ok : goal.returns-clause-ok
 returns-clause-ok c =
     let ne : get_or c.args.bytes.now c.loop-gate.gate 0 ≢ open_gate = λ is. grind (arith, common_steps) in
-    found1 c.args.bytes.now c.loop-gate.entries.items c.loop-gate.gate c.loop-gate.invariant c.if-bytes-le9.false ne
+    found1 c.args.bytes.now c.loop-gate.entries.items c.loop-gate.gate c.loop-gate.invariant c.if-bytes-le-EMPTY_JOURNAL.false ne
 
 pub returns-in-None-clause-err : goal.returns-in-None-clause-err
 returns-in-None-clause-err c =
     let is : get_or c.args.bytes.now c.loop-gate.gate 0 ≡ open_gate = c.loop-gate-test.true in
     let none = rw (c.in-None.is, take_rest) at c.in_ok-size.ensures in
-    damaged1 c.args.bytes.now c.loop-gate.entries.items c.loop-gate.gate c.loop-gate.invariant c.if-bytes-le9.false is none
+    damaged1 c.args.bytes.now c.loop-gate.entries.items c.loop-gate.gate c.loop-gate.invariant c.if-bytes-le-EMPTY_JOURNAL.false is none

@@ -8,11 +8,11 @@ use Rattle.ots_pending.proofs.finding.pair_of.Goals as goal
 pub returns-in_default-known_at-clause-pair : goal.returns-in_default-known_at-clause-pair
 returns-in_default-known_at-clause-pair c =
     let is : c.args.token.now ≡ token.Attestation (attestation.Pending c.in-Attestation-Pending.uri) = search rules in
-    unknown_pair c.args.listing.now c.requires.kept c.args.token.now c.in-Attestation-Pending.uri c.args.depth c.args.path.now.messages.items is c.in_default-known_at.ensures.number
+    unknown_pair c.args.listing.now c.requires.kept c.args.token.now c.in-Attestation-Pending.uri c.args.depth c.args.path.now.messages is c.in_default-known_at.ensures.number
 
 pub returns-clause-pair : goal.returns-clause-pair
 returns-clause-pair c =
     let is : c.args.token.now ≡ token.Attestation (attestation.Pending c.in-Attestation-Pending.uri) = search rules in
-    found_pair c.args.listing.now c.requires.kept c.args.token.now c.in-Attestation-Pending.uri c.args.depth c.args.path.now.messages.items is c.in-Some.message c.key_of.ensures.fits
+    found_pair c.args.listing.now c.requires.kept c.args.token.now c.in-Attestation-Pending.uri c.args.depth c.args.path.now.messages is c.in-Some.message c.key_of.ensures.fits
     c.in-Some.ensures.number c.place.result
     (subst (λ (z : List ℕ). IsPlaceOf c.args.listing.now.keys z c.place.result) (c.deref.ensures.value ∙ c.in_ok-key.ensures.is) c.place.ensures)

@@ -17,12 +17,12 @@ loop-at-preserved c =
     record {
       numbers = follow.numbers c.args.listing.now.messages path.numbers;
       made = λ trees all given e.
-          grown_goes (pairs_in c.args.listing.now) given c.args.tokens.now c.args.depths.now c.loop-at.at c.loop-at.behind_fork c.is_fork-behind_fork.result x c.loop-at.path.messages.items c.follow.new.path.messages.items
-          c.loop-at.made.items c.grow.new.made.items _ c.is_fork-behind_fork.ensures (kept_length _ _ c.requires.tree) c.loop-at-test.true c.index-tokens-at.is ((c.in_ok-grow.ensures.grows trees all).is given e)
+          grown_goes (pairs_in c.args.listing.now) given c.args.tokens.now c.args.depths.now c.loop-at.at c.loop-at.after_fork c.is_fork-after_fork.result x c.loop-at.path.messages c.follow.new.path.messages
+          c.loop-at.made.items c.grow.new.made.items _ c.is_fork-after_fork.ensures (kept_length _ _ c.requires.tree) c.loop-at-test.true c.index-tokens-at.is ((c.in_ok-grow.ensures.grows trees all).is given e)
           (follow.messages ∙ ap (followed x d) path.same) (c.loop-at.invariant.made trees all given e);
     }
 
 pub returns : goal.returns
 returns c trees all given e =
-    grown_ends (pairs_in c.args.listing.now) given c.args.tokens.now c.args.depths.now c.loop-at.at c.loop-at.behind_fork c.loop-at.path.messages.items c.loop-at.made.items _
+    grown_ends (pairs_in c.args.listing.now) given c.args.tokens.now c.args.depths.now c.loop-at.at c.loop-at.after_fork c.loop-at.path.messages c.loop-at.made.items _
     (kept_length _ _ c.requires.tree) c.loop-at-test.false (c.loop-at.invariant.made trees all given e)

@@ -17,14 +17,14 @@ loop-at-preserved c =
     let follow = c.in_ok-follow.ensures in
     let x = c.index-tokens-at.result in
     let d = get_or c.args.depths.now c.loop-at.at 0 in
-    let more = added x d way.ended c.loop-at.path.messages.items in
+    let more = added x d way.ended c.loop-at.path.messages in
     record {
       kept = note.kept;
       numbers = follow.numbers c.note.new.listing.messages note.numbers;
       way = record {
         ended = ended x way.ended;
         found = way.found ++ more;
-        left = walk_goes c.args.tokens.now c.args.depths.now c.loop-at.at way.ended (ended x way.ended) x c.loop-at.path.messages.items c.follow.new.path.messages.items way.found (way.found ++ more) _
+        left = walk_goes c.args.tokens.now c.args.depths.now c.loop-at.at way.ended (ended x way.ended) x c.loop-at.path.messages c.follow.new.path.messages way.found (way.found ++ more) _
             (kept_length _ _ c.requires) c.loop-at-test.true c.index-tokens-at.is refl refl (follow.messages ∙ ap (followed x d) note.path) way.left;
         pairs = note.pairs way.ended ∙ ap (with_found more) way.pairs ∙ all_found way.found more;
       };
@@ -33,4 +33,4 @@ loop-at-preserved c =
 pub returns-clause-pairs : goal.returns-clause-pairs
 returns-clause-pairs c =
     let way = c.loop-at.invariant.way in
-    way.pairs ∙ ap pairs_of (walk_ends c.args.tokens.now c.args.depths.now c.loop-at.at way.ended c.loop-at.path.messages.items way.found _ (kept_length _ _ c.requires) c.loop-at-test.false way.left)
+    way.pairs ∙ ap pairs_of (walk_ends c.args.tokens.now c.args.depths.now c.loop-at.at way.ended c.loop-at.path.messages way.found _ (kept_length _ _ c.requires) c.loop-at-test.false way.left)

@@ -1,7 +1,7 @@
 use Rattle.std.proofs.Common.{◌≡◌, length, arith}
 use Rattle.std.proofs.lemmas.Result.{err_from_is_err_and}
 use Rattle.ots_reader.proofs.CutLength.{cut_size}
-use Rattle.ots_reader.proofs.ReadOn.{grown_more, settles, ends_behind, joined_at, spelling_at}
+use Rattle.ots_reader.proofs.ReadOn.{grown_more, settles, ends_after, joined_at, spelling_at}
 use Rattle.ots_reader.proofs.cut.read_on.Goals as goal
 
 pub keep-requires : goal.keep-requires
@@ -28,7 +28,7 @@ overflow_sub-result c =
     let now = c.keep.new.kept.items in
     let g = grown_more c.args.kept.now.items c.args.piece.now w.kept.items now w.end c.min-count.result w.invariant.grown (omega (arith, c.min-count.ensures)) c.keep.ensures.items in
     let t = rw (c.in-Some.is, c.deref.ensures.value) at c.in_ok-length.ensures in
-    omega (arith, c.len-start.ensures, ends_behind c.args.kept.now.items c.args.piece.now now _ c.in-Some.length t.0 g c.requires.cut t.1)
+    omega (arith, c.len-start.ensures, ends_after c.args.kept.now.items c.args.piece.now now _ c.in-Some.length t.0 g c.requires.cut t.1)
 
 pub returns-in-Some-clause-read : goal.returns-in-Some-clause-read
 returns-in-Some-clause-read c =

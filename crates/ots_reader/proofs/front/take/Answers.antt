@@ -1,5 +1,5 @@
 use Rattle.std.proofs.Common.{refl}
-use Rattle.ots_reader.proofs.Steps.{node_message, has_room, stands_behind}
+use Rattle.ots_reader.proofs.Steps.{node_message, has_room, stands_after}
 use Rattle.ots_reader.proofs.front.take.Goals as goal
 
 pub take_turn-requires-clause-least : goal.take_turn-requires-clause-least
@@ -13,7 +13,7 @@ take_turn-requires-clause-room c = has_room c.args.front.now c.requires.stands c
 
 pub returns-clause-stands : goal.returns-clause-stands
 returns-clause-stands c =
-    stands_behind c.args.front.now _ _ c.args.spelling.now c.in-Ok.open c.requires.stands c.requires.open c.requires.spelled (record {
+    stands_after c.args.front.now _ _ c.args.spelling.now c.in-Ok.open c.requires.stands c.requires.open c.requires.spelled (record {
       below = refl;
       tokens = c.and.ensures _ c.requires.spelled;
       place = refl;

@@ -8,7 +8,7 @@ invariant-loop-low l = record {
   ordered : l.low ≤ l.high;
   within : l.high ≤ length l.places;
   before : (j : ℕ) → j < l.low → is_lt (key_cmp (key_at l.all (get_or l.places j 0)) (l.commitment, l.place)) ≡ true;
-  behind : (j : ℕ) → l.high ≤ j → j < length l.places → is_lt (key_cmp (key_at l.all (get_or l.places j 0)) (l.commitment, l.place)) ≡ false;
+  after : (j : ℕ) → l.high ≤ j → j < length l.places → is_lt (key_cmp (key_at l.all (get_or l.places j 0)) (l.commitment, l.place)) ≡ false;
 }
 
 abbrev pub decreases-loop-low : goal.decreases-loop-low

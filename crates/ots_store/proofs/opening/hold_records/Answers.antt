@@ -28,9 +28,9 @@ loop-i-preserved g c =
 pub of-requires-clause-few : goal.of-requires-clause-few
 of-requires-clause-few g c =
     let i = c.loop-i.i in
-    let front = take i c.args.journal.now.entries in
+    let prefix = take i c.args.journal.now.entries in
     let held = c.loop-i.invariant.held.holds.commitments in
-    omega (arith, entries_few front, ap length held, length-take i c.args.journal.now.entries, c.count-i-end.ensures.count, c.count-i-end.ensures.bound)
+    omega (arith, entries_few prefix, ap length held, length-take i c.args.journal.now.entries, c.count-i-end.ensures.count, c.count-i-end.ensures.bound)
 
 pub returns-clause-ok : goal.returns-clause-ok
 returns-clause-ok g c =

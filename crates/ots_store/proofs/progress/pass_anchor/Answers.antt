@@ -1,7 +1,7 @@
 use Rattle.std.proofs.Common.{drop}
 use Rattle.std.proofs.lemmas.List.{take_rest}
 use Rattle.ots_store.specs.Order.{HasSpan, tips_of, records_of}
-use Rattle.ots_store.proofs.Tipped.{has_left, has_right, has_neither, there_behind, there_in_group, not_there, not_in_group}
+use Rattle.ots_store.proofs.Tipped.{has_left, has_right, has_neither, there_after, there_in_group, not_there, not_in_group}
 use Rattle.ots_store.proofs.progress.pass_anchor.Goals as goal
 use Rattle.ots_store.proofs.progress.pass_anchor.Goals.{then-has_tip-via-then-has_tip, then-has_tip-via-else-has_tip+then-has_tip_in}
 
@@ -12,7 +12,7 @@ returns-then-has_tip-clause-tip c is =
     let tips = c.args.tips.now in
     let group = c.args.group.now in
     elim c.then-has_tip.branch [
-      | then-has_tip-via-then-has_tip w ↦ has_left first count tips (tips_of (records_of group)) (there_behind first count tips c.pass_tips-progress.result (rw take_rest at (c.has_tip.ensures.yes w.if-has_tip.true)))
+      | then-has_tip-via-then-has_tip w ↦ has_left first count tips (tips_of (records_of group)) (there_after first count tips c.pass_tips-progress.result (rw take_rest at (c.has_tip.ensures.yes w.if-has_tip.true)))
       | then-has_tip-via-else-has_tip+then-has_tip_in w ↦ has_right first count tips (tips_of (records_of group)) (there_in_group first count group c.pass_group-progress.result (rw take_rest at (w.has_tip_in.ensures.yes w.if-has_tip_in.true)))
     ]
 

@@ -8,10 +8,10 @@ bounds-depths-at c = omega (arith, kept_length _ _ c.requires)
 
 pub loop-at-preserved : goal.loop-at-preserved
 loop-at-preserved c = record {
-  few = few_ended _ _ _ _ c.paths_behind-path.ensures c.loop-at.invariant.few;
-  walk = walk_goes c.args.tokens.now c.args.depths.now c.loop-at.at c.loop-at.path c.paths_behind-path.result _ c.loop-at.messages.items c.follow.new.messages.items _ _ _
-      (kept_length _ _ c.requires) c.loop-at-test.true c.index-tokens-at.is (search rules) c.paths_behind-path.ensures c.in_ok-follow.ensures c.loop-at.invariant.walk;
+  few = few_ended _ _ _ _ c.paths_after-path.ensures c.loop-at.invariant.few;
+  walk = walk_goes c.args.tokens.now c.args.depths.now c.loop-at.at c.loop-at.path c.paths_after-path.result _ c.loop-at.messages c.follow.new.self _ _ _
+      (kept_length _ _ c.requires) c.loop-at-test.true c.index-tokens-at.is (search rules) c.paths_after-path.ensures c.in_ok-follow.ensures c.loop-at.invariant.walk;
 }
 
 pub returns : goal.returns
-returns c = walk_ends c.args.tokens.now c.args.depths.now c.loop-at.at c.loop-at.path c.loop-at.messages.items c.loop-at.found.items _ (kept_length _ _ c.requires) c.loop-at-test.false c.loop-at.invariant.walk
+returns c = walk_ends c.args.tokens.now c.args.depths.now c.loop-at.at c.loop-at.path c.loop-at.messages c.loop-at.found.items _ (kept_length _ _ c.requires) c.loop-at-test.false c.loop-at.invariant.walk

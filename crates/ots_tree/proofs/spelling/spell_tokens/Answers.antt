@@ -1,9 +1,9 @@
 use Rattle.std.proofs.Common.{rules}
-use Rattle.ots_tree.proofs.Gathered.{token_gathered, front_of_tokens}
+use Rattle.ots_tree.proofs.Gathered.{token_gathered, prefix_of_tokens}
 use Rattle.ots_tree.proofs.spelling.spell_tokens.Goals as goal
 
-pub returns-in_err-filled-clause-front : goal.returns-in_err-filled-clause-front
-returns-in_err-filled-clause-front g c = front_of_tokens _ _ _ c.args.tokens.now c.loop-token.token-index _ c.loop-token.invariant.gathered c.in_err-filled.ensures.front
+pub returns-in_err-filled-clause-prefix : goal.returns-in_err-filled-clause-prefix
+returns-in_err-filled-clause-prefix g c = prefix_of_tokens _ _ _ c.args.tokens.now c.loop-token.token-index _ c.loop-token.invariant.gathered c.in_err-filled.ensures.prefix
 
 pub loop-token-preserved : goal.loop-token-preserved
 loop-token-preserved g c = record {
@@ -13,5 +13,5 @@ loop-token-preserved g c = record {
   same = search rules;
 }
 
-pub returns-clause-front : goal.returns-clause-front
-returns-clause-front g c = front_of_tokens _ _ _ c.args.tokens.now c.loop-token.token-index _ c.loop-token.invariant.gathered c.write_all.ensures.front
+pub returns-clause-prefix : goal.returns-clause-prefix
+returns-clause-prefix g c = prefix_of_tokens _ _ _ c.args.tokens.now c.loop-token.token-index _ c.loop-token.invariant.gathered c.write_all.ensures.prefix

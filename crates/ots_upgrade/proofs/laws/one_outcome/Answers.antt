@@ -1,10 +1,14 @@
+use Rattle.ots_http.proofs.OneAnswer.{one_outcome}
+use Rattle.ots_reader.proofs.OneFault.{never_both_lem, one_fault_lem}
+use Rattle.ots_reader.proofs.Walk.{one_tree_at}
 use Rattle.ots_upgrade.proofs.OneOutcome.{one}
 use Rattle.ots_upgrade.proofs.laws.one_outcome.Goals as goal
+use Rattle.std.proofs.Common.{refl}
 
 pub returns : goal.returns
 returns c = λ n k reply a b shape. one (record {
-  one_reply = c.one_reply_outcome.ensures;
-  never_both = c.fault_or_tree.ensures.never_both;
-  one_fault = c.one_fault.ensures.one;
-  one_tree = c.one_tree_at_the_front.ensures.one;
+  one_reply = one_outcome;
+  never_both = λ n k t rest f shape sound has. never_both_lem n k _ f t rest shape.depth has sound refl;
+  one_fault = one_fault_lem;
+  one_tree = one_tree_at;
 }) n k shape reply a b

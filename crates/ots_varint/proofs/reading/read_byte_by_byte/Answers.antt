@@ -5,7 +5,7 @@ use Rattle.ots_varint.proofs.Settled.{reading_nothing, settles_value, settles_no
 use Rattle.ots_varint.proofs.reading.read_byte_by_byte.Goals as goal
 
 pub loop-index-init : goal.loop-index-init
-loop-index-init c = record { front = c.new-state.ensures; short = reading_nothing c.new-state.result c.new-state.ensures }
+loop-index-init c = record { prefix = c.new-state.ensures; short = reading_nothing c.new-state.result c.new-state.ensures }
 
 pub returns-in-Value-clause-table : goal.returns-in-Value-clause-table
 returns-in-Value-clause-table c =

@@ -1,5 +1,5 @@
 use Rattle.std.proofs.Common.{ap, ◌∙◌}
-use Rattle.ots_bitcoin.specs.DoubleSha256.{double_sha256}
+use Rattle.ots_headers.specs.DoubleSha256.{double_sha256}
 use Rattle.ots_block.proofs.Blocks.{id_of}
 use Rattle.ots_block.proofs.block.Block.txid.Goals as goal
 

@@ -1,7 +1,7 @@
 -- `and` makes a value of no size, and picks the longer list for it.
 use Rattle.std.proofs.Common.{List, [], ◌∷◌, ◌++◌, refl}
 use Rattle.std.proofs.raw_atomic.Walks.{proved}
-use Rattle.ots_merkle.proofs.NoSize.{no_size, owns_nothing}
+use Rattle.ots_base.proofs.NoSize.{no_size, owns_nothing}
 use base.Fml.{ftrue}
 use mir.Syntax.{named}
 use mir.Val.{Val}

@@ -1,7 +1,7 @@
 -- `nothing` makes a value of no size, and picks the empty list for it.
 use Rattle.std.proofs.Common.{[], ◌∷◌, refl}
 use Rattle.std.proofs.raw_atomic.Walks.{proved}
-use Rattle.ots_merkle.proofs.NoSize.{no_size, owns_nothing}
+use Rattle.ots_base.proofs.NoSize.{no_size, owns_nothing}
 use base.Fml.{ftrue}
 use types.Kit.{‵, raw, ◌⊛◌, ◌$◌, ◌∵◌, !, qed, done, keep, move, split, fjoin, suffices}
 use types.Part.{agg}

@@ -3,7 +3,7 @@ use Rattle.std.proofs.Common.{List, [], ◌∷◌, ◌++◌, refl, ap}
 use Rattle.std.proofs.raw_atomic.Walks.{proved}
 use Rattle.ots_tree.specs.declared.token.Token.{Token}
 use Rattle.ots_reader.specs.Cut.{IsSpelling}
-use Rattle.ots_reader.proofs.NoSize.{no_size, owns_nothing}
+use Rattle.ots_base.proofs.NoSize.{no_size, owns_nothing}
 use Rattle.ots_reader.proofs.Spellings.{one_spelled}
 use mir.Syntax.{named}
 use mir.Val.{Val}

@@ -17,24 +17,24 @@ loop-place-preserved c =
     let items : c.push.new.self.items ≡ places ++ n ∷ [] = c.push.ensures.items ∙ ap (λ (b : Bool). if b then places ++ n ∷ [] else places) done in
     record {
       are = subst (Are (n + 1)) (sym items) (are_more n places before.are);
-      front = λ i lt. ap (λ (l : List ℕ). get_or l i 0) items ∙ get_or_append_left places (n ∷ []) 0 i (omega (arith, before.are.count)) ∙ before.front i lt;
+      prefix = λ i lt. ap (λ (l : List ℕ). get_or l i 0) items ∙ get_or_append_left places (n ∷ []) 0 i (omega (arith, before.are.count)) ∙ before.prefix i lt;
       room = omega (arith, before.room, c.push.ensures.capacity);
     }
 
 pub merge-requires-clause-are : goal.merge-requires-clause-are
 merge-requires-clause-are c =
     let places = c.loop-place.self.places.items in
-    let moves : IsPermutation places c.sort_behind.new.places = subst (λ (l : List ℕ). IsPermutation l c.sort_behind.new.places) c.as_mut_slice-places.ensures.value c.sort_behind.ensures.moves in
-    let same = length_permutation places c.sort_behind.new.places moves in
-    subst (λ (n : ℕ). Are n c.sort_behind.new.places) (sym (same ∙ c.loop-place.invariant.are.count)) (are_moved c.loop-place.place places c.sort_behind.new.places c.loop-place.invariant.are moves)
+    let moves : IsPermutation places c.sort_after.new.places = subst (λ (l : List ℕ). IsPermutation l c.sort_after.new.places) c.as_mut_slice-places.ensures.value c.sort_after.ensures.moves in
+    let same = length_permutation places c.sort_after.new.places moves in
+    subst (λ (n : ℕ). Are n c.sort_after.new.places) (sym (same ∙ c.loop-place.invariant.are.count)) (are_moved c.loop-place.place places c.sort_after.new.places c.loop-place.invariant.are moves)
 
 pub returns-clause-indexes : goal.returns-clause-indexes
 returns-clause-indexes c =
     let all = c.args.all.now in
     let places = c.loop-place.self.places.items in
-    let sorted = c.sort_behind.new.places in
+    let sorted = c.sort_after.new.places in
     let merged = c.merge.new.places in
-    let moves : IsPermutation places sorted = subst (λ (l : List ℕ). IsPermutation l sorted) c.as_mut_slice-places.ensures.value c.sort_behind.ensures.moves in
+    let moves : IsPermutation places sorted = subst (λ (l : List ℕ). IsPermutation l sorted) c.as_mut_slice-places.ensures.value c.sort_after.ensures.moves in
     let same = length_permutation places sorted moves in
     let count = c.merge.ensures.are.count in
     let whole : length sorted ≡ length all = omega (arith, same, c.loop-place.invariant.are.count, c.loop-place-test.false, c.requires.before) in

@@ -20,7 +20,7 @@ returns-then-eq c =
     let within : p < length all = subst (λ (n : ℕ). n < length all) is (c.requires.are.within at lt) in
     found q all places at c.requires
     (subst (λ (l : List ℕ). (j : ℕ) → j < at → is_lt (key_cmp (key_at all (get_or l j 0)) (q, 0)) ≡ true) here c.first_from-at.ensures.before)
-    (subst (λ (l : List ℕ). (j : ℕ) → at ≤ j → j < length l → is_lt (key_cmp (key_at all (get_or l j 0)) (q, 0)) ≡ false) here c.first_from-at.ensures.behind)
+    (subst (λ (l : List ℕ). (j : ℕ) → at ≤ j → j < length l → is_lt (key_cmp (key_at all (get_or l j 0)) (q, 0)) ≡ false) here c.first_from-at.ensures.after)
     p lt is (get_or_default all p nothing [] within ∙ (bytes_eq-Decides (get_or all p []) q).0 (sym c.eq.ensures ∙ c.if-eq.true))
 
 pub returns-else-eq : goal.returns-else-eq
@@ -36,7 +36,7 @@ returns-else-eq c =
     let within : p < length all = subst (λ (n : ℕ). n < length all) is (c.requires.are.within at lt) in
     found_none q all places at c.requires
     (subst (λ (l : List ℕ). (j : ℕ) → j < at → is_lt (key_cmp (key_at all (get_or l j 0)) (q, 0)) ≡ true) here c.first_from-at.ensures.before)
-    (subst (λ (l : List ℕ). (j : ℕ) → at ≤ j → j < length l → is_lt (key_cmp (key_at all (get_or l j 0)) (q, 0)) ≡ false) here c.first_from-at.ensures.behind)
+    (subst (λ (l : List ℕ). (j : ℕ) → at ≤ j → j < length l → is_lt (key_cmp (key_at all (get_or l j 0)) (q, 0)) ≡ false) here c.first_from-at.ensures.after)
     (λ lt' same.
     let there : get_or all p [] ≡ q = get_or_default all p [] nothing within ∙ ap (λ (i : ℕ). get_or all i nothing) (sym is) ∙ same in
     absurd (let h : false ≡ true = sym c.if-eq.false ∙ c.eq.ensures ∙ (bytes_eq-Decides (get_or all p []) q).1 there in cc))
@@ -51,5 +51,5 @@ returns-else-at-len c =
     let past = c.len.ensures in
     found_none q all places at c.requires
     (subst (λ (l : List ℕ). (j : ℕ) → j < at → is_lt (key_cmp (key_at all (get_or l j 0)) (q, 0)) ≡ true) here c.first_from-at.ensures.before)
-    (subst (λ (l : List ℕ). (j : ℕ) → at ≤ j → j < length l → is_lt (key_cmp (key_at all (get_or l j 0)) (q, 0)) ≡ false) here c.first_from-at.ensures.behind)
+    (subst (λ (l : List ℕ). (j : ℕ) → at ≤ j → j < length l → is_lt (key_cmp (key_at all (get_or l j 0)) (q, 0)) ≡ false) here c.first_from-at.ensures.after)
     (λ lt same. absurd (omega arith))

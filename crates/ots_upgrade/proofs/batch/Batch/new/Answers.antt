@@ -1,4 +1,5 @@
 use Rattle.std.proofs.Common.{◌≡◌, ◌<◌, ℕ, List, [], arith, get_or, length, subst, ◌∙◌, ap}
+use Rattle.ots_merkle.proofs.PathLaws.{path_short}
 use Rattle.ots_merkle.specs.CalendarTree.{path}
 use Rattle.ots_ops.specs.declared.op.Op.{Op}
 use Rattle.ots_upgrade.specs.Batch.{IsLongest, KeepsBatch}
@@ -9,7 +10,7 @@ use Rattle.ots_upgrade.proofs.batch.Batch.new.Goals as goal
 keeps : (c : goal.After-depth_of-depth) → KeepsBatch c.args.targets.items c.in_ok-leaves.leaves.items c.in_ok-paths.paths.items c.depth_of-depth.result
 keeps c =
     keeps_batch c.args.targets.items c.in_ok-leaves.leaves.items c.in_ok-paths.paths.items c.depth_of-depth.result
-    c.path_is_short.ensures c.requires.least c.requires.most (c.in_ok-leaves.ensures ∙ ap leaves c.deref.ensures.value)
+    path_short c.requires.least c.requires.most (c.in_ok-leaves.ensures ∙ ap leaves c.deref.ensures.value)
     (c.in_ok-paths.ensures.count ∙ ap length c.deref-2.ensures.value)
     (subst (λ (ls : List (List ℕ)). (i : ℕ) → i < length ls → get_or c.in_ok-paths.paths.items i [] ≡ path ls i) c.deref-2.ensures.value c.in_ok-paths.ensures.paths)
     (subst (λ (ps : List (List Op)). IsLongest ps (length ps) c.depth_of-depth.result) c.deref-3.ensures.value c.depth_of-depth.ensures)

@@ -1,0 +1,4 @@
+pub mod Forms
+pub mod NameLemmas
+pub mod NumberLemmas
+pub mod Parsed

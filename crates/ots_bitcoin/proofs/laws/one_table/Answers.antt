@@ -1,5 +1,0 @@
-use Rattle.ots_bitcoin.proofs.TableBytes.{one_table_lem}
-use Rattle.ots_bitcoin.proofs.laws.one_table.Goals as goal
-
-pub returns : goal.returns
-returns c = one_table_lem

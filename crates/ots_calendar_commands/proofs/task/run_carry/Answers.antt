@@ -1,0 +1,22 @@
+use Rattle.ots_journal.specs.declared.limits.TheConstants.{MAX_JOURNAL}
+use Rattle.ots_calendar_commands.specs.Found.{HasRecords, RefusesStore}
+use Rattle.ots_calendar_commands.specs.Migrate.{AddsPrefix, MigrateAnswers}
+use Rattle.ots_calendar_commands.proofs.Migrating.{carry_within}
+use Rattle.ots_calendar_commands.proofs.Running.{journal_ends, journal_moments, no_journal}
+use Rattle.ots_calendar_commands.proofs.task.run_carry.Goals as goal
+
+pub returns-in-Ok-clause-ends : goal.returns-in-Ok-clause-ends
+returns-in-Ok-clause-ends g c =
+    journal_ends g.D.Disk.bytes g.D.Disk.faults g.D.Disk.clock g.D.Disk.images g.D.Disk.images_since HasRecords RefusesStore (MigrateAnswers MAX_JOURNAL c.args.old.now) _ _ _ _
+    c.args.disk c.in-Ok.store.journal c.migrate-status.new.store.journal.disk c.into_disk.result c.into_disk.ensures c.in-Ok.ensures.ok c.in-Ok.ensures.ok.has
+    (carry_within c.in-Ok.store.journal.limit MAX_JOURNAL _ _ _ _ _ _ _ _ _ c.in-Ok.ensures.ok.limit c.migrate-status.ensures.ends)
+
+pub returns-in-Ok-clause-moments : goal.returns-in-Ok-clause-moments
+returns-in-Ok-clause-moments g c =
+    journal_moments g.D.Disk.bytes g.D.Disk.faults g.D.Disk.clock g.D.Disk.images g.D.Disk.images_since (AddsPrefix c.args.old.now)
+    c.args.disk c.in-Ok.store.journal c.migrate-status.new.store.journal.disk c.into_disk.result c.into_disk.ensures c.in-Ok.ensures.ok c.migrate-status.ensures.moments
+
+pub returns-in-Err-clause-ends : goal.returns-in-Err-clause-ends
+returns-in-Err-clause-ends g c =
+    no_journal g.D.Disk.bytes g.D.Disk.faults g.D.Disk.clock g.D.Disk.images g.D.Disk.images_since HasRecords RefusesStore (MigrateAnswers MAX_JOURNAL c.args.old.now) _ _ _ _
+    c.args.disk c.in-Err.closed.disk c.in-Err.closed.why c.in-Err.ensures.err c.refuse-status.ensures.printed

@@ -1,0 +1,19 @@
+-- The command `list`: a line for each record, in their order.
+use Rattle.std.specs.Prelude.{ℕ, ◌+◌, List, [], ◌∷◌, ◌++◌, length}
+use Rattle.ots_store.specs.Order.{commit_in}
+use Rattle.ots_store.specs.Records.{Record, CommitRecord, TipRecord, AnchorRecord}
+use Rattle.ots_calendar_text.specs.Lines.{anchor_line, commit_line, tip_line}
+
+-- A commitment has its index among the commitments.
+abbrev pub record_line : ℕ → Record → List ℕ
+record_line commits (CommitRecord commitment) = commit_line commits commitment
+record_line commits (TipRecord tip) = tip_line tip.first tip.count tip.root
+record_line commits (AnchorRecord anchor) = anchor_line anchor.first anchor.count anchor.height anchor.root
+
+-- after so many commitments
+abbrev pub lines_from : ℕ → List Record → List ℕ
+lines_from commits [] = []
+lines_from commits (r ∷ records) = record_line commits r ++ lines_from (commits + length (commit_in r)) records
+
+unfoldable pub list_text : List Record → List ℕ
+list_text records = lines_from 0 records

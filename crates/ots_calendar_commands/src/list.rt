@@ -1,0 +1,100 @@
+//! The command `list`.
+ghost use Rattle.std.specs.Prelude.{◌≡◌, [], ◌∷◌, ◌≤◌, false, length, MatchResult};
+ghost use Rattle.ots_base.specs.Cause.{Rose};
+ghost use Rattle.ots_outside.specs.Streams.{Takes, TakesPrefix};
+ghost use Rattle.ots_printer.specs.Printing.{Puts};
+ghost use Rattle.ots_store.specs.Order.{records_of};
+ghost use Rattle.ots_store.specs.Records.{IsRecord, number, record_of};
+ghost use Rattle.ots_calendar_commands.specs.List.{list_text, record_line};
+ghost use Rattle.ots_calendar_commands.specs.Printed.{PrintsLast};
+ghost use Rattle.ots_calendar_text.specs.declared.status.DaemonStatus.TheVariants.{Done};
+ghost use Rattle.ots_outputs.specs.Printed.{SinkStays};
+
+use ots_calendar_text::{DaemonStatus, put_anchor, put_commit, put_tip};
+use ots_disk::Disk;
+use ots_outside::{Failed, Sink};
+use ots_printer::Printer;
+use ots_store::Store;
+
+/// The kinds of a commitment's and of a tip's entry. The third is an anchor's.
+const COMMIT: u8 = 1;
+
+const TIP: u8 = 2;
+
+/// Prints a line for each record, in their order.
+pub fn list<D: Disk, K: Sink>(store: &Store<D>, out: &mut K) -> DaemonStatus
+    ensures printed { PrintsLast (Rose (K.faults out.old) (K.faults out.new)) Done
+        (list_text (records_of store.now.journal.entries)) (K.taken out.old) (K.taken out.new) result }
+    ensures sink { SinkStays K.faults K.same out.old out.new }
+{
+    match put_whole(store, &mut Printer::new(out)) {
+        Ok(()) => DaemonStatus::Done,
+        Err(Failed) => DaemonStatus::WriteFault,
+    }
+}
+
+/// Puts the lines on a new printer, and finishes it.
+fn put_whole<D: Disk, K: Sink>(store: &Store<D>, out: &mut Printer<'_, K>) -> Result<(), Failed>
+    requires empty { out.old.held ≡ [] }
+    requires good { out.old.failed ≡ false }
+    ensures loan { out.new.sink.ghost_name ≡ out.old.sink.ghost_name }
+    ensures printed { MatchResult result (λ _. Takes (K.taken out.old.sink.now) (K.taken out.new.sink.now)
+        (list_text (records_of store.now.journal.entries)))
+        (λ _. Rose (K.faults out.old.sink.now) (K.faults out.new.sink.now)
+        × TakesPrefix (K.taken out.old.sink.now) (K.taken out.new.sink.now)
+        (list_text (records_of store.now.journal.entries))) }
+    ensures sink { SinkStays K.faults K.same out.old.sink.now out.new.sink.now }
+{
+    put_lines(store, out);
+    match out.finish() {
+        Ok(()) => Ok(()),
+        Err(Failed) => Err(Failed),
+    }
+}
+
+/// Puts a line for each record.
+fn put_lines<D: Disk, K: Sink>(store: &Store<D>, out: &mut Printer<'_, K>)
+    ensures { Puts K.taken K.faults K.same (list_text (records_of store.now.journal.entries)) out.old out.new }
+{
+    store.stands();
+    let mut commits = 0;
+    for i in 0..store.entries() {
+        let (kind, payload) = store.entry(i);
+        put_record(commits, kind, payload, out);
+        if kind == COMMIT {
+            commits += 1;
+        }
+    }
+}
+
+/// Puts the line of a record, before which stand so many commitments.
+fn put_record<K: Sink>(commits: u64, kind: u8, payload: &[u8], out: &mut Printer<'_, K>)
+    requires { IsRecord (record { kind = kind; payload = payload.now }) }
+    ensures { Puts K.taken K.faults K.same (record_line commits
+        (record_of (record { kind = kind; payload = payload.now }))) out.old out.new }
+{
+    if kind == COMMIT {
+        put_commit(commits, payload, out);
+    } else if kind == TIP {
+        put_tip(number(payload), number(&payload[8..]), &payload[16..], out);
+    } else {
+        put_anchor(
+            number(payload),
+            number(&payload[8..]),
+            number(&payload[16..]),
+            &payload[24..56],
+            out,
+        );
+    }
+}
+
+/// The number at the start, eight bytes, the high one first.
+fn number(bytes: &[u8]) -> u64
+    requires { 8 ≤ length bytes.now }
+    ensures { result ≡ number bytes.now }
+{
+    let [a, b, c, d, e, f, g, h, ..] = bytes else {
+        return 0;
+    };
+    u64::from_be_bytes([*a, *b, *c, *d, *e, *f, *g, *h])
+}

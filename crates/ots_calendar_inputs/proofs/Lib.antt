@@ -1,0 +1,6 @@
+mod Addressed
+mod Blocks
+mod Lining
+mod Olds
+mod Digesting
+pub mod OneInput

@@ -1,0 +1,262 @@
+-- A word and each file give one thing at most, are refused in one way at most, and never both.
+use Rattle.std.proofs.Common.{◌≡◌, ◌≢◌, ◌<◌, ◌≤◌, inl, inr, ℕ, suc, ◌+◌, Bool, false, List, [], ◌∷◌, ◌++◌, length, take, drop, get_or, map, Result, Ok, Err, refl, sym, ap, subst, ◌∙◌, arith, append_assoc, length-append}
+use Rattle.std.proofs.lemmas.List.{drop_at, get_or_append_left, take_at}
+use Rattle.std.specs.List.{AllByRecursion, flat_map}
+use Rattle.ots_address.specs.Address.{AddressParts, text_of}
+use Rattle.ots_address.proofs.ListLemmas.{none_bad, one_bad}
+use Rattle.ots_block.specs.Block.{Contents}
+use Rattle.ots_block.specs.declared.fault.BlockError.{BlockError}
+use Rattle.ots_block.specs.declared.fault.BlockError.TheVariants as fault
+use Rattle.ots_block.specs.declared.fault.BlockReason.{BlockReason}
+use Rattle.ots_block.proofs.Blocks.{block_again}
+use Rattle.ots_block.proofs.OneAnswer.{never_both_lem}
+use Rattle.ots_block.proofs.Spelled.{ok_is}
+use Rattle.ots_journal.specs.Image.{FitsEntry, entry_bytes, open_gate}
+use Rattle.ots_journal.specs.Opening.{magic1}
+use Rattle.ots_journal.specs.Version1.{Begins1, HasEntry, IsDamaged1, Stands1, StandsLong1, prefix1, gated_entry}
+use Rattle.ots_journal.specs.declared.entry.Entry.{Entry}
+use Rattle.ots_journal.proofs.GroupReading.{unique_rest}
+use Rattle.ots_journal.proofs.OldReading.{has_entry, stands_once1}
+use Rattle.ots_journal.proofs.Unique.{head_is, unique_entry}
+use Rattle.ots_calendar_text.specs.declared.status.DaemonStatus.{DaemonStatus}
+use Rattle.ots_calendar_text.specs.declared.status.DaemonStatus.TheVariants.{BadAddress, BadBlock, BadDigests, Damaged}
+use Rattle.ots_calendar_inputs.specs.Address.{IsOneAddress, RefusesAddress, bad, several}
+use Rattle.ots_calendar_inputs.specs.Block.{GivesBlock, RefusesBlock, too_big, bad_block}
+use Rattle.ots_calendar_inputs.specs.Digests.{BeginsLine, BeginsLines, HasLine, IsBadLine, IsDigest, IsDigests, RefusesDigests}
+use Rattle.ots_calendar_inputs.specs.Key.{GivesKey, RefusesKey}
+use Rattle.ots_calendar_inputs.specs.Old.{GivesOld, RefusesOld, no_journal, damaged}
+use Rattle.ots_calendar_inputs.specs.Old as old
+use Rattle.ots_calendar_inputs.specs.declared.lines.TheConstants.{MAX_LINES}
+use Rattle.ots_calendar_inputs.proofs.Lining.{after_digits, no_end}
+
+-- ---- the address
+
+first_text : (a b : AddressParts) (more others : List AddressParts) → map text_of (a ∷ more) ≡ map text_of (b ∷ others) → a.text ≡ b.text
+first_text a b more others same = ap (λ (z : List (List ℕ)). get_or z 0 []) same
+
+pub address_given_once : (word first second : List ℕ) → IsOneAddress word first → IsOneAddress word second → first ≡ second
+address_given_once word first second f g = f.text ∙ first_text f.address g.address [] [] (sym f.list.texts ∙ g.list.texts) ∙ sym g.text
+
+abbrev bad_address : ℕ → Bool → DaemonStatus
+bad_address place https = BadAddress place https
+
+pub address_refused_once : (word : List ℕ) (first second : DaemonStatus) → RefusesAddress word first → RefusesAddress word second → first ≡ second
+address_refused_once word first second (bad p h f is) (bad q k g also) =
+    let same = one_bad word p q h k f g in
+    is ∙ ap (λ (z : ℕ). bad_address z h) same.0 ∙ ap (bad_address q) same.1 ∙ sym also
+address_refused_once word first second (bad p h f is) (several a b rest list also) = absurd (none_bad word p h f list.good)
+address_refused_once word first second (several a b rest list is) (bad q k g also) = absurd (none_bad word q k g list.good)
+address_refused_once word first second (several a b rest list is) (several c d more other also) =
+    is ∙ ap (λ (z : List ℕ). bad_address (length z + 1) false) (first_text a c (b ∷ rest) (d ∷ more) (sym list.texts ∙ other.texts)) ∙ sym also
+
+pub address_never_both : (word uri : List ℕ) (status : DaemonStatus) → IsOneAddress word uri → RefusesAddress word status → ⊥
+address_never_both word uri status one (bad p h f is) = none_bad word p h f one.list.good
+address_never_both word uri status one (several a b rest list is) =
+    let same : map text_of (one.address ∷ []) ≡ map text_of (a ∷ b ∷ rest) = sym one.list.texts ∙ list.texts in
+    absurd (omega (arith, ap length same))
+
+-- ---- the key
+
+pub key_given_once : (bytes first second : List ℕ) → GivesKey bytes first → GivesKey bytes second → first ≡ second
+key_given_once bytes first second f g = f.block ∙ sym g.block
+
+pub key_refused_once : (bytes : List ℕ) (first second : DaemonStatus) → RefusesKey bytes first → RefusesKey bytes second → first ≡ second
+key_refused_once bytes first second f g = f.status ∙ sym g.status
+
+pub key_never_both : (bytes key : List ℕ) (status : DaemonStatus) → GivesKey bytes key → RefusesKey bytes status → ⊥
+key_never_both bytes key status gives refuses = refuses.none gives.is_key
+
+-- ---- the digests
+
+-- the digits of a line hold no line feed, so that no line ends within another's
+no_longer : (digits after digits' after' digest : List ℕ) → IsDigest digits' digest → digits ++ 10 ∷ after ≡ digits' ++ 10 ∷ after' → length digits < length digits' → ⊥
+no_longer digits after digits' after' digest is same less =
+    no_end digits' digest is (length digits) less
+    (sym (get_or_append_left digits' (10 ∷ after') 0 (length digits) less) ∙ ap (λ (z : List ℕ). get_or z (length digits) 0) (sym same) ∙ after_digits digits after)
+
+one_digest : (digits first second : List ℕ) → IsDigest digits first → IsDigest digits second → first ≡ second
+one_digest digits first second f g = let same : Ok first ≡ Ok second = sym f.decoded ∙ g.decoded in cc
+
+one_line : (bytes first second after after' : List ℕ) → BeginsLine bytes first after → BeginsLine bytes second after' → (first ≡ second) × (after ≡ after')
+one_line bytes first second after after' f g =
+    let same : f.digits ++ 10 ∷ after ≡ g.digits ++ 10 ∷ after' = sym f.whole ∙ g.whole in
+    let sizes : length f.digits ≡ length g.digits =
+    omega (arith, no_longer f.digits after g.digits after' second g.is same, no_longer g.digits after' f.digits after first f.is (sym same)) in
+    let digits : f.digits ≡ g.digits =
+    sym (take_at f.digits (10 ∷ after) (length f.digits) refl) ∙ ap (λ (z : List ℕ). take (length f.digits) z) same ∙ take_at g.digits (10 ∷ after') (length f.digits) (sym sizes) in
+    let rests : 10 ∷ after ≡ 10 ∷ after' =
+    sym (drop_at f.digits (10 ∷ after) (length f.digits) refl) ∙ ap (λ (z : List ℕ). drop (length f.digits) z) same ∙ drop_at g.digits (10 ∷ after') (length f.digits) (sym sizes) in
+    (one_digest g.digits first second (subst (λ (z : List ℕ). IsDigest z first) digits f.is) g.is, ap (λ (z : List ℕ). drop 1 z) rests)
+
+-- as many lines from the start are the same lines, and leave the same
+same_lines : (bytes rest rest' : List ℕ) (ds es : List (List ℕ)) → BeginsLines bytes ds rest → BeginsLines bytes es rest' → length ds ≡ length es → (ds ≡ es) × (rest ≡ rest')
+same_lines bytes rest rest' [] [] f g sizes = (refl, sym f ∙ g)
+same_lines bytes rest rest' [] (e ∷ es) f g sizes = absurd (omega (arith, sizes))
+same_lines bytes rest rest' (d ∷ ds) [] f g sizes = absurd (omega (arith, sizes))
+same_lines bytes rest rest' (d ∷ ds) (e ∷ es) (after, line, lines) (after', line', lines') sizes =
+    let one = one_line bytes d e after after' line line' in
+    let more = same_lines after rest rest' ds es lines (subst (λ (z : List ℕ). BeginsLines z es rest') (sym one.1) lines') (omega (arith, sizes)) in
+    (ap (λ (z : List ℕ). z ∷ ds) one.0 ∙ ap (λ (z : List (List ℕ)). e ∷ z) more.0, more.1)
+
+-- fewer lines from the start have a line after them
+line_after : (bytes rest rest' : List ℕ) (ds es : List (List ℕ)) → BeginsLines bytes ds rest → BeginsLines bytes es rest' → length ds < length es → HasLine rest
+line_after bytes rest rest' ds [] f g less = absurd (omega (arith, less))
+line_after bytes rest rest' [] (e ∷ es) f (after, line, lines) less = subst HasLine f (record { digest = e; after = after; begins = line })
+line_after bytes rest rest' (d ∷ ds) (e ∷ es) (after, line, lines) (after', line', lines') less =
+    let one = one_line bytes d e after after' line line' in
+    line_after after rest rest' ds es lines (subst (λ (z : List ℕ). BeginsLines z es rest') (sym one.1) lines') (omega (arith, less))
+
+none_in_nothing : HasLine [] → ⊥
+none_in_nothing has =
+    let whole = has.begins.whole in
+    absurd (omega (arith, ap length whole, length-append has.begins.digits (10 ∷ has.after)))
+
+pub digests_given_once : (bytes : List ℕ) (first second : List (List ℕ)) → IsDigests bytes first → IsDigests bytes second → first ≡ second
+digests_given_once bytes first second f g =
+    let not_less : length first < length second → ⊥ = λ less. none_in_nothing (line_after bytes [] [] first second f.lines g.lines less) in
+    let not_more : length second < length first → ⊥ = λ more. none_in_nothing (line_after bytes [] [] second first g.lines f.lines more) in
+    (same_lines bytes [] [] first second f.lines g.lines (omega (arith, not_less, not_more))).0
+
+-- no line stands where the first bad one is
+bad_is_last : (bytes rest : List ℕ) (number : ℕ) (digests : List (List ℕ)) (b : IsBadLine bytes number) → BeginsLines bytes digests rest → length digests ≤ MAX_LINES → length b.digests < length digests → ⊥
+bad_is_last bytes rest number digests b lines most less =
+    b.none (omega (arith, most, less)) (line_after bytes b.rest rest b.digests digests b.lines lines less)
+
+one_bad_line : (bytes : List ℕ) (first second : ℕ) → IsBadLine bytes first → IsBadLine bytes second → first ≡ second
+one_bad_line bytes first second f g =
+    let not_less : length f.digests < length g.digests → ⊥ = bad_is_last bytes g.rest first g.digests f g.lines g.most in
+    let not_more : length g.digests < length f.digests → ⊥ = bad_is_last bytes f.rest second f.digests g f.lines f.most in
+    let sizes : length f.digests ≡ length g.digests = omega (arith, not_less, not_more) in
+    f.at ∙ ap suc sizes ∙ sym g.at
+
+pub digests_refused_once : (bytes : List ℕ) (first second : DaemonStatus) → RefusesDigests bytes first → RefusesDigests bytes second → first ≡ second
+digests_refused_once bytes first second f g =
+    f.status ∙ ap (λ (z : ℕ). let s : DaemonStatus = BadDigests z in s) (one_bad_line bytes f.number g.number f.bad g.bad) ∙ sym g.status
+
+pub digests_never_both : (bytes : List ℕ) (digests : List (List ℕ)) (status : DaemonStatus) → IsDigests bytes digests → RefusesDigests bytes status → ⊥
+digests_never_both bytes digests status is refuses =
+    let b = refuses.bad in
+    let not_less : length b.digests < length digests → ⊥ = bad_is_last bytes [] refuses.number digests b is.lines is.most in
+    let not_more : length digests < length b.digests → ⊥ = λ more. none_in_nothing (line_after bytes [] b.rest digests b.digests is.lines b.lines more) in
+    let sizes : length b.digests ≡ length digests = omega (arith, not_less, not_more) in
+    let nothing_left : b.rest ≡ [] = (same_lines bytes b.rest [] b.digests digests b.lines is.lines sizes).1 in
+    absurd (let some = is.some in omega (arith, some, sizes, ap length (b.left nothing_left)))
+
+-- ---- the block
+
+pub block_given_once : (bytes : List ℕ) (first second : Contents) → GivesBlock bytes first → GivesBlock bytes second → first ≡ second
+block_given_once bytes first second f g = ok_is first second (sym (block_again bytes first f.is_block) ∙ block_again bytes second g.is_block)
+
+abbrev fault_at : ℕ → BlockReason → Result Contents BlockError
+fault_at place reason = Err (fault.BadBlock place reason)
+
+same_fault : (p q : ℕ) (v w : BlockReason) → fault_at p v ≡ fault_at q w → (p ≡ q) × (v ≡ w)
+same_fault p q v w same = (cc, cc)
+
+abbrev bad_block_at : ℕ → BlockReason → DaemonStatus
+bad_block_at place reason = BadBlock place reason
+
+pub block_refused_once : (bytes : List ℕ) (first second : DaemonStatus) → RefusesBlock bytes first → RefusesBlock bytes second → first ≡ second
+block_refused_once bytes first second (too_big long is) (too_big again also) = is ∙ sym also
+block_refused_once bytes first second (too_big long is) (bad_block q w few has also) = absurd (omega (arith, long, few))
+block_refused_once bytes first second (bad_block p v few has is) (too_big long also) = absurd (omega (arith, long, few))
+block_refused_once bytes first second (bad_block p v few has is) (bad_block q w again too also) =
+    let same = same_fault p q v w (sym has ∙ too) in
+    is ∙ ap (λ (z : ℕ). bad_block_at z v) same.0 ∙ ap (bad_block_at q) same.1 ∙ sym also
+
+pub block_never_both : (bytes : List ℕ) (block : Contents) (status : DaemonStatus) → GivesBlock bytes block → RefusesBlock bytes status → ⊥
+block_never_both bytes block status gives (too_big long is) = absurd (let few = gives.within in omega (arith, long, few))
+block_never_both bytes block status gives (bad_block place reason few has is) = never_both_lem bytes block place reason gives.is_block has
+
+-- ---- the journal of version 1
+
+abbrev gated : List Entry → List ℕ
+gated entries = flat_map gated_entry entries
+
+-- what stands after the first gate of each
+after_gate : (f h : Entry) (fs hs : List Entry) (xs ys : List ℕ) → gated (f ∷ fs) ++ xs ≡ gated (h ∷ hs) ++ ys → entry_bytes f ++ (gated fs ++ xs) ≡ entry_bytes h ++ (gated hs ++ ys)
+after_gate f h fs hs xs ys same = sym (append_assoc (entry_bytes f) (gated fs) xs) ∙ ap (λ (l : List ℕ). drop 1 l) same ∙ append_assoc (entry_bytes h) (gated hs) ys
+
+module _ (g k : ℕ) (r s : List ℕ) where
+  -- as many entries from the start are the same entries, and have the same gate after them
+  same_entries : (fs hs : List Entry) → AllByRecursion FitsEntry fs → AllByRecursion FitsEntry hs → gated fs ++ g ∷ r ≡ gated hs ++ k ∷ s → length fs ≡ length hs → (fs ≡ hs) × (g ≡ k)
+  same_entries [] [] fit_f fit_h same sizes = (refl, head_is g k r s same)
+  same_entries [] (h ∷ hs) fit_f fit_h same sizes = absurd (omega (arith, sizes))
+  same_entries (f ∷ fs) [] fit_f fit_h same sizes = absurd (omega (arith, sizes))
+  same_entries (f ∷ fs) (h ∷ hs) fit_f fit_h same sizes =
+      let xs = gated fs ++ g ∷ r in
+      let ys = gated hs ++ k ∷ s in
+      let tails = after_gate f h fs hs (g ∷ r) (k ∷ s) same in
+      let more = same_entries fs hs fit_f.1 fit_h.1 (unique_rest f h xs ys fit_f.0 fit_h.0 tails) (omega (arith, sizes)) in
+      (ap (λ (e : Entry). e ∷ fs) (unique_entry f h xs ys fit_f.0 fit_h.0 tails) ∙ ap (λ (l : List Entry). h ∷ l) more.0, more.1)
+
+  -- fewer entries from the start have an open gate and an entry after them
+  entry_after : (fs hs : List Entry) → AllByRecursion FitsEntry fs → AllByRecursion FitsEntry hs → gated fs ++ g ∷ r ≡ gated hs ++ k ∷ s → length fs < length hs → (g ≡ open_gate) × HasEntry r
+  entry_after fs [] fit_f fit_h same less = absurd (omega (arith, less))
+  entry_after [] (h ∷ hs) fit_f fit_h same less =
+      let more = gated hs ++ k ∷ s in
+      let whole : r ≡ entry_bytes h ++ more = ap (λ (l : List ℕ). drop 1 l) same ∙ append_assoc (entry_bytes h) (gated hs) (k ∷ s) in (
+        head_is g open_gate r ((entry_bytes h ++ gated hs) ++ k ∷ s) same,
+        has_entry r more h (record { fits = fit_h.0; whole = whole }) (omega (arith, length-append (gated hs) (k ∷ s))),
+      )
+  entry_after (f ∷ fs) (h ∷ hs) fit_f fit_h same less =
+      let tails = after_gate f h fs hs (g ∷ r) (k ∷ s) same in
+      entry_after fs hs fit_f.1 fit_h.1 (unique_rest f h (gated fs ++ g ∷ r) (gated hs ++ k ∷ s) fit_f.0 fit_h.0 tails) (omega (arith, less))
+
+after_magic : (bytes : List ℕ) (fs hs : List Entry) (g k : ℕ) (r s : List ℕ) → Begins1 fs g r bytes → Begins1 hs k s bytes → gated fs ++ g ∷ r ≡ gated hs ++ k ∷ s
+after_magic bytes fs hs g k r s f h = ap (λ (l : List ℕ). drop 8 l) (sym f.whole ∙ h.whole)
+
+begins_magic1 : (bytes : List ℕ) (fs : List Entry) (g : ℕ) (r : List ℕ) → Begins1 fs g r bytes → take 8 bytes ≡ magic1
+begins_magic1 bytes fs g r f = ap (λ (l : List ℕ). take 8 l) f.whole
+
+-- the entries before a damaged place are all that can be read
+damaged_is_last : (bytes : List ℕ) (place : ℕ) (hs : List Entry) (k : ℕ) (s : List ℕ) (d : IsDamaged1 bytes place) → Begins1 hs k s bytes → length d.entries < length hs → ⊥
+damaged_is_last bytes place hs k s d h less =
+    d.broken (entry_after open_gate k d.rest s d.entries hs d.begins.fit h.fit (after_magic bytes d.entries hs open_gate k d.rest s d.begins h) less).1
+
+one_damaged_place : (bytes : List ℕ) (first second : ℕ) → IsDamaged1 bytes first → IsDamaged1 bytes second → first ≡ second
+one_damaged_place bytes first second d e =
+    let not_less : length d.entries < length e.entries → ⊥ = damaged_is_last bytes first e.entries open_gate e.rest d e.begins in
+    let not_more : length e.entries < length d.entries → ⊥ = damaged_is_last bytes second d.entries open_gate d.rest e d.begins in
+    let same = same_entries open_gate open_gate d.rest e.rest d.entries e.entries d.begins.fit e.begins.fit
+    (after_magic bytes d.entries e.entries open_gate open_gate d.rest e.rest d.begins e.begins) (omega (arith, not_less, not_more)) in
+    d.at ∙ ap (λ (z : List Entry). length (prefix1 z)) same.0 ∙ sym e.at
+
+-- a journal that ends at a closed gate has no damaged place
+closed_not_damaged : (bytes : List ℕ) (entries : List Entry) (place : ℕ) → StandsLong1 bytes entries → IsDamaged1 bytes place → ⊥
+closed_not_damaged bytes entries place t d =
+    let tails = after_magic bytes entries d.entries t.gate open_gate t.rest d.rest t.begins d.begins in
+    let not_less : length d.entries < length entries → ⊥ = damaged_is_last bytes place entries t.gate t.rest d t.begins in
+    let not_more : length entries < length d.entries → ⊥ = λ more. t.closed (entry_after t.gate open_gate t.rest d.rest entries d.entries t.begins.fit d.begins.fit tails more).0 in
+    t.closed (same_entries t.gate open_gate t.rest d.rest entries d.entries t.begins.fit d.begins.fit tails (omega (arith, not_less, not_more))).1
+
+stands_not_damaged : (bytes : List ℕ) (entries : List Entry) (place : ℕ) → Stands1 bytes entries → IsDamaged1 bytes place → ⊥
+stands_not_damaged bytes entries place (inl short) d = absurd (let long = d.long in omega (arith, short.0, long))
+stands_not_damaged bytes entries place (inr t) d = closed_not_damaged bytes entries place t d
+
+stands_is_journal : (bytes : List ℕ) (entries : List Entry) → Stands1 bytes entries → 9 < length bytes → take 8 bytes ≢ magic1 → ⊥
+stands_is_journal bytes entries (inl short) long other = absurd (omega (arith, short.0, long))
+stands_is_journal bytes entries (inr t) long other = other (begins_magic1 bytes entries t.gate t.rest t.begins)
+
+damaged_is_journal : (bytes : List ℕ) (place : ℕ) → IsDamaged1 bytes place → take 8 bytes ≢ magic1 → ⊥
+damaged_is_journal bytes place d other = other (begins_magic1 bytes d.entries open_gate d.rest d.begins)
+
+pub old_given_once : (bytes : List ℕ) (first second : List Entry) → GivesOld bytes first → GivesOld bytes second → first ≡ second
+old_given_once bytes first second f g = stands_once1 bytes first second f.stand g.stand
+
+pub old_refused_once : (bytes : List ℕ) (first second : DaemonStatus) → RefusesOld bytes first → RefusesOld bytes second → first ≡ second
+old_refused_once bytes first second (old.too_big long is) (old.too_big again also) = is ∙ sym also
+old_refused_once bytes first second (old.too_big long is) (no_journal few other also) = absurd (omega (arith, long, few))
+old_refused_once bytes first second (old.too_big long is) (damaged q few d also) = absurd (omega (arith, long, few))
+old_refused_once bytes first second (no_journal few other is) (old.too_big long also) = absurd (omega (arith, long, few))
+old_refused_once bytes first second (no_journal few other is) (no_journal again too also) = is ∙ sym also
+old_refused_once bytes first second (no_journal few other is) (damaged q again d also) = absurd (damaged_is_journal bytes q d other.1)
+old_refused_once bytes first second (damaged p few d is) (old.too_big long also) = absurd (omega (arith, long, few))
+old_refused_once bytes first second (damaged p few d is) (no_journal again other also) = absurd (damaged_is_journal bytes p d other.1)
+old_refused_once bytes first second (damaged p few d is) (damaged q again e also) =
+    is ∙ ap (λ (z : ℕ). let s : DaemonStatus = Damaged z in s) (one_damaged_place bytes p q d e) ∙ sym also
+
+pub old_never_both : (bytes : List ℕ) (entries : List Entry) (status : DaemonStatus) → GivesOld bytes entries → RefusesOld bytes status → ⊥
+old_never_both bytes entries status gives (old.too_big long is) = absurd (let few = gives.within in omega (arith, long, few))
+old_never_both bytes entries status gives (no_journal few other is) = stands_is_journal bytes entries gives.stand other.0 other.1
+old_never_both bytes entries status gives (damaged place few d is) = stands_not_damaged bytes entries place gives.stand d

@@ -1,0 +1,6 @@
+pub mod Address
+pub mod Block
+pub mod Digests
+pub mod Key
+pub mod Lines
+pub mod Old

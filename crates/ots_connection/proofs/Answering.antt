@@ -1,0 +1,100 @@
+-- A link that was served is answered.
+use Rattle.std.proofs.Common.{◌≡◌, inl, inr, ℕ, true, List, [], ◌++◌, sym, ap, subst, ◌∙◌, arith}
+use Rattle.std.specs.Prelude.{Option, None, Some, Result, Ok, Err}
+use Rattle.ots_base.specs.declared.out_of_memory.OutOfMemory.{OutOfMemory}
+use Rattle.ots_http.specs.RequestRead.{IsRequestAnswer}
+use Rattle.ots_http.specs.declared.request.Request.{Request}
+use Rattle.ots_http.specs.declared.request.Request.TheVariants.{Digest, Timestamp, Refused}
+use Rattle.ots_http.specs.ReplyText.{reply_bytes}
+use Rattle.ots_http.specs.RequestTable.{IsRequest}
+use Rattle.ots_http.specs.declared.request.RequestError.{RequestError}
+use Rattle.ots_http.specs.declared.request.RequestError.TheVariants as unread
+use Rattle.ots_outside.specs.Link.{LinkTold, IsFresh, whole_input}
+use Rattle.ots_shared.specs.Told.{PassTold}
+use Rattle.ots_shared.specs.declared.row.Row.{Row}
+use Rattle.ots_store.specs.Records.{Record}
+use Rattle.ots_connection.specs.Answered as reply
+use Rattle.ots_connection.specs.Answered.{IsAnswered, IsDigestReply, IsDueFor, IsReplyTo, is_answer}
+use Rattle.ots_connection.specs.Connection.{Seen, Serves, Ends, EndsWith, Handles, Does}
+use Rattle.ots_connection.specs.Sending.{LinkSeen, Sends, Took, Takes, whole, cut}
+use Rattle.ots_connection.specs.Stamping as stamping
+use Rattle.ots_connection.specs.Stamping.{SourcesTold, Settles, IsBusy, Comes, ComesOf}
+use Rattle.ots_connection.specs.declared.due.Due.{Due}
+use Rattle.ots_connection.specs.declared.served.Served.{Served}
+
+-- ---- what was due may be due
+
+module _ (leaf uri : List ℕ) (limit : ℕ) (seen : List Record) (due : Due) where
+  settled : (nonce : List ℕ) (row : Row) → Settles leaf nonce uri limit seen row (Ok due) → IsDigestReply leaf due
+  settled nonce row (stamping.stamped tree receipt stamps within is) = reply.stamped seen nonce uri tree receipt stamps cc
+  settled nonce row (stamping.disk rose is) = reply.disk cc
+  settled nonce row (stamping.full full is) = reply.full cc
+  settled nonce row (stamping.no_memory why is) = absurd cc
+
+  come : (nonce : List ℕ) (second : ℕ) (rows : List Row) → Comes leaf nonce uri second limit seen rows (Ok due) → IsDigestReply leaf due
+  come nonce second rows (stamping.late late none is) = reply.late cc
+  come nonce second rows (stamping.busy row early one left busy) = let is = busy.1 in reply.busy cc
+  come nonce second rows (stamping.no_memory row early one left few why is) = absurd cc
+  come nonce second rows (stamping.put row next early two left few fewer (inl settles)) = settled nonce next settles
+  come nonce second rows (stamping.put row next early two left few fewer (inr busy)) = let is = busy.1 in reply.busy cc
+
+  comes_of : (nonce : Option (List ℕ)) (second : ℕ) (rows : List Row) → ComesOf nonce leaf uri second limit seen rows (Ok due) → IsDigestReply leaf due
+  comes_of (Some nonce) second rows comes = come nonce second rows comes
+  comes_of None second rows comes = let is = comes.1 in reply.no_nonce cc
+
+done : (uri : List ℕ) (limit : ℕ) (request : Request) (old new : SourcesTold) (seen : List Record) (rows : List Row) (due : Due) → Does uri limit request old new seen rows (Ok due) → IsDueFor request due
+done uri limit (Digest leaf) old new seen rows due does = comes_of leaf uri limit seen due does.nonce does.second rows does.comes
+done uri limit (Timestamp commitment) old new seen rows due does = (seen, does.2)
+done uri limit (Refused status) old new seen rows due does = let is = does.2 in cc
+
+-- ---- the link
+
+fresh_input : (old new : LinkTold) (bytes : List ℕ) → old.given ≡ [] → Took bytes old new → whole_input new ≡ old.left
+fresh_input old new bytes none t = t.input ∙ ap (λ (l : List ℕ). l ++ old.left) none
+
+module _ (x y : LinkTold) (before now : ℕ) (result : Served) (given : x.given ≡ []) (taken : x.taken ≡ []) (none : before ≡ 0) where
+  abbrev found : LinkSeen
+  found = record { told = Some x; faults = before }
+
+  abbrev left : LinkSeen
+  left = record { told = Some y; faults = now }
+
+  sent : (request : Request) (due : Due) → IsRequestAnswer x.left (Ok request) → IsDueFor request due → Sends due found left result → IsAnswered (Some y) now
+  sent request due reads is_due (whole is t) = λ no_fault some. ∣ record {
+    request = request;
+    asks = subst (λ (l : List ℕ). IsRequest l request) (sym (fresh_input x y _ given t)) reads.1;
+    due = due;
+    is_due = is_due;
+    whole = t.taken ∙ ap (λ (l : List ℕ). l ++ reply_bytes due.reply) taken;
+  } ∣₁
+  sent request due reads is_due (cut n within is rose t) = λ no_fault some. absurd (omega arith)
+
+  module _ (uri : List ℕ) (limit : ℕ) (p q : PassTold) (s r : SourcesTold) (answers : is_answer result ≡ true) where
+    ended : (request : Result Request RequestError) → IsRequestAnswer x.left request
+        → Ends uri limit request (record { pass = p; link = found; sources = s }) (record { pass = q; link = left; sources = r }) result → IsAnswered (Some y) now
+    ended (Ok request) reads ends = replied ends.due ends.handles ends.ends where
+      replied : (due : Result Due OutOfMemory) → Handles uri limit request s r p q due → EndsWith due found left result → IsAnswered (Some y) now
+      replied (Ok due) handles e = sent request due reads (done uri limit request s r q.seen handles.rows due handles.does) e
+      replied (Err e) handles none_written = absurd (let is = ap is_answer none_written.0 in cc)
+    ended (Err unread.Closed) reads ends = λ no_fault some. absurd (some (fresh_input x y [] given ends.1.link ∙ reads))
+    ended (Err unread.LinkFault) reads ends = λ no_fault some. absurd (let rose = ends.1 in omega arith)
+
+-- ---- told before and after, or neither
+
+some_bytes : (uri : List ℕ) (limit : ℕ) (old new : Seen) (result : Served) (request : Result Request RequestError) → Ends uri limit request old new result
+    → (bytes : List ℕ) × Takes bytes old.link new.link
+some_bytes uri limit old new result (Ok request) ends = written ends.due ends.ends where
+  written : (due : Result Due OutOfMemory) → EndsWith due old.link new.link result → (bytes : List ℕ) × Takes bytes old.link new.link
+  written (Ok due) (whole is t) = (_, t)
+  written (Ok due) (cut n within is rose t) = (_, t)
+  written (Err e) none = (_, none.1)
+some_bytes uri limit old new result (Err unread.Closed) ends = (_, ends.1.link)
+some_bytes uri limit old new result (Err unread.LinkFault) ends = (_, ends.2.link)
+
+pub serves_answered : (uri : List ℕ) (limit : ℕ) (p q : PassTold) (s r : SourcesTold) (before now : ℕ) (result : Served) (o n : Option LinkTold)
+    → Serves uri limit (record { pass = p; link = record { told = o; faults = before }; sources = s }) (record { pass = q; link = record { told = n; faults = now }; sources = r }) result
+    → IsFresh o before → is_answer result ≡ true → IsAnswered n now
+serves_answered uri limit p q s r before now result o None serves fresh answers = tt
+serves_answered uri limit p q s r before now result None (Some y) serves fresh answers = absurd (some_bytes uri limit _ _ result serves.request serves.ends).1
+serves_answered uri limit p q s r before now result (Some x) (Some y) serves fresh answers =
+    ended x y before now result fresh.given fresh.taken fresh.no_fault uri limit p q s r answers serves.request serves.reads serves.ends

@@ -1,0 +1,36 @@
+use Rattle.std.proofs.Common.{inr, refl}
+use Rattle.ots_connection.specs.Stamping.{no_memory}
+use Rattle.ots_connection.proofs.Withdrawn.{settles_it, refused_fewer, refused_gone}
+use Rattle.ots_connection.proofs.closing.close_round.Goals as goal
+
+pub take_settled-requires : goal.take_settled-requires
+take_settled-requires g c = λ none.
+    let closed = c.in-Ok.ensures.closed in
+    settles_it c.args.service.now.key c.args.second closed.index _ _ _ c.args.ticket.now c.requires.waits closed.settled none
+
+pub returns-in-Ok-clause-settles : goal.returns-in-Ok-clause-settles
+returns-in-Ok-clause-settles g c = c.take_settled.ensures.settles _ _ (inr (rw c.take_settled.ensures.store c.in-Ok.ensures.fits))
+
+pub returns-in-DiskFault-clause-fewer : goal.returns-in-DiskFault-clause-fewer
+returns-in-DiskFault-clause-fewer g c = refused_fewer c.args.ticket.now c.args.book.now.tickets c.close.new.book.tickets c.withdraw.new.self.tickets c.withdraw.result c.in-Err.ensures.refused c.requires.waits c.requires.unsettled c.withdraw.ensures.withdraws
+
+pub returns-in-Full-clause-fewer : goal.returns-in-Full-clause-fewer
+returns-in-Full-clause-fewer g c = refused_fewer c.args.ticket.now c.args.book.now.tickets c.close.new.book.tickets c.withdraw.new.self.tickets c.withdraw.result c.in-Err.ensures.refused c.requires.waits c.requires.unsettled c.withdraw.ensures.withdraws
+
+pub returns-in-OutOfMemory-clause-fewer : goal.returns-in-OutOfMemory-clause-fewer
+returns-in-OutOfMemory-clause-fewer g c = refused_fewer c.args.ticket.now c.args.book.now.tickets c.close.new.book.tickets c.withdraw.new.self.tickets c.withdraw.result c.in-Err.ensures.refused c.requires.waits c.requires.unsettled c.withdraw.ensures.withdraws
+
+pub returns-in-OutOfMemory-clause-settles : goal.returns-in-OutOfMemory-clause-settles
+returns-in-OutOfMemory-clause-settles g c = no_memory _ refl
+
+pub returns-in-DiskFault-clause-gone : goal.returns-in-DiskFault-clause-gone
+returns-in-DiskFault-clause-gone g c =
+    refused_gone c.args.ticket.now c.args.book.now.tickets c.close.new.book.tickets c.withdraw.new.self.tickets c.withdraw.result c.in-Err.ensures.refused c.requires.waits c.withdraw.ensures.withdraws
+
+pub returns-in-Full-clause-gone : goal.returns-in-Full-clause-gone
+returns-in-Full-clause-gone g c =
+    refused_gone c.args.ticket.now c.args.book.now.tickets c.close.new.book.tickets c.withdraw.new.self.tickets c.withdraw.result c.in-Err.ensures.refused c.requires.waits c.withdraw.ensures.withdraws
+
+pub returns-in-OutOfMemory-clause-gone : goal.returns-in-OutOfMemory-clause-gone
+returns-in-OutOfMemory-clause-gone g c =
+    refused_gone c.args.ticket.now c.args.book.now.tickets c.close.new.book.tickets c.withdraw.new.self.tickets c.withdraw.result c.in-Err.ensures.refused c.requires.waits c.withdraw.ensures.withdraws

@@ -1,0 +1,11 @@
+use Rattle.std.proofs.Common.{refl, take}
+use Rattle.ots_http.specs.ReplyText.{reply_bytes}
+use Rattle.ots_connection.specs.Sending.{cut}
+use Rattle.ots_connection.proofs.Sent.{takes}
+use Rattle.ots_connection.proofs.sending.send.Goals as goal
+
+pub returns-clause-sends : goal.returns-clause-sends
+returns-clause-sends g c =
+    let prefix = c.in-Err.ensures.written.prefix in
+    cut prefix.0 prefix.1 refl (rw c.finish.ensures.faults c.in-Err.ensures.cause.failed)
+    (rw c.finish.ensures.told (takes (take prefix.0 (reply_bytes c.args.due.reply)) _ _ prefix.2))

@@ -1,0 +1,104 @@
+-- What comes of a digest, each answer with its cause.
+use Rattle.std.specs.Prelude.{◌≡◌, ◌⊎◌, ◌<◌, ◌≤◌, ℕ, ◌+◌, ◌^◌, List, [], ◌∷◌, length, Option, None, Some, Result, Ok}
+use Rattle.std.specs.Prelude.{Err}
+use Rattle.ots_base.specs.Cause.{Rose}
+use Rattle.ots_base.specs.Told.{IfTold}
+use Rattle.ots_base.specs.declared.out_of_memory.OutOfMemory.{OutOfMemory}
+use Rattle.ots_calendar.specs.Book.{Gives}
+use Rattle.ots_http.specs.declared.word.Word.TheVariants.{Nonce, Clock, Busy, Disk, JournalFull}
+use Rattle.ots_journal.specs.Journal.{size_with}
+use Rattle.ots_outside.specs.Streams as bytes
+use Rattle.ots_round.specs.declared.ticket.Receipt.{Receipt}
+use Rattle.ots_round.specs.declared.ticket.Ticket.{Ticket}
+use Rattle.ots_shared.specs.declared.row.Row.{Row}
+use Rattle.ots_store.specs.Records.{Record, CommitRecord, entry_of}
+use Rattle.ots_tickets.specs.declared.tickets.TheConstants.{MAX_WAITING}
+use Rattle.ots_tree.specs.declared.token.Token.{Token}
+use Rattle.ots_connection.specs.declared.due.Due.{Due}
+use Rattle.ots_connection.specs.Replies.{in_words, stamp}
+
+-- ---- what is drawn
+
+-- What contracts see of the nonces and of the clock.
+pub record SourcesTold : Type 0 where
+  -- the bytes of nonces to come
+  pub left : Option (List ℕ)
+  -- how often a draw has failed
+  pub faults : ℕ
+  -- the second to come
+  pub second : Option ℕ
+
+-- The next 16 bytes were drawn, or the nonces' count of faults rose, and the clock is not read then.
+abbrev pub Draws : Option (List ℕ) → SourcesTold → SourcesTold → Type 0
+Draws (Some nonce) old new = (length nonce ≡ 16) × bytes.Gives old.left new.left nonce
+Draws None old new = (new.left ≡ old.left) × (new.second ≡ old.second) × Rose old.faults new.faults
+
+-- ---- what the second hold does
+
+-- A digest was timestamped: the tree is that of one path, which puts the nonce after the digest, hashes that, leads to
+-- the receipt's commitment, and ends in a pending attestation of this URI. The commitment stands at the receipt's
+-- index.
+pub record Stamps (records : List Record) (leaf nonce uri : List ℕ) (tree : List Token)
+    (receipt : Receipt) : Type 0 where
+  pub ticket : Ticket
+  pub leaf_is : ticket.leaf ≡ leaf
+  pub nonce_is : ticket.nonce ≡ nonce
+  pub gives : Gives records ticket uri tree receipt
+
+-- With one commitment more after this closed gate, the file would be longer than the limit.
+pub record IsFull (limit gate : ℕ) : Type 0 where
+  pub commitment : List ℕ
+  pub long : length commitment ≡ 44
+  pub past : limit < size_with gate (entry_of (CommitRecord commitment) ∷ [])
+
+-- The hold stored nothing, or what it stored is within the limit: the closed gate is the last byte of the file.
+abbrev pub StoresWithin : ℕ → Row → Type 0
+StoresWithin limit row = (row.records_left ≡ row.records_found) ⊎ (row.gate_left < limit)
+
+-- What comes of a ticket whose round is closed, in this hold or before it, where the hold leaves these records and this
+-- row.
+pub data Settles (leaf nonce uri : List ℕ) (limit : ℕ) (seen : List Record) (row : Row)
+    (due : Result Due OutOfMemory) : Type 0 where
+  stamped : (tree : List Token) (receipt : Receipt) → Stamps seen leaf nonce uri tree receipt → StoresWithin limit row
+      → due ≡ Ok (stamp tree receipt)
+      → Settles leaf nonce uri limit seen row due
+  disk : Rose row.faults_found row.faults_left → due ≡ Ok (in_words Disk) → Settles leaf nonce uri limit seen row due
+  full : IsFull limit row.gate_left → due ≡ Ok (in_words JournalFull) → Settles leaf nonce uri limit seen row due
+  no_memory : (why : OutOfMemory) → due ≡ Err why → Settles leaf nonce uri limit seen row due
+
+-- A hold that was to put a ticket found as many waiting as may.
+abbrev pub IsBusy : Row → Result Due OutOfMemory → Type 0
+IsBusy row due = (row.waiting_found ≡ MAX_WAITING) × (due ≡ Ok (in_words Busy))
+
+-- ---- the whole call
+
+-- What comes of a digest whose nonce was drawn at this second, with the rows of the call's holds. The first hold puts a
+-- ticket. The second puts it once more where another caller has given it up.
+pub data Comes (leaf nonce uri : List ℕ) (second limit : ℕ) (seen : List Record) (rows : List Row)
+    (due : Result Due OutOfMemory) : Type 0 where
+  late : 2 ^ 32 ≤ second → rows ≡ [] → due ≡ Ok (in_words Clock) → Comes leaf nonce uri second limit seen rows due
+  busy : (row : Row) → second < 2 ^ 32 → rows ≡ row ∷ [] → row.waiting_left ≡ row.waiting_found → IsBusy row due
+      → Comes leaf nonce uri second limit seen rows due
+  no_memory : (row : Row) → second < 2 ^ 32 → rows ≡ row ∷ [] → row.waiting_left ≡ row.waiting_found
+      → row.waiting_found < MAX_WAITING → (why : OutOfMemory) → due ≡ Err why
+      → Comes leaf nonce uri second limit seen rows due
+  put : (row next : Row) → second < 2 ^ 32 → rows ≡ row ∷ next ∷ [] → row.waiting_left ≡ row.waiting_found + 1
+      → row.waiting_found < MAX_WAITING
+      → next.waiting_left ≤ next.waiting_found → Settles leaf nonce uri limit seen next due ⊎ IsBusy next due
+      → Comes leaf nonce uri second limit seen rows due
+
+-- By the nonce that was drawn, if one was.
+abbrev pub ComesOf : Option (List ℕ) → List ℕ → List ℕ → ℕ → ℕ → List Record → List Row → Result Due OutOfMemory
+    → Type 0
+ComesOf (Some nonce) leaf uri second limit seen rows due = Comes leaf nonce uri second limit seen rows due
+ComesOf None leaf uri second limit seen rows due = (rows ≡ []) × (due ≡ Ok (in_words Nonce))
+
+-- A digest is handed in.
+pub record Stamping (leaf uri : List ℕ) (limit : ℕ) (old new : SourcesTold) (seen : List Record) (rows : List Row)
+    (due : Result Due OutOfMemory) : Type 0 where
+  pub nonce : Option (List ℕ)
+  pub draws : Draws nonce old new
+  -- the clock's second
+  pub second : ℕ
+  pub told : IfTold old.second (λ told. second ≡ told)
+  pub comes : ComesOf nonce leaf uri second limit seen rows due

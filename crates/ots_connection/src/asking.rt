@@ -1,0 +1,52 @@
+//! What a calendar answers of a commitment.
+ghost use Rattle.std.specs.Prelude.{◌≡◌, false, [], ◌∷◌, IfOk};
+ghost use Rattle.ots_http.specs.ReplyText.{IsReply};
+ghost use Rattle.ots_shared.specs.Told.{IsPassOf};
+ghost use Rattle.ots_shared.specs.declared.row.Row.{Row};
+ghost use Rattle.ots_calendar.specs.Answer.{answer};
+ghost use Rattle.ots_connection.specs.Holds.{Holds};
+ghost use Rattle.ots_connection.specs.Replies.{answered};
+
+use crate::due::{Due, in_words, with_tree};
+use ots_base::OutOfMemory;
+use ots_calendar::{Answer, Book};
+use ots_disk::Disk;
+use ots_http::Word;
+use ots_outside::Wanted;
+use ots_shared::{Pass, Shared};
+use std::sync::Wait;
+
+/// Asks the shared book for a commitment, in one hold.
+pub(crate) fn answer_of<D: Disk, R: Wait>(
+    rt: &R,
+    shared: &Shared<D>,
+    pass: &mut Pass,
+    wanted: Wanted,
+) -> Result<Due, OutOfMemory>
+    requires own { IsPassOf shared.now pass.old }
+    requires free { pass.old.holding ≡ false }
+    ensures holds { (row : Row) × Holds pass.old pass.new (row ∷ []) }
+    ensures due { IfOk result (λ due. due ≡ answered (answer pass.new.seen wanted)) }
+    ensures reply { IfOk result (λ due. IsReply due.reply) }
+{
+    let mut held = shared.hold(rt, pass);
+    let due = ask(held.book(), wanted);
+    shared.release(pass, held);
+    due
+}
+
+/// Asks a book for a commitment.
+fn ask<D: Disk>(book: &Book<D>, wanted: Wanted) -> Result<Due, OutOfMemory>
+    ensures due { IfOk result (λ due. due ≡ answered (answer book.now.store.records wanted)) }
+    ensures reply { IfOk result (λ due. IsReply due.reply) }
+{
+    let store = book.store();
+    store.stands();
+    let _ = store.commits();
+    match book.ask(wanted.bytes()) {
+        Ok(Answer::Complete(tree)) => Ok(with_tree(tree)),
+        Ok(Answer::Pending) => Ok(in_words(404, Word::Pending)),
+        Ok(Answer::Unknown) => Ok(in_words(404, Word::NotFound)),
+        Err(OutOfMemory) => Err(OutOfMemory),
+    }
+}

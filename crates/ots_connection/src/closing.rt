@@ -1,0 +1,138 @@
+//! The round of a ticket, closed while the book is held.
+ghost use Rattle.std.specs.Prelude.{◌≡◌, ◌⊎◌, ◌<◌, ◌≤◌, ℕ, Err, IfOk, OnOk, OnErr, length};
+ghost use Rattle.ots_base.specs.Cause.{Rose};
+ghost use Rattle.ots_http.specs.ReplyText.{IsReply};
+ghost use Rattle.ots_shared.specs.Rows.{row};
+ghost use Rattle.ots_shared.specs.declared.row.Row.{Row};
+ghost use Rattle.ots_tickets.specs.Tickets.{IsSettled, NoneIs, OneIs, Waits};
+ghost use Rattle.ots_connection.specs.Closing.{Closed, Goes, IsKept, kept};
+ghost use Rattle.ots_connection.specs.Stamping.{IsBusy, IsFull, Settles, StoresWithin};
+
+use crate::Service;
+use crate::due::{Due, in_words, stamp};
+use crate::putting::put;
+use ots_attest::Uri;
+use ots_base::OutOfMemory;
+use ots_calendar::{Book, PutError, Taken, Ticket, calls_grow};
+use ots_disk::Disk;
+use ots_http::Word;
+use ots_journal::AppendError;
+
+/// Takes a ticket whose round is closed, or closes the round over all that wait where it waits. Where
+/// another caller has given it up, it is put once more. It waits no more then.
+pub(crate) fn settle<D: Disk>(
+    book: &mut Book<D>,
+    service: &Service,
+    second: u32,
+    ticket: &Ticket,
+) -> Result<Due, OutOfMemory>
+    ensures goes { Goes book.old book.new }
+    ensures gone { IsKept ticket.now book.old.tickets → kept book.new.tickets < kept book.old.tickets }
+    ensures settles { Settles ticket.now.leaf ticket.now.nonce service.now.uri book.old.store.journal.limit
+        book.new.store.records (row D.faults book.old book.new) result
+        ⊎ IsBusy (row D.faults book.old book.new) result }
+    ensures reply { IfOk result (λ due. IsReply due.reply) }
+{
+    match book.take(ticket, &service.uri) {
+        Ok(Taken::Settled(tree, receipt)) => Ok(stamp(tree, receipt)),
+        Ok(Taken::Waiting) => close_round(book, service, second, ticket),
+        Ok(Taken::Unknown) => put_again(book, service, second, ticket),
+        Err(OutOfMemory) => {
+            book.withdraw(ticket);
+            Err(OutOfMemory)
+        }
+    }
+}
+
+/// Puts the digest of a ticket that is not there once more, and closes the round.
+fn put_again<D: Disk>(
+    book: &mut Book<D>,
+    service: &Service,
+    second: u32,
+    ticket: &Ticket,
+) -> Result<Due, OutOfMemory>
+    ensures goes { Goes book.old book.new }
+    ensures settles { Settles ticket.now.leaf ticket.now.nonce service.now.uri book.old.store.journal.limit
+        book.new.store.records (row D.faults book.old book.new) result
+        ⊎ IsBusy (row D.faults book.old book.new) result }
+    ensures reply { IfOk result (λ due. IsReply due.reply) }
+{
+    match put(book, ticket.leaf, ticket.nonce) {
+        Ok(again) => close_round(book, service, second, &again),
+        Err(PutError::Busy) => Ok(in_words(503, Word::Busy)),
+        Err(PutError::OutOfMemory) => Err(OutOfMemory),
+    }
+}
+
+/// Closes the round over all that wait, of which the ticket is one, and takes it. Where the round is
+/// not closed, the ticket is withdrawn.
+fn close_round<D: Disk>(
+    book: &mut Book<D>,
+    service: &Service,
+    second: u32,
+    ticket: &Ticket,
+) -> Result<Due, OutOfMemory>
+    requires waits { OneIs (Waits ticket.now) book.old.tickets.waiting }
+    requires unsettled { NoneIs (IsSettled ticket.now) book.old.tickets.settled }
+    ensures goes { Goes book.old book.new }
+    ensures fewer { length book.new.tickets.waiting < length book.old.tickets.waiting }
+    ensures gone { kept book.new.tickets < kept book.old.tickets }
+    ensures settles { Settles ticket.now.leaf ticket.now.nonce service.now.uri book.old.store.journal.limit
+        book.new.store.records (row D.faults book.old book.new) result }
+    ensures reply { IfOk result (λ due. IsReply due.reply) }
+{
+    match close(book, service, second) {
+        Ok(()) => take_settled(book, &service.uri, ticket),
+        Err(why) => {
+            book.withdraw(ticket);
+            match why {
+                AppendError::DiskFault => Ok(in_words(503, Word::Disk)),
+                AppendError::Full { need: _, limit: _ } => Ok(in_words(507, Word::JournalFull)),
+                AppendError::OutOfMemory => Err(OutOfMemory),
+            }
+        }
+    }
+}
+
+/// Closes the round over all that wait, some of them.
+fn close<D: Disk>(book: &mut Book<D>, service: &Service, second: u32) -> Result<(), AppendError>
+    requires { 0 < length book.old.tickets.waiting }
+    ensures goes { Goes book.old book.new }
+    ensures closed { OnOk result (Closed service.now.key second book.old book.new) }
+    ensures none { OnOk result (length book.new.tickets.waiting ≡ 0) }
+    ensures kept { OnOk result (kept book.new.tickets ≡ kept book.old.tickets) }
+    ensures fits { OnOk result (book.new.store.journal.gate < book.old.store.journal.limit) }
+    ensures refused { OnErr result ((book.new.tickets.waiting ≡ book.old.tickets.waiting)
+        × (book.new.tickets.settled ≡ book.old.tickets.settled)) }
+    ensures disk { result ≡ Err AppendError.DiskFault → Rose (D.faults book.old.store.journal.disk)
+        (D.faults book.new.store.journal.disk) }
+    ensures full { (need limit : ℕ) → result ≡ Err (AppendError.Full need limit)
+        → IsFull book.old.store.journal.limit book.new.store.journal.gate }
+{
+    calls_grow::<D>();
+    book.store().stands();
+    match book.close(second, &service.key) {
+        Ok(_) => Ok(()),
+        Err(why) => Err(why),
+    }
+}
+
+/// Takes a ticket whose round is closed. Where memory runs out, it is given up.
+fn take_settled<D: Disk>(book: &mut Book<D>, uri: &Uri, ticket: &Ticket) -> Result<Due, OutOfMemory>
+    requires { NoneIs (IsSettled ticket.now) book.old.tickets.settled → ⊥ }
+    ensures store { book.new.store ≡ book.old.store }
+    ensures waiting { length book.new.tickets.waiting ≤ length book.old.tickets.waiting }
+    ensures gone { kept book.new.tickets < kept book.old.tickets }
+    ensures settles { (limit : ℕ) (row : Row) → StoresWithin limit row
+        → Settles ticket.now.leaf ticket.now.nonce uri.now limit book.new.store.records row result }
+    ensures reply { IfOk result (λ due. IsReply due.reply) }
+{
+    match book.take(ticket, uri) {
+        Ok(Taken::Settled(tree, receipt)) => Ok(stamp(tree, receipt)),
+        Ok(_) => unreachable!(),
+        Err(OutOfMemory) => {
+            book.withdraw(ticket);
+            Err(OutOfMemory)
+        }
+    }
+}

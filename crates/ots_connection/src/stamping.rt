@@ -1,0 +1,118 @@
+//! What comes of a digest.
+ghost use Rattle.std.specs.Prelude.{◌≡◌, ◌⊎◌, ◌≤◌, false, List, [], ◌∷◌, IfOk};
+ghost use Rattle.ots_http.specs.ReplyText.{IsReply};
+ghost use Rattle.ots_http.specs.declared.request.Request.TheVariants.{Digest};
+ghost use Rattle.ots_shared.specs.Told.{IsPassOf};
+ghost use Rattle.ots_shared.specs.declared.row.Row.{Row};
+ghost use Rattle.ots_connection.specs.Connection.{Handles};
+ghost use Rattle.ots_connection.specs.Holds.{Holds};
+ghost use Rattle.ots_connection.specs.Putting.{Puts};
+ghost use Rattle.ots_connection.specs.Stamping.{Comes, IsBusy, Settles};
+
+use crate::Service;
+use crate::closing::settle;
+use crate::due::{Due, in_words};
+use crate::putting::put;
+use ots_base::OutOfMemory;
+use ots_calendar::{Leaf, PutError, Ticket};
+use ots_disk::Disk;
+use ots_http::Word;
+use ots_outside::{Clock, Failed, Nonces};
+use ots_shared::{Pass, Shared};
+use std::sync::Wait;
+
+/// Timestamps a digest: draws its nonce, reads the clock, and goes on with both.
+pub(crate) fn stamp_digest<D: Disk, C: Clock, N: Nonces, R: Wait>(
+    rt: &R,
+    shared: &Shared<D>,
+    pass: &mut Pass,
+    service: &Service,
+    leaf: Leaf,
+    clock: &mut C,
+    nonces: &mut N,
+) -> Result<Due, OutOfMemory>
+    requires own { IsPassOf shared.now pass.old }
+    requires free { pass.old.holding ≡ false }
+    ensures handles { Handles service.now.uri shared.now.limit (Digest leaf)
+        (record { left = N.left nonces.old; faults = N.faults nonces.old; second = C.coming clock.old })
+        (record { left = N.left nonces.new; faults = N.faults nonces.new; second = C.coming clock.new })
+        pass.old pass.new result }
+    ensures reply { IfOk result (λ due. IsReply due.reply) }
+{
+    let mut nonce = [0; 16];
+    match nonces.fill16(&mut nonce) {
+        Err(Failed) => Ok(in_words(503, Word::Nonce)),
+        Ok(()) => {
+            let second = clock.second();
+            if second > u64::from(u32::MAX) {
+                return Ok(in_words(500, Word::Clock));
+            }
+            stamp_at(rt, shared, pass, service, second as u32, leaf, nonce)
+        }
+    }
+}
+
+/// Timestamps a digest at this second. The book is held twice, so that many callers that have put
+/// theirs share the round that the first of them closes.
+fn stamp_at<D: Disk, R: Wait>(
+    rt: &R,
+    shared: &Shared<D>,
+    pass: &mut Pass,
+    service: &Service,
+    second: u32,
+    leaf: Leaf,
+    nonce: [u8; 16],
+) -> Result<Due, OutOfMemory>
+    requires own { IsPassOf shared.now pass.old }
+    requires free { pass.old.holding ≡ false }
+    ensures comes { (rows : List Row) × Holds pass.old pass.new rows
+        × Comes leaf nonce service.now.uri second shared.now.limit pass.new.seen rows result }
+    ensures reply { IfOk result (λ due. IsReply due.reply) }
+{
+    match put_held(rt, shared, pass, leaf, nonce) {
+        Ok(ticket) => settle_held(rt, shared, pass, service, second, &ticket),
+        Err(PutError::Busy) => Ok(in_words(503, Word::Busy)),
+        Err(PutError::OutOfMemory) => Err(OutOfMemory),
+    }
+}
+
+/// Puts a digest, in one hold.
+fn put_held<D: Disk, R: Wait>(
+    rt: &R,
+    shared: &Shared<D>,
+    pass: &mut Pass,
+    leaf: Leaf,
+    nonce: [u8; 16],
+) -> Result<Ticket, PutError>
+    requires own { IsPassOf shared.now pass.old }
+    requires free { pass.old.holding ≡ false }
+    ensures puts { (row : Row) × Holds pass.old pass.new (row ∷ []) × Puts row result }
+    ensures ticket { IfOk result (λ t. (t.leaf ≡ leaf) × (t.nonce ≡ nonce)) }
+{
+    let mut held = shared.hold(rt, pass);
+    let ticket = put(held.book(), leaf, nonce);
+    shared.release(pass, held);
+    ticket
+}
+
+/// Takes the tree of a ticket, in one hold, in which its round is closed where it was not.
+fn settle_held<D: Disk, R: Wait>(
+    rt: &R,
+    shared: &Shared<D>,
+    pass: &mut Pass,
+    service: &Service,
+    second: u32,
+    ticket: &Ticket,
+) -> Result<Due, OutOfMemory>
+    requires own { IsPassOf shared.now pass.old }
+    requires free { pass.old.holding ≡ false }
+    ensures settles { (row : Row) × Holds pass.old pass.new (row ∷ []) × (row.waiting_left ≤ row.waiting_found)
+        × (Settles ticket.now.leaf ticket.now.nonce service.now.uri shared.now.limit pass.new.seen row result
+        ⊎ IsBusy row result) }
+    ensures reply { IfOk result (λ due. IsReply due.reply) }
+{
+    let mut held = shared.hold(rt, pass);
+    let due = settle(held.book(), service, second, ticket);
+    shared.release(pass, held);
+    due
+}

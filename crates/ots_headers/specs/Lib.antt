@@ -1,0 +1,4 @@
+pub mod Header
+pub mod DoubleSha256
+pub mod HeaderTable
+pub mod TableRead

@@ -1,0 +1,4 @@
+pub mod Bytes
+pub mod Came
+pub mod Meant
+pub mod Opened

@@ -1,0 +1,5 @@
+pub mod File
+pub mod Input
+pub mod Kept
+pub mod Opened
+pub mod Under

@@ -1,0 +1,8 @@
+//! Outputs: a file that is made under a name, and lines that both programs print.
+#![tactic(auto)]
+
+mod lines;
+mod output;
+
+pub use lines::{put_bad_address, put_name, put_number};
+pub use output::{Contents, OutputError, make_file};

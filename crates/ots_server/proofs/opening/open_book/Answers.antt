@@ -1,7 +1,0 @@
-use Rattle.ots_server.proofs.Opened.{book_refused}
-use Rattle.ots_server.proofs.opening.open_book.Goals as goal
-
-pub returns-in-Err-open-clause-err : goal.returns-in-Err-open-clause-err
-returns-in-Err-open-clause-err g c =
-    book_refused g.D.Disk.bytes g.D.Disk.faults g.D.Disk.clock g.D.Disk.images g.D.Disk.images_since c.args.disk c.in-Ok.store.journal c.in-Ok.store.records _ _ _
-    c.in-Ok.ensures.ok c.in-Ok.ensures.records c.in-Err-open.ensures.bad c.in-Err-open.ensures.disk c.store_status.ensures

@@ -1,9 +1,0 @@
-pub mod Address
-pub mod Block
-pub mod Digests
-pub mod DigestsFile
-pub mod File
-pub mod Input
-pub mod Key
-pub mod Lines
-pub mod Old

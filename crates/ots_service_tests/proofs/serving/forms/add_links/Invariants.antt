@@ -1,7 +1,0 @@
-use Rattle.std.proofs.Common.{All, Some}
-use Rattle.ots_outside.specs.Link.{IsFresh}
-use Rattle.ots_service_tests.proofs.serving.forms.add_links.Given as goal
-
--- No link was read or written yet.
-abbrev pub invariant-loop : goal.invariant-loop
-invariant-loop l = All (λ link. IsFresh (Some link.link.link) link.link.faults) l.links.items

@@ -1,5 +1,0 @@
-//! What no clause of `ots_serving` says: that several connections are served at once, that each gets
-//! its reply, and that no more are accepted than were asked for.
-mod forms;
-mod runs;
-mod tests;

@@ -1,6 +1,0 @@
-use denote.Param.Send.{IsSync, part_keyless}
-use Rattle.ots_verifier.specs.contracts.fed.Fed.{the_row}
-use Rattle.ots_verifier.proofs.fed.Fed.TheSendSync.Send.{send}
-
-pub sync : IsSync the_row
-sync = record { shared = λ d b o κ q. part_keyless the_row send q d b o }

@@ -1,0 +1,15 @@
+use Rattle.std.proofs.Common.{◌≡◌, false}
+use Rattle.ots_shared.specs.Records.{StartsWith}
+use Rattle.ots_shared.specs.Told.{IsPassOf}
+use Rattle.ots_workers.proofs.worker.work_alone.Given as goal
+
+-- The pass keeps its seat, isn't holding, and has seen at least as much.
+abbrev pub invariant-loop : goal.invariant-loop
+invariant-loop g l = record {
+  can : (goal.iterator-loop g).can_next l.iterator';
+  finite : (goal.iterator-loop g).is_finite l.iterator';
+  seat : l.pass.seat ≡ l.fn.pass.seat;
+  own : IsPassOf l.shared l.pass;
+  free : l.pass.holding ≡ false;
+  seen : StartsWith l.pass.seen l.fn.pass.seen;
+}

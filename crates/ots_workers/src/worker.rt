@@ -1,0 +1,121 @@
+//! One worker.
+ghost use Rattle.std.specs.Prelude.{◌≡◌, true, false, IfSome};
+ghost use Rattle.ots_outside.specs.Link.{IsFresh};
+ghost use Rattle.ots_connection.specs.Answered.{IsAnswered};
+ghost use Rattle.ots_shared.specs.Records.{StartsWith};
+ghost use Rattle.ots_shared.specs.Told.{IsPassOf};
+ghost use Rattle.ots_workers.specs.Over.{IsOver};
+ghost use Rattle.ots_workers.specs.Turns.{ServesTurn};
+
+use crate::front::{Front, Turn};
+use ots_connection::{Service, serve_connection};
+use ots_disk::Disk;
+use ots_outside::{Accepter, Clock, FixedClock, Link, Nonces};
+use ots_shared::{Pass, Shared};
+use std::alloc::Global;
+use std::sync::{Mutex, Wait};
+
+/// Serves the connection of a turn, with its second and its nonce, and says whether the link is
+/// answered.
+fn serve_turn<D: Disk, L: Link, R: Wait>(
+    rt: &R,
+    alloc: Global,
+    shared: &Shared<D>,
+    service: &Service,
+    pass: &mut Pass,
+    turn: Turn<L>,
+) -> (L, bool)
+    requires own { IsPassOf shared.now pass.old }
+    requires free { pass.old.holding ≡ false }
+    requires fresh { IsFresh (L.told turn.link) (L.faults turn.link) }
+    ensures serves { ServesTurn (λ link. record { told = L.told link; faults = L.faults link }) service.now.uri
+        shared.now.limit pass.old turn pass.new result.0 result.1 }
+    ensures answered { result.1 ≡ true → IsAnswered (L.told result.0) (L.faults result.0) }
+    ensures seat { (pass.new.seat ≡ pass.old.seat) × (pass.new.holding ≡ false) }
+    ensures seen { StartsWith pass.new.seen pass.old.seen }
+{
+    let Turn {
+        mut link,
+        second,
+        mut nonce,
+    } = turn;
+    let mut clock = FixedClock { second };
+    let served = serve_connection(
+        rt, alloc, shared, pass, service, &mut link, &mut clock, &mut nonce,
+    );
+    (link, served.is_answer())
+}
+
+/// One turn under the lock.
+fn next_turn<A: Accepter, C: Clock, N: Nonces, R: Wait>(
+    rt: &R,
+    desk: &Mutex<Front<A, C, N>>,
+    most: Option<u64>,
+) -> Option<Turn<A::Link>>
+    ensures { IfSome result (λ turn. IsFresh (A.Link.told turn.link) (A.Link.faults turn.link)) }
+{
+    desk.lock(rt).next(most)
+}
+
+/// Gives a link back under the lock.
+fn give_back<A: Accepter, C: Clock, N: Nonces, R: Wait>(
+    rt: &R,
+    desk: &Mutex<Front<A, C, N>>,
+    link: A::Link,
+    answered: bool,
+)
+    requires { answered ≡ true → IsAnswered (A.Link.told link) (A.Link.faults link) }
+{
+    desk.lock(rt).give_back(link, answered);
+}
+
+/// One worker: a turn, its connection, and the link given back, until serving is over.
+pub(crate) fn work<D: Disk, A: Accepter, C: Clock, N: Nonces, R: Wait>(
+    rt: &R,
+    alloc: Global,
+    desk: &Mutex<Front<A, C, N>>,
+    shared: &Shared<D>,
+    service: &Service,
+    mut pass: Pass,
+    most: Option<u64>,
+) -> Pass
+    requires own { IsPassOf shared.now pass }
+    requires free { pass.holding ≡ false }
+    ensures seat { (result.seat ≡ pass.seat) × (result.holding ≡ false) }
+    ensures seen { StartsWith result.seen pass.seen }
+{
+    for _ in rt.forever() {
+        let Some(turn) = next_turn(rt, desk, most) else {
+            return pass;
+        };
+        let (link, answered) = serve_turn(rt, alloc, shared, service, &mut pass, turn);
+        give_back(rt, desk, link, answered);
+    }
+    unreachable!()
+}
+
+/// Goes on with turns alone, until serving is over.
+pub(crate) fn work_alone<D: Disk, A: Accepter, C: Clock, N: Nonces, R: Wait>(
+    rt: &R,
+    alloc: Global,
+    mut front: Front<A, C, N>,
+    shared: &Shared<D>,
+    service: &Service,
+    mut pass: Pass,
+    most: Option<u64>,
+) -> (Front<A, C, N>, Pass)
+    requires own { IsPassOf shared.now pass }
+    requires free { pass.holding ≡ false }
+    ensures over { IsOver result.0.failed (A.coming result.0.accepter) most (A.accepted result.0.accepter) }
+    ensures seat { (result.1.seat ≡ pass.seat) × (result.1.holding ≡ false) }
+    ensures seen { StartsWith result.1.seen pass.seen }
+{
+    for _ in rt.forever() {
+        let Some(turn) = front.next(most) else {
+            return (front, pass);
+        };
+        let (link, answered) = serve_turn(rt, alloc, shared, service, &mut pass, turn);
+        front.give_back(link, answered);
+    }
+    unreachable!()
+}
