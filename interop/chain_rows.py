@@ -9,6 +9,7 @@ nothing of this repository.
 """
 import hashlib
 import os
+import re
 import struct
 import sys
 
@@ -67,6 +68,32 @@ def changed(header, place, bit):
     return bytes(header)
 
 
+def read_pins(data):
+    """The pins of a file's bytes, or the number of the first line that is none."""
+    pins = []
+    while data or not pins:
+        line, end, data = data.partition(b"\n")
+        found = re.fullmatch(rb"(0|[1-9][0-9]*) ([0-9a-f]{64})", line)
+        if not end or len(pins) == 1024 or not found or int(found[1]) >= 2 ** 63:
+            return len(pins) + 1
+        pins.append((int(found[1]), bytes.fromhex(found[2].decode())[::-1]))
+    return pins
+
+
+def pins_answer(data):
+    pins = read_pins(data)
+    if isinstance(pins, int):
+        return f"bad pins line {pins}"
+    return f"pins {len(pins)} last {pins[-1][0]} {pins[-1][1].hex()}"
+
+
+def failing(first, headers, pins):
+    for height, wanted in pins:
+        if not first <= height < first + len(headers) or hash_of(headers[height - first]) != wanted:
+            return f"pin fails {height}"
+    return "held"
+
+
 ROWS, TOLD = [], []
 
 
@@ -83,6 +110,85 @@ def table(first, headers):
     for header in headers:
         row("header " + header.hex())
     row("check", check(first, headers) if headers else "no table")
+
+
+def pins(lines, more=b""):
+    """A file of these lines, each a text or a count and a text, and of more bytes after them."""
+    row("pins")
+    data = b""
+    for line in lines:
+        count, text = line if isinstance(line, tuple) else (1, line)
+        row(f"line {count} {text}")
+        data += (text.encode() + b"\n") * count
+    if more:
+        row("bytes " + more.hex())
+    return data + more
+
+
+def read(lines, more=b""):
+    row("read", pins_answer(pins(lines, more)))
+
+
+def pin(height, header):
+    return f"{height} {hash_of(header)[::-1].hex()}"
+
+
+def pin_rows():
+    good = pin(0, GENESIS)
+    hash_text = good[2:]
+    row("# pins: a file of no line, of one and of two, and one whose last line has no line feed")
+    read([])
+    read([good])
+    read([good, pin(1, NEXT)])
+    read([], good.encode())
+    read([good], good.encode())
+    read([good], b"0")
+    read([good], b"\n")
+    row("# heights: the greatest, and one more; with a leading zero, a sign, none, and past 64 bits")
+    for height in (2 ** 63 - 1, 2 ** 63, "00", "01", "+1", "-0", "", 2 ** 64, 10 ** 19, "1a", "\u0661"):
+        read([f"{height} {hash_text}"])
+    row("# hashes: an upper-case digit, one digit fewer and more, no digit, and what stands around them")
+    for text in (hash_text.upper(), hash_text[:-1] + "F", hash_text[1:], hash_text + "0", hash_text[:-1] + "g", "",
+                 hash_text + " ", " " + hash_text):
+        read([f"0 {text}"])
+    read(["", good])
+    read([hash_text])
+    read([good.replace(" ", "\t")])
+    read([], good.encode() + b"\r\n")
+    read([], (good + "\r\n").encode() * 2)
+    read([good], b"\r\n")
+    read([], b"\xff " + hash_text.encode() + b"\n")
+    row("# the line that is told is the first bad one")
+    read([good, good, "0", good, ""])
+    read([(1023, good), "1 " + hash_text.upper(), good])
+    row("# 1,024 lines, of which the last read begins within one, and one more line or byte")
+    longest = f"{2 ** 63 - 1} {hash_text}"
+    read([(1024, good)])
+    read([(1024, longest)])
+    read([(1025, good)])
+    read([(1024, longest), good])
+    read([(1024, good)], b"0")
+    read([(2000, good)])
+    row("# a line that does not end, as long as the longest one and longer")
+    read([], longest.encode())
+    read([], longest.encode() + b"0")
+    read([good], b"0" * 1000)
+    row("# a read that fails, the first one, the one that would find the end, and one of a long file")
+    for lines, number in (([good], 1), ([good], 2), ([(1024, longest)], 2), ([(1024, longest)], 3), ([good], 3)):
+        data = pins(lines)
+        row(f"read {number}", "read fault" if number <= len(data) // 65536 + 2 else pins_answer(data))
+    row("# a failed read is not told where a bad line came before it")
+    pins(["0"])
+    row("read 2", "bad pins line 1")
+    row("# pins within the table, above it and below it, of another header, and not turned round")
+    for first, headers in ((0, [GENESIS, NEXT]), (1, [NEXT])):
+        table(first, headers)
+        for lines in ([good], [pin(1, NEXT)], [pin(1, NEXT), good], [pin(2, NEXT)], [pin(1, GENESIS)],
+                      [pin(1, NEXT), pin(2, NEXT), pin(0, NEXT)], ["0 " + hash_of(GENESIS).hex()],
+                      ["1 " + hash_of(NEXT).hex()], [f"{2 ** 63 - 1} {hash_text}"], [(1023, pin(1, NEXT)), good]):
+            row("compare", failing(first, headers, read_pins(pins(lines))))
+    pins([])
+    row("compare", "no table or no pins")
 
 
 def rows():
@@ -118,6 +224,7 @@ def rows():
         row("check", check(1000, chain[:1000] + [changed(chain[1000], place, 3)] + chain[1001:]))
         row(f"change 1000 {place} 3")
     row("check", check(1000, chain))
+    pin_rows()
 
 
 def main():

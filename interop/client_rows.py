@@ -29,9 +29,10 @@ LITECOIN = bytes.fromhex('06869a0d73d71b45')
 RIPEMD160, KECCAK, FORK, ATTESTATION = 0x03, 0x67, 0xff, 0x00
 HASHES = {SHA1: ('sha1', 20), RIPEMD160: ('ripemd160', 20), SHA256: ('sha256', 32)}
 
-USAGE = 'usage: ots info, canon, merge, prune, verify, stamp, upgrade, sample'
+USAGE = 'usage: ots info, canon, merge, prune, verify, stamp, upgrade, sample, chain'
 MOST_BYTES = 4_194_304
 MOST_HEADERS = 83_886_080
+MOST_PINS = 1024
 MOST_REPLY = 10_000
 MOST_OPERATIONS, MOST_MESSAGE, MOST_PAYLOAD, MOST_URI = 255, 4096, 8192, 1000
 
@@ -598,8 +599,62 @@ def sample(out, words):
     return status
 
 
+def target_of(bits):
+    """The greatest hash that compact bits allow, as a number, or none where they stand for no target."""
+    exponent, digits = bits >> 24, bits % 2 ** 23
+    target = digits << 8 * (exponent - 3) if exponent >= 3 else digits >> 8 * (3 - exponent)
+    return None if bits >> 23 & 1 or not 0 < target < 2 ** 256 else target
+
+
+def block_hash(header):
+    return sha256(sha256(header))
+
+
+def header_fault(header, before):
+    """Why a header is not good after the one before it, where there is one; or none."""
+    if before and header[4:36] != block_hash(before):
+        return 'bad link'
+    target = target_of(int.from_bytes(header[72:76], 'little'))
+    if target is None:
+        return 'bad bits'
+    return 'above target' if int.from_bytes(block_hash(header), 'little') > target else None
+
+
+def pins_in(out, name):
+    """The pins of a file, each a height and a hash as it is shown."""
+    *lines, rest = out.read(name).decode('latin-1').split('\n')
+    found = []
+    for line in lines + ([rest] if rest or not lines else []):
+        form = re.fullmatch('(0|[1-9][0-9]{0,18}) ([0-9a-f]{64})', line)
+        whole = len(found) < len(lines) and len(found) < MOST_PINS
+        if not whole or not form or int(form[1]) >= 2 ** 63:
+            raise End(17, f'bad pins line {len(found) + 1}')
+        found.append((int(form[1]), form[2]))
+    return found
+
+
+def chain(out, words):
+    [name], options = arguments(words, 1, {'from': True, 'pins': False})
+    first = number_in(options['--from'], 0, 2 ** 63 - 1)
+    if options.get('--pins') == '':
+        raise End(2, USAGE)
+    headers = headers_in(out, name, first)
+    pins = pins_in(out, options['--pins']) if '--pins' in options else None
+    for height, header in headers.items():
+        fault = header_fault(header, headers.get(height - 1))
+        if fault:
+            raise End(16, f'broken at {height}: {fault}')
+    shown = {height: block_hash(header)[::-1].hex() for height, header in headers.items()}
+    for height, hash_shown in pins or []:
+        if shown.get(height) != hash_shown:
+            raise End(18, f'pin fails {height}')
+    last = max(headers)
+    out.print([f'chain {first} to {last} tip {shown[last]}'] + ([] if pins is None else [f'pins {len(pins)}']))
+    return 0
+
+
 COMMANDS = {'info': info, 'canon': canon, 'merge': merge, 'prune': prune, 'verify': verify, 'stamp': stamp,
-            'upgrade': upgrade, 'sample': sample}
+            'upgrade': upgrade, 'sample': sample, 'chain': chain}
 
 
 def run(out, words):

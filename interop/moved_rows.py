@@ -4,14 +4,15 @@
     interop/moved_rows.py
 
 Beside each program of rows lies a list, interop/moved/NAME.txt: which test functions its rows stand for, as they
-were at the revision that the first line of interop/moved/revision names. A line of a list is
+were at the revision that the first line of interop/moved/revision names, or at the one of the list's own line
+`revision REVISION`. A line of a list is
 
     CRATE FILE TEST -> a line of the crate's stdin that begins with #
     CRATE FILE TEST stays in CRATE FILE: why
     literal TEXT: why it stands nowhere
 
 Each test function of that revision has to stand in a list, or still be a test function of that name, or of the one that
-interop/moved/renamed has for it. Each word of
+interop/moved/renamed has for it, or be listed as one at a later revision. Each word of
 four letters or more in quotes, each text of bytes and each list of bytes that the old sources of a listed crate hold
 has to stand in the new rows, as text or in hexadecimal, or in a test that stays. It ends with 0 where nothing is
 missing.
@@ -76,6 +77,10 @@ def piece(word, names):
         out = names.get(word[1:])
     elif word.startswith('"') and word.endswith('"') and len(word) > 1:
         out = unescaped(word[1:-1])
+    elif word in names:
+        out = names[word]
+    elif word == "-":
+        out = b""
     elif re.fullmatch(r"([0-9a-f]{2})+", word):
         out = bytes.fromhex(word)
     else:
@@ -94,13 +99,16 @@ def spelled_out(script):
             names[words[1]] = unescaped(line.split(" ", 2)[2])
             found.append(names[words[1]].hex())
             continue
-        for start in range(1, min(4, len(words))):
-            pieces = [piece(word, names) for word in words[start:]]
+        for part in " ".join(words).split(" | "):
+            part = re.findall(r'"(?:[^"\\]|\\.)*"(?:\*\d+)?|\S+', part)
+            for start in range(min(6, len(part))):
+                pieces = [piece(word, names) for word in part[start:]]
+                if None not in pieces and sum(map(len, pieces)) < 1 << 20:
+                    found.append(b"".join(pieces).hex())
+        if words[:1] == ["let"]:
+            pieces = [piece(word, names) for word in words[2:]]
             if None not in pieces and sum(map(len, pieces)) < 1 << 20:
-                joined = b"".join(pieces)
-                found.append(joined.hex())
-                if words[0] == "let" and start == 2:
-                    names[words[1]] = joined
+                names.setdefault(words[1], b"".join(pieces))
     for line in script.splitlines():
         if line.startswith("= ") and "\\" in line:
             found.append(unescaped(line.split(" ", 2)[2]).hex())
@@ -115,31 +123,65 @@ def stands(text, now):
     return text in now or text.replace("\r", "\\r").replace("\n", "\\n") in now
 
 
+def is_told(it, now, squeezed):
+    """Whether a literal stands in the rows: as text, as bytes, or as numbers."""
+    text = it.decode(errors="replace")
+    # (the parts of a pattern stand around what it is filled with)
+    parts = re.split(r"\{[^{}]*\}", text) if text.isascii() else [text]
+    return (it.hex() in squeezed or all(stands(part, now) for part in parts) or text.replace(" ", "") in squeezed
+            or " ".join(map(str, it)) in now)
+
+
+def missing_of(revision, known, still, renamed, wanted, excused, now, squeezed):
+    """How many tests and literals of a revision stand nowhere."""
+    missing = 0
+    for path in git("ls-tree", "-r", "--name-only", revision, "crates").split("\n"):
+        if not re.fullmatch(r"crates/ots\w*_(tests|crashes|runs)/src/.*\.rt", path):
+            continue
+        crate = path.split("/")[1]
+        source = git("show", f"{revision}:{path}")
+        for test in tests(source):
+            if (revision, crate, test) not in known and renamed.get(test, test) not in still:
+                print(f"{path}: the test {test} stands nowhere")
+                missing += 1
+        for it in literals(source) if crate in wanted else []:
+            text = it.decode(errors="replace")
+            if len(it) >= 4 and text not in excused and it.hex() not in excused and not is_told(it, now, squeezed):
+                print(f"{path}: stands nowhere: {text if text.isprintable() else it.hex()}")
+                missing += 1
+    return missing
+
+
 def main():
     with open(f"{TOP}/interop/moved/revision") as file:
         revision = file.readline().strip()
-    known, excused, wanted, missing = {}, set(), set(), 0
+    first = revision
+    known, excused, wanted, missing = {}, set(), {}, 0
     for name in sorted(os.listdir(f"{TOP}/interop/moved")):
         if not name.endswith(".txt"):
             continue
         crate = name[:-4]
         with open(f"{TOP}/crates/{crate}/stdin") as file:
             heads = {line.rstrip("\n") for line in file if line.startswith("#")}
+        revision = first
         with open(f"{TOP}/interop/moved/{name}") as file:
             for line in file:
                 line = line.rstrip("\n")
+                if line.startswith("revision "):
+                    revision = line.split(" ")[1]
+                    continue
                 moved = re.fullmatch(r"(ots\w+) (\S+) (\w+) -> (#.*)", line)
                 stays = re.fullmatch(r"(ots\w+) (\S+) (\w+) stays in (ots\w+) (\S+): .+", line)
                 excuse = re.fullmatch(r"literal (.*): [^:]+", line)
                 if moved:
-                    known[moved[1], moved[3]] = True
-                    wanted.add(moved[1])
+                    known[revision, moved[1], moved[3]] = True
+                    wanted.setdefault(revision, set()).add(moved[1])
                     if moved[4] not in heads:
                         print(f"{name}: no such line in stdin: {moved[4]}")
                         missing += 1
                 elif stays:
-                    known[stays[1], stays[3]] = True
-                    wanted.add(stays[1])
+                    known[revision, stays[1], stays[3]] = True
+                    wanted.setdefault(revision, set()).add(stays[1])
                     with open(f"{TOP}/crates/{stays[4]}/src/{stays[5]}") as source:
                         if stays[3] not in tests(source.read()):
                             print(f"{name}: no such test: {line}")
@@ -164,26 +206,9 @@ def main():
     with open(f"{TOP}/interop/moved/renamed") as file:
         renamed = dict(line.strip().split(" -> ") for line in file)
     squeezed = now.replace(" ", "")
-    old = [it for it in git("ls-tree", "-r", "--name-only", revision, "crates").split("\n")
-           if re.fullmatch(r"crates/ots\w*_(tests|crashes|runs)/src/.*\.rt", it)]
-    for path in old:
-        crate = path.split("/")[1]
-        source = git("show", f"{revision}:{path}")
-        for test in tests(source):
-            if (crate, test) not in known and renamed.get(test, test) not in still:
-                print(f"{path}: the test {test} stands nowhere")
-                missing += 1
-        if crate not in wanted:
-            continue
-        for it in literals(source):
-            text = it.decode(errors="replace")
-            if len(it) < 4 or text in excused or it.hex() in excused:
-                continue
-            # (the parts of a pattern stand around what it is filled with)
-            parts = re.split(r"\{[^{}]*\}", text) if text.isascii() else [text]
-            if it.hex() not in squeezed and not all(stands(part, now) for part in parts):
-                print(f"{path}: stands nowhere: {text if text.isprintable() else it.hex()}")
-                missing += 1
+    still |= {test for revision, _, test in known if revision != first}
+    for revision in {first, *wanted}:
+        missing += missing_of(revision, known, still, renamed, wanted.get(revision, set()), excused, now, squeezed)
     print(f"{missing} missing")
     sys.exit(missing > 0)
 

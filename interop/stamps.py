@@ -217,7 +217,7 @@ def refusals(folder):
     name, absent = os.path.join(folder, 'refused'), os.path.join(folder, 'absent')
     with open(name, 'wb'):
         pass
-    usage = 'usage: ots info, canon, merge, prune, verify, stamp, upgrade, sample'
+    usage = 'usage: ots info, canon, merge, prune, verify, stamp, upgrade, sample, chain'
     many = ','.join(f'http://127.0.0.1:{port}' for port in range(1, 18))
     calls = [
         (['--calendars', 'http://a,http://a', '--min', '1', name], 14, 'bad address at 9'),

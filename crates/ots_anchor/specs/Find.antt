@@ -47,7 +47,7 @@ pub record IsFound (c : Contents) (roots : List (List ℕ)) (f : Found) : Type 0
 abbrev pub HasNoTip : Contents → List (List ℕ) → Type 0
 HasNoTip c roots = (t : ℕ) → t < length c.transactions → ¬ HasRoot roots (form_of c t)
 
--- No short transaction holds a root, and the first that does has so many bytes.
+-- No short transaction holds a root, and the first that does has n bytes.
 pub record IsTooLong (c : Contents) (roots : List (List ℕ)) (n : ℕ) : Type 0 where
   pub transaction : ℕ
   pub inside : transaction < length c.transactions

@@ -1,4 +1,4 @@
--- For the code alone: the first root among the first so many.
+-- For the code alone: the first root among the first ones.
 use Rattle.std.specs.Prelude.{◌≢◌, ◌<◌, ℕ, List, nat_lt, Option, None, Some, if◌then◌else◌}
 use Rattle.memchr.specs.Find.{OccursAt}
 use Rattle.ots_anchor.specs.declared.mark.Mark.{Mark}

@@ -30,7 +30,7 @@ pub enum FindError {
     /// No transaction without its witness has a root in it.
     NoTip,
     /// Only transactions that have more than 4096 bytes without their witness have a root in them.
-    /// The first of them has so many.
+    /// The number is the length of the first of them.
     TransactionTooLong(u64),
     /// Memory ran out.
     OutOfMemory,
@@ -60,7 +60,7 @@ impl<T: Drop> From<AllocFailed<T>> for FindError {
 
 /// Where the block holds one of these roots: of the transactions that have at most 4096 bytes
 /// without their witness and a root among them the first, and in it the first place. An operation's
-/// result has at most so many bytes, so no path leads through a longer one.
+/// result is no longer, so no path leads through a longer one.
 ///
 /// `NoTip` comes exactly where no transaction holds a root, and `TransactionTooLong` exactly where
 /// only longer ones do.
@@ -134,7 +134,7 @@ fn long_after(long: Option<u64>, look: Look) -> Option<u64>
 enum Look {
     /// No root.
     Nothing,
-    /// A root, and it has so many bytes without its witness, more than 4096.
+    /// A root, and its length without its witness is this, more than 4096 bytes.
     Long(u64),
     /// A root, first there, and it has at most 4096 bytes.
     Short(Mark),

@@ -86,7 +86,7 @@ pub(crate) const BITCOIN: [u8; 8] = [0x05, 0x88, 0x96, 0x0d, 0x73, 0xd7, 0x19, 0
 /// The kind of a Litecoin attestation.
 pub(crate) const LITECOIN: [u8; 8] = [0x06, 0x86, 0x9a, 0x0d, 0x73, 0xd7, 0x1b, 0x45];
 
-/// How many bytes so many bytes after their length have.
+/// The length of `count` bytes that stand after their length.
 #[tactic(auto, using(crate::proofs::Lengths::lengths))]
 fn varbytes_length(count: usize) -> usize
     requires { count ≤ MAX_PAYLOAD }

@@ -11,8 +11,8 @@ ghost use Rattle.ots_attest.specs.declared.payload.PayloadError.TheVariants.{Out
 
 use crate::attestation::Attestation;
 use crate::attestation_ref::AttestationRef;
-use crate::other::{Other, are_bytes, copy_kind};
-use ots_base::MAX_PAYLOAD;
+use crate::other::{Other, copy_kind};
+use ots_base::{MAX_PAYLOAD, are_bytes};
 
 /// A spelling determines its attestation and begins no other's. Nor does it begin with an
 /// operation's, whose tag is never 0.

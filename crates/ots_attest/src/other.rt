@@ -87,8 +87,3 @@ pub(crate) fn copy_kind(kind: &[u8; 8]) -> [u8; 8]
     copied.copy_from_slice(kind);
     copied
 }
-
-/// The numbers in a slice of bytes are below 256.
-pub(crate) fn are_bytes(bytes: &[u8])
-    ensures { AllByRecursion (λ b. b < 256) bytes.now }
-{}

@@ -13,10 +13,10 @@ ghost use Rattle.ots_attest.specs.declared.attestation.Attestation.{Attestation}
 
 use crate::attestation::{Attestation, BITCOIN, LITECOIN, PENDING};
 use crate::attestation_ref::AttestationRef;
-use crate::other::{are_bytes, copy_kind};
+use crate::other::copy_kind;
 use crate::other_ref::OtherRef;
 use crate::uri_ref::UriRef;
-use ots_base::{MAX_PAYLOAD, MAX_URI};
+use ots_base::{MAX_PAYLOAD, MAX_URI, are_bytes};
 use ots_varint::{VaruintRead, read_varuint};
 use std::alloc::Global;
 use thiserror::Error;

@@ -33,7 +33,7 @@ impl Model for Uri {
 /// Why bytes are no URI of a pending attestation.
 #[derive(Clone, Copy, Debug, PartialEq, Eq, Error)]
 pub enum UriError {
-    /// There are so many bytes, which is more than 1000.
+    /// The number of bytes, which is more than 1000.
     #[error("a URI of {0} bytes is longer than 1000")]
     TooLong(u64),
     /// The byte at this place, counted from 0, is not allowed. It is the first such byte.

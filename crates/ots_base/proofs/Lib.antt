@@ -1,1 +1,2 @@
+pub mod AllBytes
 pub mod NoSize

@@ -4,13 +4,15 @@
 //! decides.
 #![tactic(auto)]
 
+mod bytes;
 mod ghost_bytes;
 mod limits;
 mod out_of_memory;
 
+pub use bytes::are_bytes;
 pub use ghost_bytes::GhostBytes;
 pub use limits::{
     MAX_ARGUMENT, MAX_HEADER_FILE, MAX_HEXLIFIED, MAX_MESSAGE, MAX_OPERATIONS, MAX_PAYLOAD,
-    MAX_PROOF_FILE, MAX_TARGET_FILE, MAX_URI,
+    MAX_PROOF_FILE, MAX_REPLY_BODY, MAX_TARGET_FILE, MAX_URI,
 };
 pub use out_of_memory::OutOfMemory;

@@ -25,6 +25,10 @@ pub const MAX_PAYLOAD: usize = 8192;
 /// `MAX_URI_LENGTH`).
 pub const MAX_URI: usize = 1000;
 
+/// The most bytes of the body of a calendar's reply that a client takes (python-opentimestamps,
+/// `calendar.py`, `RemoteCalendar`, which reads at most as many).
+pub const MAX_REPLY_BODY: usize = 10_000;
+
 /// The most bytes of a proof file, 4 MiB. The format has no limit; this one is this project's.
 pub const MAX_PROOF_FILE: usize = 4_194_304;
 

@@ -6,7 +6,7 @@ use Rattle.ots_block.specs.declared.fault.BlockError.TheVariants.{BadBlock, OutO
 use Rattle.ots_block.specs.Block.{Contents}
 use Rattle.ots_block.specs.Reading.{Halt, block_at}
 
--- where reading halts, counted from the start of so many bytes
+-- where reading halts, counted from the start of all bytes
 abbrev pub placed : {A : Type 0} → ℕ → Result A Halt → Result A BlockError
 placed total (Ok x) = Ok x
 placed total (Err h) = Err (BadBlock (total - h.left) h.reason)

@@ -89,7 +89,7 @@ kept_at bytes = do
   all ← many_at laid_at count.0 count.1
   ended all.0 all.1
 
--- the last so many bytes
+-- the last n bytes
 abbrev pub last : ℕ → List ℕ → List ℕ
 last n bytes = drop (length bytes - n) bytes
 
@@ -98,7 +98,7 @@ unfoldable pub stripped_in : List ℕ → Places → List ℕ
 stripped_in bytes p = take 4 (last p.start bytes) ++ take (p.body - p.witness) (last p.body bytes)
     ++ take 4 (last p.lock_time bytes)
 
--- the places lie within so many bytes, in their order
+-- the places lie within n bytes, in their order
 pub record AreWithin (n : ℕ) (p : Places) : Type 0 where
   pub start : p.start ≤ n
   pub body : p.body + 4 ≤ p.start

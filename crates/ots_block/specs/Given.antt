@@ -14,7 +14,7 @@ abbrev pub Gives : {X Y : Type 0} → (X → Y) → Result X Stop → Result Y H
 Gives view (Ok x) read = read ≡ Ok (view x)
 Gives view (Err s) read = read ≡ Err (halt_of s)
 
--- The same of a function that takes memory, over so many bytes.
+-- The same of a function that takes memory, over `total` bytes.
 abbrev pub Fails : {Y : Type 0} → ℕ → BlockError → Result Y Halt → Type 0
 Fails total (BadBlock place why) read = placed total read ≡ Err (BadBlock place why)
 Fails total OutOfMemory read = Unit {0}

@@ -30,7 +30,7 @@ abbrev pub ◌>>=◌ : {A B : Type 0} → Result A Halt → (A → Result B Halt
 
 -- ---- numbers and runs
 
--- so many bytes
+-- n bytes
 unfoldable pub run_at : ℕ → List ℕ → Read (List ℕ)
 run_at n bytes = if nat_lt (length bytes) n then halts bytes Truncated else Ok (take n bytes, drop n bytes)
 
@@ -40,7 +40,7 @@ in_range least bytes n rest =
     if nat_lt n least then halts bytes NonMinimal else if nat_lt MAX_COMPACT n then halts bytes TooLarge
     else Ok (n, rest)
 
--- a number of so many bytes after the first byte of its form
+-- a number after the first byte of its form, of as many bytes as the form has
 abbrev pub wide_at : Width → ℕ → List ℕ → List ℕ → Read ℕ
 wide_at w least bytes after =
     if nat_lt (length after) (byte_len w) then halts bytes Truncated
@@ -59,7 +59,7 @@ sized_at bytes = do
   n ← compact_at bytes
   run_at n.0 n.1
 
--- ---- so many things, one after the other
+-- ---- n things, one after the other
 
 unfoldable pub many_at : {A : Type 0} → (List ℕ → Read A) → ℕ → List ℕ → Read (List A)
 many_at one zero bytes = Ok ([], bytes)
@@ -101,7 +101,7 @@ unfoldable pub marker_at : List ℕ → Read Bool
 marker_at [] = Ok (false, [])
 marker_at (first ∷ after) = if nat_eq first 0 then flag_at after else Ok (false, first ∷ after)
 
--- after a marker, a list of items for each of so many inputs
+-- after a marker, a list of items for each input
 unfoldable pub witness_at : Bool → ℕ → List ℕ → Read (Option (List (List (List ℕ))))
 witness_at false inputs bytes = Ok (None, bytes)
 witness_at true inputs bytes = do

@@ -9,7 +9,7 @@ use crate::fault::BlockReason;
 use crate::places::Places;
 use crate::stop::Stop;
 
-/// The bytes after a run of so many.
+/// The bytes after the first `count`.
 pub(crate) fn skip_run(bytes: &[u8], count: usize) -> Result<&[u8], Stop>
     ensures { Gives (λ x. x.now) result (run_end count bytes.now) }
 {
@@ -47,7 +47,7 @@ fn skip_output(bytes: &[u8]) -> Result<&[u8], Stop>
     skip_sized(rest)
 }
 
-/// The bytes after so many inputs.
+/// The bytes after `count` inputs.
 fn skip_inputs(bytes: &[u8], count: usize) -> Result<&[u8], Stop>
     ensures { Gives (λ x. x.now) result (many_end input_end count bytes.now) }
 {
@@ -68,7 +68,7 @@ fn read_inputs(bytes: &[u8]) -> Result<(usize, &[u8]), Stop>
     Ok((count, rest))
 }
 
-/// The bytes after so many outputs.
+/// The bytes after `count` outputs.
 fn skip_outputs(bytes: &[u8], count: usize) -> Result<&[u8], Stop>
     ensures { Gives (λ x. x.now) result (many_end output_end count bytes.now) }
 {
@@ -89,7 +89,7 @@ fn read_outputs(bytes: &[u8]) -> Result<(usize, &[u8]), Stop>
     Ok((count, rest))
 }
 
-/// The bytes after so many items of a witness.
+/// The bytes after `count` items of a witness.
 fn skip_items(bytes: &[u8], count: usize) -> Result<&[u8], Stop>
     ensures { Gives (λ x. x.now) result (many_end sized_end count bytes.now) }
 {
@@ -109,7 +109,7 @@ fn skip_stack(bytes: &[u8]) -> Result<&[u8], Stop>
     skip_items(rest, count)
 }
 
-/// The bytes after the items of so many inputs.
+/// The bytes after the witness items of `count` inputs.
 fn skip_stacks(bytes: &[u8], count: usize) -> Result<&[u8], Stop>
     ensures { Gives (λ x. x.now) result (many_end stack_end count bytes.now) }
 {
@@ -120,7 +120,7 @@ fn skip_stacks(bytes: &[u8], count: usize) -> Result<&[u8], Stop>
     Ok(rest)
 }
 
-/// The bytes after the witness of so many inputs, where there is one.
+/// The bytes after the witness of these inputs, where there is one.
 #[tactic(auto, unfolding(crate::specs::Ends::witness_end))]
 fn skip_witness(marked: bool, inputs: usize, bytes: &[u8]) -> Result<&[u8], Stop>
     ensures { Gives (λ x. x.now) result (witness_end marked inputs bytes.now) }

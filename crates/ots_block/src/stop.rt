@@ -23,7 +23,7 @@ impl Stop {
         }
     }
 
-    /// The same as the error of a block with so many bytes.
+    /// The same as the error of a block with `total` bytes.
     pub(crate) fn in_block(self, total: usize) -> BlockError
         ensures { result ≡ BadBlock (total - self.left) self.reason }
     {

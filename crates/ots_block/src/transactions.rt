@@ -62,7 +62,7 @@ fn read_count(bytes: &[u8]) -> Result<(usize, &[u8]), Stop>
     Ok((count, rest))
 }
 
-/// The places of so many transactions at the start of these last bytes of a block of `total`, and
+/// The places of `count` transactions at the start of these last bytes of a block of `total`, and
 /// the bytes after them.
 fn read_transactions(
     alloc: Global,

@@ -8,7 +8,7 @@ use Rattle.ots_store.specs.declared.tip.Tip.{Tip}
 use Rattle.ots_store.specs.Order.{commits_of}
 use Rattle.ots_store.specs.Records.{Record, CommitRecord, TipRecord, AnchorRecord}
 
--- so many of the commitments, from one index on
+-- `count` of the commitments, from index `first` on
 abbrev pub span : ℕ → ℕ → List (List ℕ) → List (List ℕ)
 span first count commits = take count (drop first commits)
 

@@ -70,7 +70,7 @@ pub enum AnchorError {
     /// covered.
     NoTip,
     /// Only transactions that have more than `MAX_MESSAGE` bytes without their witness have one in them. The
-    /// first of them has so many.
+    /// number is the length of the first of them.
     TransactionTooLong(u64),
     /// A call of the disk failed, and the disk has counted the fault.
     DiskFault,

@@ -148,7 +148,7 @@ fn is_true_anchor(
     Ok(anchor.root == climb(&anchor.branch, id))
 }
 
-/// The root of the tree over so many commitments, from one index on.
+/// The root of the tree over `count` commitments from index `first` on.
 fn root_over(
     alloc: Global,
     commitments: &[[u8; 44]],

@@ -10,7 +10,7 @@ record_line commits (CommitRecord commitment) = commit_line commits commitment
 record_line commits (TipRecord tip) = tip_line tip.first tip.count tip.root
 record_line commits (AnchorRecord anchor) = anchor_line anchor.first anchor.count anchor.height anchor.root
 
--- after so many commitments
+-- the lines of records that stand after `commits` commitments
 abbrev pub lines_from : ℕ → List Record → List ℕ
 lines_from commits [] = []
 lines_from commits (r ∷ records) = record_line commits r ++ lines_from (commits + length (commit_in r)) records

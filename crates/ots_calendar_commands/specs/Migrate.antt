@@ -20,7 +20,7 @@ pub record FirstOther (entries old : List Entry) (i : ℕ) : Type 0 where
 abbrev pub group_at : List Entry → ℕ → List Entry
 group_at rest k = take MAX_GROUP (drop (MAX_GROUP * k) rest)
 
--- The place of the closed gate after so many groups, where it was at this place: each has a gate, a head of six bytes,
+-- The place of the closed gate after k groups, where it was at this place: each has a gate, a head of six bytes,
 -- and its entries.
 abbrev pub gate_after : ℕ → List Entry → ℕ → ℕ
 gate_after gate rest k = gate + 7 * k + length (entries_bytes (take (MAX_GROUP * k) rest))
@@ -29,7 +29,7 @@ gate_after gate rest k = gate + 7 * k + length (entries_bytes (take (MAX_GROUP *
 abbrev pub size_at : ℕ → List Entry → ℕ → ℕ
 size_at gate rest k = size_with (gate_after gate rest k) (group_at rest k)
 
--- so many groups fit the limit
+-- the first `count` groups fit the limit
 abbrev pub FitGroups : ℕ → ℕ → List Entry → ℕ → Type 0
 FitGroups limit gate rest count = (k : ℕ) → k < count → MAX_GROUP * k < length rest → size_at gate rest k ≤ limit
 

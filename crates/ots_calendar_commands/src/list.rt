@@ -1,7 +1,6 @@
 //! The command `list`.
-ghost use Rattle.std.specs.Prelude.{◌≡◌, [], ◌∷◌, ◌≤◌, false, length, MatchResult};
+ghost use Rattle.std.specs.Prelude.{◌≡◌, ◌≤◌, length};
 ghost use Rattle.ots_base.specs.Cause.{Rose};
-ghost use Rattle.ots_outside.specs.Streams.{Takes, TakesPrefix};
 ghost use Rattle.ots_printer.specs.Printing.{Puts};
 ghost use Rattle.ots_store.specs.Order.{records_of};
 ghost use Rattle.ots_store.specs.Records.{IsRecord, number, record_of};
@@ -10,9 +9,11 @@ ghost use Rattle.ots_calendar_commands.specs.Printed.{PrintsLast};
 ghost use Rattle.ots_calendar_text.specs.declared.status.DaemonStatus.TheVariants.{Done};
 ghost use Rattle.ots_outputs.specs.Printed.{SinkStays};
 
+use crate::printing::print_last;
 use ots_calendar_text::{DaemonStatus, put_anchor, put_commit, put_tip};
 use ots_disk::Disk;
-use ots_outside::{Failed, Sink};
+use ots_outputs::PrintedText;
+use ots_outside::Sink;
 use ots_printer::Printer;
 use ots_store::Store;
 
@@ -27,28 +28,24 @@ pub fn list<D: Disk, K: Sink>(store: &Store<D>, out: &mut K) -> DaemonStatus
         (list_text (records_of store.now.journal.entries)) (K.taken out.old) (K.taken out.new) result }
     ensures sink { SinkStays K.faults K.same out.old out.new }
 {
-    match put_whole(store, &mut Printer::new(out)) {
-        Ok(()) => DaemonStatus::Done,
-        Err(Failed) => DaemonStatus::WriteFault,
-    }
+    print_last(&RecordLines { store }, DaemonStatus::Done, out)
 }
 
-/// Puts the lines on a new printer, and finishes it.
-fn put_whole<D: Disk, K: Sink>(store: &Store<D>, out: &mut Printer<'_, K>) -> Result<(), Failed>
-    requires empty { out.old.held ≡ [] }
-    requires good { out.old.failed ≡ false }
-    ensures loan { out.new.sink.ghost_name ≡ out.old.sink.ghost_name }
-    ensures printed { MatchResult result (λ _. Takes (K.taken out.old.sink.now) (K.taken out.new.sink.now)
-        (list_text (records_of store.now.journal.entries)))
-        (λ _. Rose (K.faults out.old.sink.now) (K.faults out.new.sink.now)
-        × TakesPrefix (K.taken out.old.sink.now) (K.taken out.new.sink.now)
-        (list_text (records_of store.now.journal.entries))) }
-    ensures sink { SinkStays K.faults K.same out.old.sink.now out.new.sink.now }
-{
-    put_lines(store, out);
-    match out.finish() {
-        Ok(()) => Ok(()),
-        Err(Failed) => Err(Failed),
+/// A line for each record of a store.
+#[derive(Drop)]
+struct RecordLines<'a, D: Disk> {
+    store: &'a Store<D>,
+}
+
+impl<D: Disk> PrintedText for RecordLines<'_, D> {
+    ghost use Rattle.std.specs.Prelude.{◌≡◌};
+    ghost use Rattle.ots_store.specs.Order.{records_of};
+    ghost use Rattle.ots_calendar_commands.specs.List.{list_text};
+
+    ghost is_text = { λ l bytes. bytes ≡ list_text (records_of l.store.now.journal.entries) };
+
+    fn put<K: Sink>(&self, out: &mut Printer<'_, K>) {
+        put_lines(self.store, out);
     }
 }
 
@@ -67,7 +64,7 @@ fn put_lines<D: Disk, K: Sink>(store: &Store<D>, out: &mut Printer<'_, K>)
     }
 }
 
-/// Puts the line of a record, before which stand so many commitments.
+/// Puts the line of a record that stands after `commits` commitments.
 fn put_record<K: Sink>(commits: u64, kind: u8, payload: &[u8], out: &mut Printer<'_, K>)
     requires { IsRecord (record { kind = kind; payload = payload.now }) }
     ensures { Puts K.taken K.faults K.same (record_line commits

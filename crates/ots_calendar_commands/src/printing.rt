@@ -1,5 +1,5 @@
 //! Printing, with which each run ends.
-ghost use Rattle.std.specs.Prelude.{◌≡◌, [], false, MatchResult};
+ghost use Rattle.std.specs.Prelude.{ℕ, List, MatchResult};
 ghost use Rattle.ots_base.specs.Cause.{Rose};
 ghost use Rattle.ots_outside.specs.Streams.{Takes, TakesPrefix};
 ghost use Rattle.ots_printer.specs.Printing.{Puts};
@@ -11,6 +11,7 @@ ghost use Rattle.ots_outputs.specs.Printed.{SinkStays};
 use ots_calendar_text::{
     DaemonStatus, put_anchored, put_listening, put_migrated, put_refusal, put_served, put_tip,
 };
+use ots_outputs::{PrintedText, print_whole};
 use ots_outside::{Failed, Sink};
 use ots_printer::Printer;
 use ots_store::Tip;
@@ -47,7 +48,21 @@ pub fn print<K: Sink>(text: &Text<'_>, status: DaemonStatus, out: &mut K) -> Dae
         (K.taken out.old) (K.taken out.new) result }
     ensures sink { SinkStays K.faults K.same out.old out.new }
 {
-    match put_whole(text, &status, &mut Printer::new(out)) {
+    print_last(&RunText { text, status }, status, out)
+}
+
+/// Prints any text, with which a run ends that has this status.
+pub fn print_last<T: PrintedText, K: Sink>(
+    text: &T,
+    status: DaemonStatus,
+    out: &mut K,
+) -> DaemonStatus
+    ensures printed { (bytes : List ℕ) × T.is_text text.now bytes
+        × PrintsLast (Rose (K.faults out.old) (K.faults out.new)) status bytes (K.taken out.old) (K.taken out.new)
+        result }
+    ensures sink { SinkStays K.faults K.same out.old out.new }
+{
+    match print_whole(text, out) {
         Ok(()) => status,
         Err(Failed) => DaemonStatus::WriteFault,
     }
@@ -60,32 +75,31 @@ pub fn print_listening<K: Sink>(port: u16, out: &mut K) -> Result<(), Failed>
         (listening_line port)) }
     ensures sink { SinkStays K.faults K.same out.old out.new }
 {
-    put_whole(
-        &Text::Listening(port),
-        &DaemonStatus::Done,
-        &mut Printer::new(out),
+    let text = Text::Listening(port);
+    print_whole(
+        &RunText {
+            text: &text,
+            status: DaemonStatus::Done,
+        },
+        out,
     )
 }
 
-/// Puts a text on a new printer, and finishes it.
-fn put_whole<K: Sink>(
-    text: &Text<'_>,
-    status: &DaemonStatus,
-    out: &mut Printer<'_, K>,
-) -> Result<(), Failed>
-    requires empty { out.old.held ≡ [] }
-    requires good { out.old.failed ≡ false }
-    ensures loan { out.new.sink.ghost_name ≡ out.old.sink.ghost_name }
-    ensures printed { MatchResult result (λ _. Takes (K.taken out.old.sink.now) (K.taken out.new.sink.now)
-        (text_of status.now text.now))
-        (λ _. Rose (K.faults out.old.sink.now) (K.faults out.new.sink.now)
-        × TakesPrefix (K.taken out.old.sink.now) (K.taken out.new.sink.now) (text_of status.now text.now)) }
-    ensures sink { SinkStays K.faults K.same out.old.sink.now out.new.sink.now }
-{
-    put_text(text, status, out);
-    match out.finish() {
-        Ok(()) => Ok(()),
-        Err(Failed) => Err(Failed),
+/// A text of a run that ends with this status.
+#[derive(Clone, Copy)]
+struct RunText<'a> {
+    text: &'a Text<'a>,
+    status: DaemonStatus,
+}
+
+impl PrintedText for RunText<'_> {
+    ghost use Rattle.std.specs.Prelude.{◌≡◌};
+    ghost use Rattle.ots_calendar_commands.specs.Printed.{text_of};
+
+    ghost is_text = { λ t bytes. bytes ≡ text_of t.status t.text.now };
+
+    fn put<K: Sink>(&self, out: &mut Printer<'_, K>) {
+        put_text(self.text, &self.status, out);
     }
 }
 

@@ -1,6 +1,5 @@
 -- A word and each file give one thing at most, are refused in one way at most, and never both.
-use Rattle.std.proofs.Common.{◌≡◌, ◌≢◌, ◌<◌, ◌≤◌, inl, inr, ℕ, suc, ◌+◌, Bool, false, List, [], ◌∷◌, ◌++◌, length, take, drop, get_or, map, Result, Ok, Err, refl, sym, ap, subst, ◌∙◌, arith, append_assoc, length-append}
-use Rattle.std.proofs.lemmas.List.{drop_at, get_or_append_left, take_at}
+use Rattle.std.proofs.Common.{◌≡◌, ◌≢◌, ◌<◌, inl, inr, ℕ, ◌+◌, Bool, false, List, [], ◌∷◌, ◌++◌, length, take, drop, get_or, map, Result, Err, refl, sym, ap, ◌∙◌, arith, append_assoc, length-append}
 use Rattle.std.specs.List.{AllByRecursion, flat_map}
 use Rattle.ots_address.specs.Address.{AddressParts, text_of}
 use Rattle.ots_address.proofs.ListLemmas.{none_bad, one_bad}
@@ -22,12 +21,12 @@ use Rattle.ots_calendar_text.specs.declared.status.DaemonStatus.{DaemonStatus}
 use Rattle.ots_calendar_text.specs.declared.status.DaemonStatus.TheVariants.{BadAddress, BadBlock, BadDigests, Damaged}
 use Rattle.ots_calendar_inputs.specs.Address.{IsOneAddress, RefusesAddress, bad, several}
 use Rattle.ots_calendar_inputs.specs.Block.{GivesBlock, RefusesBlock, too_big, bad_block}
-use Rattle.ots_calendar_inputs.specs.Digests.{BeginsLine, BeginsLines, HasLine, IsBadLine, IsDigest, IsDigests, RefusesDigests}
+use Rattle.ots_inputs.proofs.OneFile.{lines_given_once, lines_never_both, one_bad_line}
+use Rattle.ots_calendar_inputs.specs.DigestLines.{digest_form}
+use Rattle.ots_calendar_inputs.specs.Digests.{IsDigests, RefusesDigests}
 use Rattle.ots_calendar_inputs.specs.Key.{GivesKey, RefusesKey}
 use Rattle.ots_calendar_inputs.specs.Old.{GivesOld, RefusesOld, no_journal, damaged}
 use Rattle.ots_calendar_inputs.specs.Old as old
-use Rattle.ots_calendar_inputs.specs.declared.lines.TheConstants.{MAX_LINES}
-use Rattle.ots_calendar_inputs.proofs.Lining.{after_digits, no_end}
 
 -- ---- the address
 
@@ -68,79 +67,15 @@ key_never_both bytes key status gives refuses = refuses.none gives.is_key
 
 -- ---- the digests
 
--- the digits of a line hold no line feed, so that no line ends within another's
-no_longer : (digits after digits' after' digest : List ℕ) → IsDigest digits' digest → digits ++ 10 ∷ after ≡ digits' ++ 10 ∷ after' → length digits < length digits' → ⊥
-no_longer digits after digits' after' digest is same less =
-    no_end digits' digest is (length digits) less
-    (sym (get_or_append_left digits' (10 ∷ after') 0 (length digits) less) ∙ ap (λ (z : List ℕ). get_or z (length digits) 0) (sym same) ∙ after_digits digits after)
-
-one_digest : (digits first second : List ℕ) → IsDigest digits first → IsDigest digits second → first ≡ second
-one_digest digits first second f g = let same : Ok first ≡ Ok second = sym f.decoded ∙ g.decoded in cc
-
-one_line : (bytes first second after after' : List ℕ) → BeginsLine bytes first after → BeginsLine bytes second after' → (first ≡ second) × (after ≡ after')
-one_line bytes first second after after' f g =
-    let same : f.digits ++ 10 ∷ after ≡ g.digits ++ 10 ∷ after' = sym f.whole ∙ g.whole in
-    let sizes : length f.digits ≡ length g.digits =
-    omega (arith, no_longer f.digits after g.digits after' second g.is same, no_longer g.digits after' f.digits after first f.is (sym same)) in
-    let digits : f.digits ≡ g.digits =
-    sym (take_at f.digits (10 ∷ after) (length f.digits) refl) ∙ ap (λ (z : List ℕ). take (length f.digits) z) same ∙ take_at g.digits (10 ∷ after') (length f.digits) (sym sizes) in
-    let rests : 10 ∷ after ≡ 10 ∷ after' =
-    sym (drop_at f.digits (10 ∷ after) (length f.digits) refl) ∙ ap (λ (z : List ℕ). drop (length f.digits) z) same ∙ drop_at g.digits (10 ∷ after') (length f.digits) (sym sizes) in
-    (one_digest g.digits first second (subst (λ (z : List ℕ). IsDigest z first) digits f.is) g.is, ap (λ (z : List ℕ). drop 1 z) rests)
-
--- as many lines from the start are the same lines, and leave the same
-same_lines : (bytes rest rest' : List ℕ) (ds es : List (List ℕ)) → BeginsLines bytes ds rest → BeginsLines bytes es rest' → length ds ≡ length es → (ds ≡ es) × (rest ≡ rest')
-same_lines bytes rest rest' [] [] f g sizes = (refl, sym f ∙ g)
-same_lines bytes rest rest' [] (e ∷ es) f g sizes = absurd (omega (arith, sizes))
-same_lines bytes rest rest' (d ∷ ds) [] f g sizes = absurd (omega (arith, sizes))
-same_lines bytes rest rest' (d ∷ ds) (e ∷ es) (after, line, lines) (after', line', lines') sizes =
-    let one = one_line bytes d e after after' line line' in
-    let more = same_lines after rest rest' ds es lines (subst (λ (z : List ℕ). BeginsLines z es rest') (sym one.1) lines') (omega (arith, sizes)) in
-    (ap (λ (z : List ℕ). z ∷ ds) one.0 ∙ ap (λ (z : List (List ℕ)). e ∷ z) more.0, more.1)
-
--- fewer lines from the start have a line after them
-line_after : (bytes rest rest' : List ℕ) (ds es : List (List ℕ)) → BeginsLines bytes ds rest → BeginsLines bytes es rest' → length ds < length es → HasLine rest
-line_after bytes rest rest' ds [] f g less = absurd (omega (arith, less))
-line_after bytes rest rest' [] (e ∷ es) f (after, line, lines) less = subst HasLine f (record { digest = e; after = after; begins = line })
-line_after bytes rest rest' (d ∷ ds) (e ∷ es) (after, line, lines) (after', line', lines') less =
-    let one = one_line bytes d e after after' line line' in
-    line_after after rest rest' ds es lines (subst (λ (z : List ℕ). BeginsLines z es rest') (sym one.1) lines') (omega (arith, less))
-
-none_in_nothing : HasLine [] → ⊥
-none_in_nothing has =
-    let whole = has.begins.whole in
-    absurd (omega (arith, ap length whole, length-append has.begins.digits (10 ∷ has.after)))
-
 pub digests_given_once : (bytes : List ℕ) (first second : List (List ℕ)) → IsDigests bytes first → IsDigests bytes second → first ≡ second
-digests_given_once bytes first second f g =
-    let not_less : length first < length second → ⊥ = λ less. none_in_nothing (line_after bytes [] [] first second f.lines g.lines less) in
-    let not_more : length second < length first → ⊥ = λ more. none_in_nothing (line_after bytes [] [] second first g.lines f.lines more) in
-    (same_lines bytes [] [] first second f.lines g.lines (omega (arith, not_less, not_more))).0
-
--- no line stands where the first bad one is
-bad_is_last : (bytes rest : List ℕ) (number : ℕ) (digests : List (List ℕ)) (b : IsBadLine bytes number) → BeginsLines bytes digests rest → length digests ≤ MAX_LINES → length b.digests < length digests → ⊥
-bad_is_last bytes rest number digests b lines most less =
-    b.none (omega (arith, most, less)) (line_after bytes b.rest rest b.digests digests b.lines lines less)
-
-one_bad_line : (bytes : List ℕ) (first second : ℕ) → IsBadLine bytes first → IsBadLine bytes second → first ≡ second
-one_bad_line bytes first second f g =
-    let not_less : length f.digests < length g.digests → ⊥ = bad_is_last bytes g.rest first g.digests f g.lines g.most in
-    let not_more : length g.digests < length f.digests → ⊥ = bad_is_last bytes f.rest second f.digests g f.lines f.most in
-    let sizes : length f.digests ≡ length g.digests = omega (arith, not_less, not_more) in
-    f.at ∙ ap suc sizes ∙ sym g.at
+digests_given_once = lines_given_once digest_form
 
 pub digests_refused_once : (bytes : List ℕ) (first second : DaemonStatus) → RefusesDigests bytes first → RefusesDigests bytes second → first ≡ second
 digests_refused_once bytes first second f g =
-    f.status ∙ ap (λ (z : ℕ). let s : DaemonStatus = BadDigests z in s) (one_bad_line bytes f.number g.number f.bad g.bad) ∙ sym g.status
+    f.status ∙ ap (λ (z : ℕ). let s : DaemonStatus = BadDigests z in s) (one_bad_line digest_form bytes f.number g.number f.bad g.bad) ∙ sym g.status
 
 pub digests_never_both : (bytes : List ℕ) (digests : List (List ℕ)) (status : DaemonStatus) → IsDigests bytes digests → RefusesDigests bytes status → ⊥
-digests_never_both bytes digests status is refuses =
-    let b = refuses.bad in
-    let not_less : length b.digests < length digests → ⊥ = bad_is_last bytes [] refuses.number digests b is.lines is.most in
-    let not_more : length digests < length b.digests → ⊥ = λ more. none_in_nothing (line_after bytes [] b.rest digests b.digests is.lines b.lines more) in
-    let sizes : length b.digests ≡ length digests = omega (arith, not_less, not_more) in
-    let nothing_left : b.rest ≡ [] = (same_lines bytes b.rest [] b.digests digests b.lines is.lines sizes).1 in
-    absurd (let some = is.some in omega (arith, some, sizes, ap length (b.left nothing_left)))
+digests_never_both bytes digests status is refuses = lines_never_both digest_form bytes digests refuses.number is refuses.bad
 
 -- ---- the block
 

@@ -2,5 +2,5 @@ pub mod Address
 pub mod Block
 pub mod Digests
 pub mod Key
-pub mod Lines
+pub mod DigestLines
 pub mod Old

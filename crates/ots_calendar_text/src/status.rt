@@ -39,7 +39,7 @@ pub enum DaemonStatus {
     /// The entry with this index is the first that is no record, or may not stand where it stands;
     /// of a command but `migrate` also where its values are not right.
     BadRecord(u64),
-    /// The journal's file would have `need` bytes, more than the limit; or it has so many.
+    /// The journal's file has `need` bytes, or would have them, which is more than the limit.
     Full {
         need: u64,
         limit: u64,
@@ -53,15 +53,15 @@ pub enum DaemonStatus {
         header: [u8; 32],
         computed: [u8; 32],
     },
-    /// `anchor`: the first transaction that has the root of a tip in it has so many bytes without
-    /// its witness, more than 4096, and so has each other one.
+    /// `anchor`: each transaction that has the root of a tip in it is longer than 4096 bytes without
+    /// its witness. The number is the length of the first of them.
     TransactionTooLong(u64),
     /// The block file is no block: where and why.
     BadBlock {
         place: u64,
         reason: BlockReason,
     },
-    /// The key file has so many bytes: none, or 65 where it has more than 64.
+    /// The length of the key file: 0, or 65 where it has more than 64 bytes.
     BadKey(u64),
     /// The first line of the file of digests that is not of its form, counted from 1.
     BadDigests(u64),

@@ -4,11 +4,11 @@ use Rattle.ots_tree.specs.declared.token.Token.{Token}
 use Rattle.ots_canon.specs.Steps.{step_at}
 use Rattle.ots_canon.specs.Tags.{is_op}
 
--- so many places further on
+-- d places further on
 abbrev pub shifted : ℕ → List ℕ → List ℕ
 shifted d ks = map (λ k. k + d) ks
 
--- so many operations follow after one place, no fork between, and alike after the other
+-- d operations follow after one place, no fork between, and alike after the other
 pub record AreAlike (ts : List Token) (first k d : ℕ) : Type 0 where
   pub within : (first + d < length ts) × (k + d < length ts)
   pub ops : (j : ℕ) → j < d → (is_op (slice_get ts (first + j)) ≡ true) × (is_op (slice_get ts (first + j + 1)) ≡ true)

@@ -215,7 +215,7 @@ fn common_steps(tokens: &Tokens<'_>, run: &[usize]) -> usize
     steps
 }
 
-/// How many of them follow alike among the next `ahead`, where so many are known to.
+/// How many of them follow alike among the next `ahead`, where the first `known` are known to.
 fn steps_within(tokens: &Tokens<'_>, run: &[usize], known: usize, ahead: usize) -> usize
     requires some { 0 < length run.now }
     requires chain { IsChain tokens.now run.now known }
@@ -251,8 +251,8 @@ fn steps_alike(tokens: &Tokens<'_>, first: usize, place: usize, known: usize, ah
     steps
 }
 
-/// The places of the items of all nodes that stand after the operations which follow so many steps
-/// after these places.
+/// The places of the items of all nodes that stand after the operations `steps` steps after these
+/// places.
 pub(crate) fn items_after(
     alloc: Global,
     tokens: &Tokens<'_>,

@@ -1,6 +1,7 @@
 -- Numbers that are compared by their bytes, from the high one on.
-use Rattle.std.proofs.Common.{◌≡◌, ℕ, zero, suc, ◌+◌, ◌*◌, ◌^◌, ◌<◌, ◌≤◌, List, [], ◌∷◌, ◌++◌, ◌↔◌, Bool, IsTrue, is_le, length, get_or, reverse, refl, sym, ap, ◌∙◌, subst, arith, true≢false, lit<, pow-suc, mul-le-mul_right, add-mul}
+use Rattle.std.proofs.Common.{◌≡◌, ℕ, suc, ◌+◌, ◌*◌, ◌^◌, ◌<◌, ◌≤◌, List, [], ◌∷◌, ◌↔◌, Bool, IsTrue, is_le, length, reverse, refl, sym, ap, ◌∙◌, subst, arith, true≢false, lit<, pow-suc, mul-le-mul_right, add-mul}
 use Rattle.std.proofs.lemmas.List.{reverse-append, length-reverse}
+use Rattle.ots_chain.specs.Reversed.{AreBytes, bytes_reverse}
 use Rattle.std.specs.Ordering.{MatchOrdering, nat_cmp, ordering_then}
 use Rattle.std.specs.Cmp.Lexicographic.{slice_cmp}
 use Rattle.std.specs.declared.cmp.Ordering.{Ordering}
@@ -8,23 +9,6 @@ use Rattle.std.specs.declared.cmp.Ordering.TheVariants.{Less, Equal, Greater}
 use Rattle.std.proofs.lemmas.Cmp.{ranked}
 use Rattle.ots_chain.specs.Target.{be_number, le_number}
 use Rattle.ots_chain.proofs.Numbers.{be_append}
-
-abbrev pub AreBytes : List ℕ → Type 0
-AreBytes l = (i : ℕ) → get_or l i 0 < 256
-
-bytes_append : (x y : List ℕ) → AreBytes x → AreBytes y → AreBytes (x ++ y)
-bytes_append [] y left right i = right i
-bytes_append (a ∷ x) y left right zero = left zero
-bytes_append (a ∷ x) y left right (suc i) = bytes_append x y (λ j. left (suc j)) right i
-
-bytes_one : (x : ℕ) → x < 256 → AreBytes (x ∷ [])
-bytes_one x h zero = h
-bytes_one x h (suc i) = lit< tt
-
-pub bytes_reverse : (l : List ℕ) → AreBytes l → AreBytes (reverse l)
-bytes_reverse [] h = h
-bytes_reverse (x ∷ xs) h =
-    subst AreBytes (sym (reverse-append (x ∷ []) xs)) (bytes_append (reverse xs) (x ∷ []) (bytes_reverse xs (λ i. h (suc i))) (bytes_one x (h 0)))
 
 be_below : (l : List ℕ) → AreBytes l → be_number l < 256 ^ length l
 unfolding be_number

@@ -2,3 +2,4 @@ pub mod Numbers
 pub mod Compared
 pub mod Heights
 pub mod OneCheck
+pub mod PinText

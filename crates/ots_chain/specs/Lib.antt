@@ -1,2 +1,5 @@
 pub mod Target
 pub mod Chain
+pub mod Pins
+pub mod PinLines
+pub mod Reversed

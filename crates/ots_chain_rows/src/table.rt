@@ -51,15 +51,26 @@ impl Table {
 
     /// What the check of the table answers.
     pub fn check_line(&self, alloc: Global) -> Result<String, AllocError> {
-        match answer_of(alloc, self.first, self.bytes.as_slice())? {
-            Some(answer) => line_of(alloc, answer),
+        match self.headers(alloc)? {
+            Some(headers) => line_of(alloc, check(&headers)),
             None => "no table\n".to_string(alloc),
         }
+    }
+
+    /// The table that the bytes are, if they are one.
+    pub fn headers(&self, alloc: Global) -> Result<Option<Headers>, AllocError> {
+        let Ok(mut source) = BytesSource::new(alloc, self.bytes.as_slice(), &[], &[]) else {
+            return Err(AllocError);
+        };
+        if self.first > i64::MAX as u64 {
+            return Ok(None);
+        }
+        Ok(Headers::read(alloc, self.first, &mut source).ok())
     }
 }
 
 /// The number of a word; 0 where there is none.
-fn next_number(word: Option<&str>) -> usize {
+pub fn next_number(word: Option<&str>) -> usize {
     word.and_then(|word| word.parse::<usize>().ok())
         .unwrap_or(0)
 }
@@ -67,20 +78,6 @@ fn next_number(word: Option<&str>) -> usize {
 /// The byte in which this bit alone is set, of 0 to 7.
 fn bit_of(bit: usize) -> u8 {
     if bit < 8 { 1 << bit } else { 0 }
-}
-
-/// The check of the table that these bytes are, if they are one.
-fn answer_of(alloc: Global, first: u64, bytes: &[u8]) -> Result<Option<ChainCheck>, AllocError> {
-    let Ok(mut source) = BytesSource::new(alloc, bytes, &[], &[]) else {
-        return Err(AllocError);
-    };
-    if first > i64::MAX as u64 {
-        return Ok(None);
-    }
-    match Headers::read(alloc, first, &mut source) {
-        Ok(headers) => Ok(Some(check(&headers))),
-        Err(_) => Ok(None),
-    }
 }
 
 /// The line of an answer; the tip as a block hash is usually shown, its last byte first.

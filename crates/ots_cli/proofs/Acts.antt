@@ -9,12 +9,13 @@ use Rattle.ots_outside.specs.Shelf.{OnlyWriting, OnlyWriting-trans, ShelfFaults,
 use Rattle.ots_upgrade.specs.Stamped.{good_trees}
 use Rattle.ots_cli.specs.CarriedOut.{Carries, CarriesOn, CarriesOut, Does}
 use Rattle.ots_cli.specs.Decided.{acts_at, acts_of_stamped}
-use Rattle.ots_cli.specs.declared.status.Status.{Status}
+use Rattle.ots_client_text.specs.declared.status.Status.{Status}
 use Rattle.ots_cli.proofs.Carrying.{carries_later, does_more, does_then}
 use Rattle.ots_tree.specs.declared.token.Token.{Token}
 use Rattle.ots_upgrade.specs.declared.target.Target.{Target}
 use Rattle.ots_cli.specs.Ending.{Act, makes_stamp, prints}
-use Rattle.ots_cli.specs.Stamping.{StampedFiles, proof_name, stamp_acts, wrote_text}
+use Rattle.ots_cli.specs.Stamping.{StampedFiles, stamp_acts}
+use Rattle.ots_client_text.specs.Lines.{proof_name, wrote_text}
 
 module _ (targets : List Target) (trees : List (List Token)) where
   joined : (k : ℕ) (xs ys : List (List ℕ)) → stamp_acts targets trees k (xs ++ ys) ≡ stamp_acts targets trees k xs ++ stamp_acts targets trees (k + length xs) ys

@@ -6,14 +6,16 @@ use Rattle.ots_base.specs.declared.out_of_memory.OutOfMemory.{OutOfMemory as NoM
 use Rattle.ots_cli.specs.Answer.{CompletesAs, Decides, DecidesAs, PrintsInfo, TellsVerdict, WritesAsked, asked_made}
 use Rattle.ots_cli.specs.Decided.{EndsAs, IsEndingOf}
 use Rattle.ots_cli.specs.Ending.{Act, Ending, makes, prints}
-use Rattle.ots_cli.specs.Text.{asked_text, complete_status, complete_text, verdict_status, verdict_text}
+use Rattle.ots_cli.specs.Text.{asked_text}
+use Rattle.ots_client_text.specs.Status.{complete_status, verdict_status}
+use Rattle.ots_client_text.specs.Lines.{complete_text, verdict_text}
 use Rattle.ots_cli.specs.declared.ending.Acts.TheVariants.{MakeAfter, Print}
 use Rattle.ots_cli.specs.declared.ending.Ending.{Ending as Decided}
 use Rattle.ots_cli.specs.declared.ending.Text.TheVariants.{Asked, Proof}
 use Rattle.ots_cli.specs.declared.ending.Text.TheVariants as text
 use Rattle.ots_verdicts.specs.declared.verdicts.Verdict.{Verdict}
-use Rattle.ots_cli.specs.declared.status.Status.{Status}
-use Rattle.ots_cli.specs.declared.status.Status.TheVariants.{Done}
+use Rattle.ots_client_text.specs.declared.status.Status.{Status}
+use Rattle.ots_client_text.specs.declared.status.Status.TheVariants.{Done}
 use Rattle.ots_detached.specs.File.{IsFileOf, file_of}
 use Rattle.ots_pending.specs.Bitcoin.{HasBitcoin}
 use Rattle.ots_upgrade.specs.declared.asking.AskedAt.{AskedAt}
@@ -31,7 +33,7 @@ use Rattle.ots_cli.specs.Gathered as gathered
 use Rattle.ots_cli.specs.Gathered.{AreOffline, Suits, SuitsStamp, SuitsUpgrade}
 use Rattle.ots_cli.specs.declared.inputs.Inputs.{Inputs}
 use Rattle.ots_cli.specs.declared.inputs.Inputs.TheVariants as inputs
-use Rattle.ots_client_words.specs.Words.{ClientCommand, Stamping, Upgrading, info, canon, merge, prune, verify, stamp, upgrade, sample}
+use Rattle.ots_client_words.specs.Words.{ClientCommand, Stamping, Upgrading, info, canon, merge, prune, verify, stamp, upgrade, sample, chain}
 
 module _ {D : Type 0} (told : D → DialerTold) (faults : D → ℕ) where
   same_told : (old new : D) → new ≡ old → KeepsTold told faults old new
@@ -89,6 +91,7 @@ module _ {D : Type 0} (told : D → DialerTold) (faults : D → ℕ) where
     asks_nobody (inputs.Stamp s) old new m n offline h = absurd offline
     asks_nobody (inputs.Upgrade calendars proof to) old new m n offline h = absurd offline
     asks_nobody (inputs.Sample s) old new m n offline h = h
+    asks_nobody (inputs.Chain headers pins) old new m n offline h = h
 
     asks_calendars : (names : Option Names) (u : Upgrading) (i : Inputs) (old new : D) (m n : N) → SuitsUpgrade names u i → gathered.AsksFor told faults left i old new m n
         → AsksUpTo told faults names u old new
@@ -98,6 +101,7 @@ module _ {D : Type 0} (told : D → DialerTold) (faults : D → ℕ) where
     asks_calendars names u (inputs.Verify v) old new m n suits h = absurd suits
     asks_calendars names u (inputs.Stamp s) old new m n suits h = absurd suits
     asks_calendars names u (inputs.Sample s) old new m n suits h = absurd suits
+    asks_calendars names u (inputs.Chain headers pins) old new m n suits h = absurd suits
     asks_calendars names u (inputs.Upgrade calendars proof to) old new m n suits h = record {
       calendars = calendars.items;
       is_list = suits.0;
@@ -114,6 +118,7 @@ module _ {D : Type 0} (told : D → DialerTold) (faults : D → ℕ) where
     submits names s (inputs.Verify v) old new m n suits h = absurd suits
     submits names s (inputs.Upgrade calendars proof to) old new m n suits h = absurd suits
     submits names s (inputs.Sample i) old new m n suits h = absurd suits
+    submits names s (inputs.Chain headers pins) old new m n suits h = absurd suits
     submits names s (inputs.Stamp i) old new m n suits (inl same) = inl same
     submits names s (inputs.Stamp i) old new m n suits (inr h) = inr (record {
       calendars = i.calendars.items;
@@ -138,6 +143,7 @@ module _ {D : Type 0} (told : D → DialerTold) (faults : D → ℕ) where
     asks_of names (stamp s) i old new m n suits h = submits names s i old new m n suits h
     asks_of names (upgrade u) i old new m n suits h = inr (asks_calendars names u i old new m n suits h)
     asks_of names (sample k) i old new m n suits h = asks_nobody i old new m n suits h
+    asks_of names (chain w) i old new m n suits h = asks_nobody i old new m n suits h
 
     -- nothing was asked
     pub asks_none : (names : Option Names) (c : Option ClientCommand) (d : D) (m : N) → Asks told faults left names c d d m m
@@ -150,6 +156,7 @@ module _ {D : Type 0} (told : D → DialerTold) (faults : D → ℕ) where
     asks_none names (Some (stamp s)) d m = inl refl
     asks_none names (Some (upgrade u)) d m = inl refl
     asks_none names (Some (sample n)) d m = refl
+    asks_none names (Some (chain w)) d m = refl
 
   -- conversations in which nothing is drawn
   pub heard_alone : {N : Type 0} (left : N → Option (List ℕ)) (draw_faults : N → ℕ) (old new : D) (m : N) (o : Outside) → Hears told faults old new o
@@ -176,6 +183,7 @@ module _ {N : Type 0} (left : N → Option (List ℕ)) where
   draws_none (Some (stamp s)) m = record { nonces = []; few = omega arith; mid = m; draws = refl; left_stay = refl }
   draws_none (Some (upgrade u)) m = refl
   draws_none (Some (sample n)) m = refl
+  draws_none (Some (chain w)) m = refl
 
   draws_nothing : (i : Inputs) (m n : N) → AreOffline i → gathered.DrawsOf left i m n → n ≡ m
   draws_nothing (inputs.Info proof) m n offline h = h
@@ -185,6 +193,7 @@ module _ {N : Type 0} (left : N → Option (List ℕ)) where
   draws_nothing (inputs.Stamp s) m n offline h = absurd offline
   draws_nothing (inputs.Upgrade calendars proof to) m n offline h = h
   draws_nothing (inputs.Sample s) m n offline h = h
+  draws_nothing (inputs.Chain headers pins) m n offline h = h
 
   of_upgrade : (names : Option Names) (u : Upgrading) (i : Inputs) (m n : N) → SuitsUpgrade names u i → gathered.DrawsOf left i m n → n ≡ m
   of_upgrade names u (inputs.Info proof) m n suits h = h
@@ -193,6 +202,7 @@ module _ {N : Type 0} (left : N → Option (List ℕ)) where
   of_upgrade names u (inputs.Verify v) m n suits h = h
   of_upgrade names u (inputs.Stamp s) m n suits h = absurd suits
   of_upgrade names u (inputs.Sample s) m n suits h = absurd suits
+  of_upgrade names u (inputs.Chain headers pins) m n suits h = absurd suits
   of_upgrade names u (inputs.Upgrade calendars proof to) m n suits h = h
 
   of_stamp : (names : Option Names) (s : Stamping) (i : Inputs) (m n : N) → SuitsStamp names s i → gathered.DrawsOf left i m n → DrawsSome left (length s.files) m n
@@ -202,6 +212,7 @@ module _ {N : Type 0} (left : N → Option (List ℕ)) where
   of_stamp names s (inputs.Verify v) m n suits h = absurd suits
   of_stamp names s (inputs.Upgrade calendars proof to) m n suits h = absurd suits
   of_stamp names s (inputs.Sample i) m n suits h = absurd suits
+  of_stamp names s (inputs.Chain headers pins) m n suits h = absurd suits
   of_stamp names s (inputs.Stamp i) m n suits h =
       subst (λ (z : ℕ). DrawsSome left z m n) (sym (length-map i.files.items _) ∙ ap length suits.files) h
 
@@ -214,6 +225,7 @@ module _ {N : Type 0} (left : N → Option (List ℕ)) where
   draws_of names (stamp s) i m n suits h = of_stamp names s i m n suits h
   draws_of names (upgrade u) i m n suits h = of_upgrade names u i m n suits h
   draws_of names (sample k) i m n suits h = draws_nothing i m n suits h
+  draws_of names (chain w) i m n suits h = draws_nothing i m n suits h
 
 -- ---- what is decided
 

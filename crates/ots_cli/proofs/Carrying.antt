@@ -9,17 +9,17 @@ use Rattle.ots_cli.specs.declared.ending.Acts.{Acts}
 use Rattle.ots_cli.specs.declared.ending.Acts.TheVariants as acts
 use Rattle.ots_cli.specs.declared.ending.Ending.{Ending as Decided}
 use Rattle.ots_cli.specs.declared.ending.Text.{Text}
-use Rattle.ots_cli.specs.declared.status.Status.{Status}
+use Rattle.ots_client_text.specs.declared.status.Status.{Status}
 use Rattle.ots_cli.specs.Answer.{Comes, as_defined, not_read}
 use Rattle.ots_cli.specs.CarriedOut.{Carries, CarriesOut, CarriesOutEnding, Ends, carried_out, Does, Makes, MakesThen, PrintsBoth, PrintsLast}
 use Rattle.ots_outputs.specs.declared.output.OutputError.{OutputError}
 use Rattle.ots_cli.specs.Decided.{AreActsOf, IsTextOf}
 use Rattle.ots_cli.specs.Ending.{Act, Ending, makes, makes_stamp, prints}
 use Rattle.ots_cli.specs.Gathered.{ComesToEnd}
-use Rattle.ots_cli.specs.Refusal.{refusal_text}
-use Rattle.ots_cli.specs.Text.{complete_text}
+use Rattle.ots_client_text.specs.Refusal.{refusal_text}
+use Rattle.ots_client_text.specs.Lines.{complete_text}
 use Rattle.ots_outside.specs.Written.{with_name}
-use Rattle.ots_cli.specs.declared.status.Status.TheVariants.{WriteFault}
+use Rattle.ots_client_text.specs.declared.status.Status.TheVariants.{WriteFault}
 use Rattle.ots_outside.specs.Streams.{Takes, TakesPrefix}
 use Rattle.ots_outputs.specs.Made.{Outputs}
 use Rattle.ots_inputs.specs.Under.{IsUnder}
@@ -196,7 +196,7 @@ module _ (answers : Option Names → Ending → Type 0) (reads : List (List ℕ)
     (first : ComesToEnd answers reads old mid before between (Ok d)) (then : CarriesOutEnding d mid new between now printing taken taken_now r) where
   pub run_faults : NeverFalls before now
   run_faults =
-      let a = first.later.opening in let b = first.later.reading in let c = first.later.writing in let d = then.later in
+      let a = first.kept.later.opening in let b = first.kept.later.reading in let c = first.kept.later.writing in let d = then.later in
       let e = then.counts.opening in let f = then.counts.reading in
       record { opening = omega (arith, a, e); reading = omega (arith, b, f); writing = omega (arith, c, d) }
 
@@ -215,5 +215,5 @@ module _ (answers : Option Names → Ending → Type 0) (reads : List (List ℕ)
   pub run_ends : Ends (Comes (answers old.names) (StopsAt reads old.opened new.opened before now)) (Rose before.writing now.writing) printing
       old.names new.names taken taken_now r
   run_ends = carried_out then.ending (comes then.ending (first.ending then.ending then.is))
-      (subst (λ (z : ℕ). CarriesOut (Rose z now.writing) printing then.ending.status then.ending.acts old.names new.names taken taken_now r) first.writing
-      (subst (λ (z : Option Names). CarriesOut (Rose between.writing now.writing) printing then.ending.status then.ending.acts z new.names taken taken_now r) first.names then.out))
+      (subst (λ (z : ℕ). CarriesOut (Rose z now.writing) printing then.ending.status then.ending.acts old.names new.names taken taken_now r) first.kept.writing
+      (subst (λ (z : Option Names). CarriesOut (Rose between.writing now.writing) printing then.ending.status then.ending.acts z new.names taken taken_now r) first.kept.names then.out))

@@ -18,11 +18,15 @@ use Rattle.ots_cli.specs.Asking.{Outside}
 use Rattle.ots_cli.specs.CarriedOut.{CarriesOut, Ends, MakesThen, PrintsLast, carried_out, no_memory}
 use Rattle.ots_cli.specs.Complete.{CanStamp, CanUpgrade, IsDoneUnlessFailed}
 use Rattle.ots_cli.specs.Ending.{Ending, makes, printing, prints}
-use Rattle.ots_cli.specs.Found.{AreHashed, IsHashOf}
-use Rattle.ots_cli.specs.Stamping.{IsStampAt, calendars_text, no_nonce, proof_name, stamp_acts, stamped, too_few, wrote_text}
-use Rattle.ots_cli.specs.Text.{asked_text, complete_status, complete_text}
-use Rattle.ots_cli.specs.declared.status.Status.{Status}
-use Rattle.ots_cli.specs.declared.status.Status.TheVariants.{Done, ReadFault, WriteFault, NonceFault, OutOfMemory}
+use Rattle.ots_cli.specs.Found.{AreHashed}
+use Rattle.ots_client_inputs.specs.Target.{IsHashOf}
+use Rattle.ots_cli.specs.Stamping.{IsStampAt, calendars_text, no_nonce, stamp_acts, stamped, too_few}
+use Rattle.ots_client_text.specs.Lines.{proof_name, wrote_text}
+use Rattle.ots_cli.specs.Text.{asked_text}
+use Rattle.ots_client_text.specs.Status.{complete_status}
+use Rattle.ots_client_text.specs.Lines.{complete_text}
+use Rattle.ots_client_text.specs.declared.status.Status.{Status}
+use Rattle.ots_client_text.specs.declared.status.Status.TheVariants.{Done, ReadFault, WriteFault, NonceFault, OutOfMemory}
 use Rattle.ots_cli.proofs.OneAnswer.{not_a_proof, not_hashed}
 use Rattle.ots_cli.proofs.Outcome.{carried_status, only_prints}
 use Rattle.ots_client_words.specs.Words.{ClientCommand, Stamping, Upgrading, stamp, upgrade}

@@ -1,68 +1,63 @@
 -- One read after another.
-use Rattle.std.proofs.Common.{◌≡◌, ℕ, List, [], ◌∷◌, ◌++◌, Option, Some, None, refl, sym, ap, subst, ◌∙◌, arith}
-use Rattle.std.specs.Prelude.{Result, Ok, Err, IfOk, IfErr, IsErrAnd}
+use Rattle.std.proofs.Common.{◌≡◌, ℕ, List, [], ◌∷◌, ◌++◌, Option, Some, None, refl, sym, ap, subst}
+use Rattle.std.specs.Prelude.{Result, Ok, Err, IfOk, IfErr, IsErrAnd, IsOk}
 use Rattle.ots_outside.specs.Shelf.{Names, ShelfFaults, ShelfTold}
-use Rattle.ots_cli.specs.declared.input.InputError.{InputError}
-use Rattle.ots_cli.specs.declared.input.InputError.TheVariants.{NoFile, ReadFault, TooBig, BadProof, BadHeaders, FileTooLong, BadAddress, OutOfMemory}
-use Rattle.ots_cli.specs.declared.input.Stop.{Stop}
-use Rattle.ots_cli.specs.declared.status.Status.{Status}
-use Rattle.ots_cli.specs.declared.status.Status.TheVariants as status
+use Rattle.ots_inputs.specs.declared.error.InputError.{InputError}
+use Rattle.ots_inputs.specs.declared.error.InputError.TheVariants.{NoFile, ReadFault, Refused, OutOfMemory}
+use Rattle.ots_inputs.specs.declared.error.Stop.{Stop}
+use Rattle.ots_client_text.specs.declared.status.Status.{Status}
+use Rattle.ots_client_text.specs.declared.status.Status.TheVariants as status
 use Rattle.ots_address.specs.Address.{AddressParts}
+use Rattle.ots_chain.specs.declared.pins.Pin.{Pin}
 use Rattle.ots_headers.specs.HeaderTable.{Table}
 use Rattle.ots_cli.specs.declared.inputs.Inputs.{Inputs}
 use Rattle.ots_client_words.specs.Words.{ClientCommand, HeaderFile}
 use Rattle.ots_cli.specs.Asking.{Outside, alone}
-use Rattle.ots_cli.specs.Answer.{Answers, AnswersAs, Comes, as_defined, not_read, Decides, DecidesAs, is_bad, HasPerhapsTable, RefusesInput, no_file, refuses, RefusesPerhapsTable, WithList, WithPerhapsTable, is_given, is_refused}
+use Rattle.ots_cli.specs.Answer.{Answers, AnswersAs, Comes, as_defined, not_read, Decides, DecidesAs, is_bad, HasPerhapsPins, HasPerhapsTable, RefusesInput, no_file, refuses, RefusesPerhapsPins, RefusesPerhapsTable, WithInput, WithList, WithPerhapsPins, WithPerhapsTable, is_given, is_refused}
 use Rattle.ots_base.specs.declared.out_of_memory.OutOfMemory.{OutOfMemory as NoMemory}
 use Rattle.ots_cli.specs.declared.ending.Ending.{Ending as Decided}
 use Rattle.ots_cli.specs.Decided.{EndsAs, IsEnding}
 use Rattle.ots_cli.specs.Ending.{Ending, refused}
-use Rattle.ots_cli.specs.Found.{IsRefusal, status_of}
-use Rattle.ots_cli.specs.Gathered.{ComesToEnd, IfBadList, Reads, ReadsName, ReadsUnder, StopsFor}
+use Rattle.ots_client_inputs.specs.List.{MayRefuseList, StopsAtList, bad}
+use Rattle.ots_cli.specs.Gathered.{ComesToEnd, EndsStop, Reads, StopsFor}
 use Rattle.ots_cli.specs.Opened.{names_read}
-use Rattle.ots_inputs.proofs.Opened.{both, never_falls, none_opened, one_refused, prefix_of_more, stops_at_one, stops_before, stops_later, then_opened}
+use Rattle.ots_inputs.specs.Input.{IsRefusal, ReadsNamed}
 use Rattle.ots_inputs.specs.Opened.{IsOpenedOrNot, Opens, StopsAt}
+use Rattle.ots_inputs.specs.Under.{HasUnder}
+use Rattle.ots_inputs.proofs.Opened.{both, keeps_all, keeps_then, keeps_where, none_opened, one_refused, prefix_of_more, stops_at_one, stops_before, stops_later, then_opened}
 
 -- ---- one name
 
+-- One name was read: what its bytes give, or why they are refused.
+abbrev pub ReadsName : {A : Type 0} → (List ℕ → A → Type 0) → (List ℕ → Status → Type 0) → List ℕ → ShelfTold → ShelfTold → ShelfFaults → ShelfFaults → Result A (Stop Status) → Type 0
+ReadsName Gives Refuses name = Reads (name ∷ []) (λ told x. HasUnder told name (λ bytes. Gives bytes x)) (λ told. RefusesInput told name Refuses)
+
 stops_for : (told : Option Names) (name : List ℕ) (Refuses : List ℕ → Status → Type 0) (old new : Option (List (List ℕ))) (before now : ShelfFaults)
-    (e : InputError) → IsRefusal told name Refuses e → IsOpenedOrNot name old new before now (e ≡ ReadFault)
+    (e : InputError Status) → IsRefusal told name Refuses e → IsOpenedOrNot name old new before now (e ≡ ReadFault)
     → StopsFor (RefusesInput told name Refuses) (StopsAt (name ∷ []) old new before now) name e
 stops_for told name Refuses old new before now NoFile under opened = no_file under refl
 stops_for told name Refuses old new before now ReadFault under opened = stops_at_one name old new before now _ opened refl
-stops_for told name Refuses old new before now TooBig under opened = refuses status.TooBig under refl
-stops_for told name Refuses old new before now (BadProof f) under opened = refuses (status.BadProof f) under refl
-stops_for told name Refuses old new before now (BadHeaders n) under opened = refuses (status.BadHeaders n) under refl
-stops_for told name Refuses old new before now (BadAddress place https) under opened = absurd under
-stops_for told name Refuses old new before now FileTooLong under opened = refuses status.FileTooLong under refl
+stops_for told name Refuses old new before now (Refused s) under opened = refuses s under refl
 stops_for told name Refuses old new before now OutOfMemory under opened = tt
 
-module _ {A : Type 0} {Gives : List ℕ → A → Type 0} {Refuses : List ℕ → Status → Type 0} {old new : ShelfTold} {before now : ShelfFaults} where
-  pub named : {name : List ℕ} {x : A} → ReadsUnder Gives Refuses name old new before now (Ok x) → ReadsName Gives Refuses name old new before now (Ok x)
+module _ {A : Type 0} {Gives : List ℕ → A → Type 0} {Refuses : List ℕ → Status → Type 0} {name : List ℕ} {old new : ShelfTold} {before now : ShelfFaults} where
+  pub named : {x : A} → ReadsNamed Gives Refuses name old new before now (Ok x) → ReadsName Gives Refuses name old new before now (Ok x)
   named h = record {
     given = h.answer;
     stopped = tt;
     opened = h.opened;
     prefix = (1, h.opened);
-    names = h.names;
-    slots = h.slots;
-    short = λ enough. h.short (λ ran. cc);
-    later = h.later;
-    writing = h.writing;
+    kept = keeps_where (λ enough ran. cc) h.kept;
   }
 
-  pub named_stop : (stop : Stop) → ReadsUnder {A = A} Gives Refuses stop.name.now old new before now (Err stop.cause)
-      → ReadsName {A = A} Gives Refuses stop.name.now old new before now (Err stop)
-  named_stop stop h = record {
+  pub named_stop : {stop : Stop Status} → ReadsNamed {A = A} Gives Refuses name old new before now (Err stop) → ReadsName {A = A} Gives Refuses name old new before now (Err stop)
+  named_stop {stop} (same, h) = record {
     given = tt;
-    stopped = stops_for old.names stop.name.now Refuses old.opened new.opened before now stop.cause h.answer h.opened;
+    stopped = subst (λ (z : List ℕ). StopsFor (RefusesInput old.names name Refuses) (StopsAt (name ∷ []) old.opened new.opened before now) z stop.why) (sym same)
+        (stops_for old.names name Refuses old.opened new.opened before now stop.why h.answer h.opened);
     opened = tt;
-    prefix = one_refused stop.name.now old.opened new.opened before now _ h.opened;
-    names = h.names;
-    slots = h.slots;
-    short = λ enough. h.short (λ ran. enough cc);
-    later = h.later;
-    writing = h.writing;
+    prefix = one_refused name old.opened new.opened before now _ h.opened;
+    kept = keeps_where (λ enough ran. enough (let is : stop.why ≡ OutOfMemory = cc in is)) h.kept;
   }
 
 -- ---- what is made of what was read
@@ -72,62 +67,61 @@ abbrev pub Goes : {B : Type 0} → (B → Ending → Type 0) → (Option Names �
 Goes D P told y = (e : Ending) → D y e → P told e
 
 -- a stop that is said of other names and refusals
-pub stops_as : (R Q : Ending → Type 0) (S T : List ℕ → Type 0) (name : List ℕ) (e : InputError) → ((d : Ending) → R d → Q d) → ((n : List ℕ) → S n → T n)
+pub stops_as : (R Q : Ending → Type 0) (S T : List ℕ → Type 0) (name : List ℕ) (e : InputError Status) → ((d : Ending) → R d → Q d) → ((n : List ℕ) → S n → T n)
     → StopsFor R S name e → StopsFor Q T name e
 stops_as R Q S T name NoFile f g h = f _ h
 stops_as R Q S T name ReadFault f g h = g name h
-stops_as R Q S T name TooBig f g h = f _ h
-stops_as R Q S T name (BadProof k) f g h = f _ h
-stops_as R Q S T name (BadHeaders n) f g h = f _ h
-stops_as R Q S T name (BadAddress place https) f g h = f _ h
-stops_as R Q S T name FileTooLong f g h = f _ h
+stops_as R Q S T name (Refused s) f g h = f _ h
 stops_as R Q S T name OutOfMemory f g h = tt
 
 module _ {A B : Type 0} {names : List (List ℕ)} {gives : Option Names → A → Type 0} {refuses : Option Names → Ending → Type 0}
     {D : B → Ending → Type 0} {P : Option Names → Ending → Type 0} where
   -- Names are read, then others.
-  pub then_reads : {rest : List (List ℕ)} {part : Option Names → Ending → Type 0} {old mid new : ShelfTold} {before between now : ShelfFaults} {x : A} {r : Result B Stop}
+  pub then_reads : {rest : List (List ℕ)} {part : Option Names → Ending → Type 0} {old mid new : ShelfTold} {before between now : ShelfFaults} {x : A} {r : Result B (Stop Status)}
       → ((e : Ending) → part old.names e → P old.names e) → Reads names gives refuses old mid before between (Ok x)
       → Reads rest (Goes D part) part mid new between now r → Reads (names ++ rest) (Goes D P) P old new before now r
   then_reads {rest} {part} {old} {mid} {new} {before} {between} {now} {x} {r} f first then = record {
-    given = given r (subst (λ (z : Option Names). IfOk r (Goes D part z)) first.names then.given);
-    stopped = stopped r (subst (λ (z : Option Names). IfErr r (λ stop. StopsFor (part z) (StopsAt rest mid.opened new.opened between now) stop.name.now stop.cause)) first.names then.stopped);
+    given = given r (subst (λ (z : Option Names). IfOk r (Goes D part z)) first.kept.names then.given);
+    stopped = stopped r (subst (λ (z : Option Names). IfErr r (λ stop. StopsFor (part z) (StopsAt rest mid.opened new.opened between now) stop.name.now stop.why)) first.kept.names then.stopped);
     opened = opened r then.opened;
     prefix = then_opened names rest old.opened mid.opened new.opened first.opened then.prefix;
-    names = then.names ∙ first.names;
-    slots = λ k. then.slots k ∙ first.slots k;
-    short = λ enough. then.short enough ∙ first.short (λ ran. ran);
-    later = never_falls before between now first.later then.later;
-    writing = then.writing ∙ first.writing;
+    kept = keeps_then (λ enough ran. ran) (λ enough. enough) first.kept then.kept;
   } where
-    given : (r : Result B Stop) → IfOk r (Goes D part old.names) → IfOk r (Goes D P old.names)
+    given : (r : Result B (Stop Status)) → IfOk r (Goes D part old.names) → IfOk r (Goes D P old.names)
     given (Ok y) h = λ e d. f e (h e d)
     given (Err stop) h = tt
 
-    stopped : (r : Result B Stop) → IfErr r (λ stop. StopsFor (part old.names) (StopsAt rest mid.opened new.opened between now) stop.name.now stop.cause)
-        → IfErr r (λ stop. StopsFor (P old.names) (StopsAt (names ++ rest) old.opened new.opened before now) stop.name.now stop.cause)
+    stopped : (r : Result B (Stop Status)) → IfErr r (λ stop. StopsFor (part old.names) (StopsAt rest mid.opened new.opened between now) stop.name.now stop.why)
+        → IfErr r (λ stop. StopsFor (P old.names) (StopsAt (names ++ rest) old.opened new.opened before now) stop.name.now stop.why)
     stopped (Ok y) h = tt
-    stopped (Err stop) h = stops_as _ _ _ _ stop.name.now stop.cause f
-        (λ name at. stops_later names rest old.opened mid.opened new.opened before between now name first.opened first.later at) h
+    stopped (Err stop) h = stops_as _ _ _ _ stop.name.now stop.why f
+        (λ name at. stops_later names rest old.opened mid.opened new.opened before between now name first.opened first.kept.later at) h
 
-    opened : (r : Result B Stop) → IfOk r (λ y. Opens rest mid.opened new.opened) → IfOk r (λ y. Opens (names ++ rest) old.opened new.opened)
+    opened : (r : Result B (Stop Status)) → IfOk r (λ y. Opens rest mid.opened new.opened) → IfOk r (λ y. Opens (names ++ rest) old.opened new.opened)
     opened (Ok y) h = both names rest old.opened mid.opened new.opened first.opened h
     opened (Err stop) h = tt
 
   -- Reading stops at one of these names.
-  pub stops_reading : (rest : List (List ℕ)) {old new : ShelfTold} {before now : ShelfFaults} {stop : Stop} → ((e : Ending) → refuses old.names e → P old.names e)
+  pub stops_reading : (rest : List (List ℕ)) {old new : ShelfTold} {before now : ShelfFaults} {stop : Stop Status} → ((e : Ending) → refuses old.names e → P old.names e)
       → Reads names gives refuses old new before now (Err stop) → Reads (names ++ rest) (Goes D P) P old new before now (Err stop)
   stops_reading rest {old} {new} {before} {now} {stop} f h = record {
     given = tt;
-    stopped = stops_as _ _ _ _ stop.name.now stop.cause f (λ name at. stops_before names rest old.opened new.opened before now name at) h.stopped;
+    stopped = stops_as _ _ _ _ stop.name.now stop.why f (λ name at. stops_before names rest old.opened new.opened before now name at) h.stopped;
     opened = tt;
     prefix = prefix_of_more names rest old.opened new.opened h.prefix;
-    names = h.names;
-    slots = h.slots;
-    short = h.short;
-    later = h.later;
-    writing = h.writing;
+    kept = h.kept;
   }
+
+-- A name is read, and a command goes on with what its bytes give.
+module _ {A B : Type 0} {Gives : List ℕ → A → Type 0} {Refuses : List ℕ → Status → Type 0} {D : B → Ending → Type 0} (goes_on : Option Names → A → Ending → Type 0) where
+  pub then_input : {name : List ℕ} {rest : List (List ℕ)} {old mid new : ShelfTold} {before between now : ShelfFaults} {x : A} {r : Result B (Stop Status)}
+      → ReadsNamed Gives Refuses name old mid before between (Ok x) → Reads rest (Goes D (λ told. goes_on told x)) (λ told. goes_on told x) mid new between now r
+      → Reads (name ∷ rest) (Goes D (λ told. WithInput told name Gives Refuses (goes_on told))) (λ told. WithInput told name Gives Refuses (goes_on told)) old new before now r
+  then_input {x = x} h then = then_reads {part = λ told. goes_on told x} (λ e goes. is_given x h.answer goes) (named h) then
+
+  pub input_stops : {name : List ℕ} (rest : List (List ℕ)) {old new : ShelfTold} {before now : ShelfFaults} {stop : Stop Status}
+      → ReadsNamed {A = A} Gives Refuses name old new before now (Err stop) → Reads {A = B} (name ∷ rest) (Goes D (λ told. WithInput told name Gives Refuses (goes_on told))) (λ told. WithInput told name Gives Refuses (goes_on told)) old new before now (Err stop)
+  input_stops rest h = stops_reading rest (λ e refused. is_refused refused) (named_stop h)
 
 -- Nothing more is read.
 pub reads_none : {B : Type 0} {gives : Option Names → B → Type 0} {refuses : Option Names → Ending → Type 0} {told : ShelfTold} {faults : ShelfFaults} {y : B}
@@ -137,52 +131,51 @@ reads_none {told = told} h = record {
   stopped = tt;
   opened = none_opened told.opened;
   prefix = (0, none_opened told.opened);
-  names = refl;
-  slots = λ k. refl;
-  short = λ enough. refl;
-  later = record { opening = omega arith; reading = omega arith; writing = omega arith };
-  writing = refl;
+  kept = keeps_all;
 }
 
 -- Memory ran out before more is read.
 pub runs_short : {B : Type 0} {names : List (List ℕ)} {gives : Option Names → B → Type 0} {refuses : Option Names → Ending → Type 0} {told : ShelfTold} {faults : ShelfFaults}
-    (r : Result B Stop) → IsErrAnd r (λ stop. stop.cause ≡ OutOfMemory) → Reads names gives refuses told told faults faults r
+    (r : Result B (Stop Status)) → IsErrAnd r (λ stop. stop.why ≡ OutOfMemory) → Reads names gives refuses told told faults faults r
 runs_short (Ok x) short = absurd short
 runs_short {B} {names} {gives} {refuses} {told} {faults} (Err stop) short = record {
   given = tt;
-  stopped = subst (λ (z : InputError). StopsFor (refuses told.names) (StopsAt names told.opened told.opened faults faults) stop.name.now z) (sym short) tt;
+  stopped = subst (λ (z : InputError Status). StopsFor (refuses told.names) (StopsAt names told.opened told.opened faults faults) stop.name.now z) (sym short) tt;
   opened = tt;
   prefix = (0, none_opened told.opened);
-  names = refl;
-  slots = λ k. refl;
-  short = λ enough. absurd (enough short);
-  later = record { opening = omega arith; reading = omega arith; writing = omega arith };
-  writing = refl;
+  kept = keeps_all;
 }
 
--- What was read is seen as something else.
-pub reads_as : {A B : Type 0} {names : List (List ℕ)} {gives : Option Names → A → Type 0} {takes : Option Names → B → Type 0} {refuses : Option Names → Ending → Type 0}
+-- What was read is seen as something else, and so are refusals.
+pub reads_into : {A B : Type 0} {names : List (List ℕ)} {gives : Option Names → A → Type 0} {takes : Option Names → B → Type 0} {refuses declines : Option Names → Ending → Type 0}
     {old new : ShelfTold} {before now : ShelfFaults} {x : A} {y : B} → (gives old.names x → takes old.names y)
-    → Reads names gives refuses old new before now (Ok x) → Reads names takes refuses old new before now (Ok y)
-reads_as f h = record {
+    → Reads names gives refuses old new before now (Ok x) → Reads names takes declines old new before now (Ok y)
+reads_into f h = record {
   given = f h.given;
   stopped = tt;
   opened = h.opened;
   prefix = h.prefix;
-  names = h.names;
-  slots = h.slots;
-  short = λ enough. h.short (λ ran. ran);
-  later = h.later;
-  writing = h.writing;
+  kept = keeps_where (λ enough ran. ran) h.kept;
+}
+
+pub stop_into : {A B : Type 0} {names : List (List ℕ)} {gives : Option Names → A → Type 0} {takes : Option Names → B → Type 0} {refuses declines : Option Names → Ending → Type 0}
+    {old new : ShelfTold} {before now : ShelfFaults} {stop : Stop Status} → ((e : Ending) → refuses old.names e → declines old.names e)
+    → Reads {A = A} names gives refuses old new before now (Err stop) → Reads {A = B} names takes declines old new before now (Err stop)
+stop_into {names = names} {refuses = first} {declines = second} {old = old} {new = new} {before = before} {now = now} {stop = stop} f h = record {
+  given = tt;
+  stopped = stops_as (first old.names) (second old.names) (StopsAt names old.opened new.opened before now) (StopsAt names old.opened new.opened before now) stop.name.now stop.why f (λ name at. at) h.stopped;
+  opened = tt;
+  prefix = h.prefix;
+  kept = h.kept;
 }
 
 -- An error that `?` handed on.
 pub handed_on : {B : Type 0} {names : List (List ℕ)} {gives : Option Names → B → Type 0} {refuses : Option Names → Ending → Type 0}
-    {old new : ShelfTold} {before now : ShelfFaults} {stop : Stop} (r : Result B Stop) → IsErrAnd r (λ x. x ≡ stop)
+    {old new : ShelfTold} {before now : ShelfFaults} {stop : Stop Status} (r : Result B (Stop Status)) → IsErrAnd r (λ x. x ≡ stop)
     → Reads names gives refuses old new before now (Err stop) → Reads names gives refuses old new before now r
 handed_on (Ok y) is h = absurd is
 handed_on {B} {names} {gives} {refuses} {old} {new} {before} {now} {stop} (Err x) is h =
-    subst (λ (z : Stop). Reads {A = B} names gives refuses old new before now (Err z)) (sym is) h
+    subst (λ (z : Stop Status). Reads {A = B} names gives refuses old new before now (Err z)) (sym is) h
 
 -- ---- headers that may be given
 
@@ -198,9 +191,23 @@ pub perhaps_refused : (told : Option Names) (o : Option HeaderFile) (P : Option 
 perhaps_refused told None P e h = absurd h
 perhaps_refused told (Some file) P e h = is_refused h
 
+-- ---- pins that may be given
+
+pub pins_given : (told : Option Names) (o : Option (List ℕ)) (pins : Option (List Pin)) (P : Option (List Pin) → Ending → Type 0) (e : Ending)
+    → HasPerhapsPins told o pins → P pins e → WithPerhapsPins told o P e
+pins_given told None None P e has h = h
+pins_given told None (Some pins) P e has h = absurd has
+pins_given told (Some name) None P e has h = absurd has
+pins_given told (Some name) (Some pins) P e has h = is_given pins has h
+
+pub pins_refused : (told : Option Names) (o : Option (List ℕ)) (P : Option (List Pin) → Ending → Type 0) (e : Ending)
+    → RefusesPerhapsPins told o e → WithPerhapsPins told o P e
+pins_refused told None P e h = absurd h
+pins_refused told (Some name) P e h = is_refused h
+
 -- ---- the command that was read
 
-pub of_command : (o : Outside) {c d : ClientCommand} {old new : ShelfTold} {before now : ShelfFaults} {r : Result Inputs Stop} → c ≡ d
+pub of_command : (o : Outside) {c d : ClientCommand} {old new : ShelfTold} {before now : ShelfFaults} {r : Result Inputs (Stop Status)} → c ≡ d
     → Reads (names_read (Some d)) (Goes (Decides o) (λ told. Answers o told (Some d))) (λ told. Answers o told (Some d)) old new before now r
     → Reads (names_read (Some c)) (Goes (Decides o) (λ told. Answers o told (Some c))) (λ told. Answers o told (Some c)) old new before now r
 of_command o {c} {d} {old} {new} {before} {now} {r} is h =
@@ -208,36 +215,30 @@ of_command o {c} {d} {old} {new} {before} {now} {r} is h =
 
 -- ---- how a run ends
 
-of_refusal : (answers : Ending → Type 0) (name : List ℕ) (s t : Status) (e : Ending) → Some t ≡ Some s → answers (refused name t) → e ≡ refused name s → answers e
-of_refusal answers name s t e same h is =
-    let status : t ≡ s = cc in subst answers (sym is) (subst (λ (z : Status). answers (refused name z)) status h)
+refusal_comes : (answers : Ending → Type 0) (stops_at : List ℕ → Type 0) (name : List ℕ) (s : Status) (d : Decided) → answers (refused name s) → EndsAs (IsEnding (refused name s)) d
+    → EndsAs (Comes answers stops_at) d
+refusal_comes answers stops_at name s d h ends = λ e seen. as_defined (subst answers (sym (ends e seen)) h)
 
-stop_comes : (answers : Ending → Type 0) (stops_at : List ℕ → Type 0) (name : List ℕ) (cause : InputError) (s : Status) (e : Ending) → status_of cause ≡ Some s
-    → StopsFor answers stops_at name cause → e ≡ refused name s → Comes answers stops_at e
-stop_comes answers stops_at name NoFile s e same h is = as_defined (of_refusal answers name s _ e same h is)
-stop_comes answers stops_at name ReadFault s e same h is =
-    let status : status.ReadFault ≡ s = cc in not_read name h (is ∙ ap (refused name) (sym status))
-stop_comes answers stops_at name TooBig s e same h is = as_defined (of_refusal answers name s _ e same h is)
-stop_comes answers stops_at name (BadProof f) s e same h is = as_defined (of_refusal answers name s _ e same h is)
-stop_comes answers stops_at name (BadHeaders n) s e same h is = as_defined (of_refusal answers name s _ e same h is)
-stop_comes answers stops_at name (BadAddress place https) s e same h is = as_defined (of_refusal answers name s _ e same h is)
-stop_comes answers stops_at name FileTooLong s e same h is = as_defined (of_refusal answers name s _ e same h is)
-stop_comes answers stops_at name OutOfMemory s e same h is = absurd cc
+stop_comes : (answers : Ending → Type 0) (stops_at : List ℕ → Type 0) (name : List ℕ) (why : InputError Status) (r : Result Decided NoMemory)
+    → StopsFor answers stops_at name why → EndsStop name why r → IfOk r (EndsAs (Comes answers stops_at))
+stop_comes answers stops_at name why (Err ran) h ends = tt
+stop_comes answers stops_at name NoFile (Ok d) h ends = refusal_comes answers stops_at name status.NoFile d h ends
+stop_comes answers stops_at name ReadFault (Ok d) h ends = λ e seen. not_read name h (ends e seen)
+stop_comes answers stops_at name (Refused s) (Ok d) h ends = refusal_comes answers stops_at name s d h ends
+stop_comes answers stops_at name OutOfMemory (Ok d) h ends = absurd ends
 
-not_short : (cause : InputError) (s : Status) → status_of cause ≡ Some s → cause ≡ OutOfMemory → ⊥
-not_short cause s is ran = let clash : Some s ≡ None = sym is ∙ ap status_of ran in cc
+enough : (name : List ℕ) (why : InputError Status) (r : Result Decided NoMemory) → EndsStop name why r → IsOk r → why ≡ OutOfMemory → ⊥
+enough name why (Err ran) ends ok short = absurd cc
+enough name why (Ok d) ends ok short = subst (λ (z : InputError Status). EndsStop name z (Ok d)) short ends
 
-pub refusal_ends : {B : Type 0} {answers : Option Names → Ending → Type 0} {gives : Option Names → B → Type 0} {reads : List (List ℕ)} {old new : ShelfTold} {before now : ShelfFaults}
-    {stop : Stop} {s : Status} {d : Decided} → Reads {A = B} reads gives answers old new before now (Err stop) → status_of stop.cause ≡ Some s
-    → EndsAs (IsEnding (refused stop.name.now s)) d → ComesToEnd answers reads old new before now (Ok d)
-refusal_ends {answers = answers} {reads = reads} {old = old} {new = new} {before = before} {now = now} {stop = stop} {s = s} h is ends = record {
-  ending = λ e seen. stop_comes (answers old.names) (StopsAt reads old.opened new.opened before now) stop.name.now stop.cause s e is h.stopped (ends e seen);
+-- Reading stopped, and so the command ends.
+pub stop_ends : {A : Type 0} {answers : Option Names → Ending → Type 0} {gives : Option Names → A → Type 0} {reads : List (List ℕ)} {old new : ShelfTold} {before now : ShelfFaults}
+    {stop : Stop Status} {r : Result Decided NoMemory} → Reads {A = A} reads gives answers old new before now (Err stop) → EndsStop stop.name.now stop.why r
+    → ComesToEnd answers reads old new before now r
+stop_ends {answers = answers} {reads = reads} {old = old} {new = new} {before = before} {now = now} {stop = stop} {r = r} h ends = record {
+  ending = stop_comes (answers old.names) (StopsAt reads old.opened new.opened before now) stop.name.now stop.why r h.stopped ends;
   opened = h.prefix;
-  names = h.names;
-  slots = h.slots;
-  short = h.short (not_short stop.cause s is);
-  later = h.later;
-  writing = h.writing;
+  kept = keeps_where (enough stop.name.now stop.why r ends) h.kept;
 }
 
 -- An ending that was decided of what was read.
@@ -248,51 +249,31 @@ pub decided_ends : (happens : Outside → Type 0) (c : ClientCommand) {inputs : 
 decided_ends happens c (Ok d) reads h = let k = reads alone in record {
   ending = λ e seen. let x = h e seen in as_defined (x.0, x.1, (reads x.0).given e x.2);
   opened = k.prefix;
-  names = k.names;
-  slots = k.slots;
-  short = k.short (λ ran. ran);
-  later = k.later;
-  writing = k.writing;
+  kept = keeps_where (λ enough ran. ran) k.kept;
 }
 decided_ends happens c (Err x) reads h = let k = reads alone in record {
   ending = tt;
   opened = k.prefix;
-  names = k.names;
-  slots = k.slots;
-  short = tt;
-  later = k.later;
-  writing = k.writing;
+  kept = keeps_where (λ enough ran. ran) k.kept;
 }
 
 -- An ending at a refusal, where nobody was asked.
-pub refused_alone : (happens : Outside → Type 0) (c : Option ClientCommand) {reads : List (List ℕ)} {old new : ShelfTold} {before now : ShelfFaults} {d : Decided} → happens alone
-    → ComesToEnd (λ told. Answers alone told c) reads old new before now (Ok d) → ComesToEnd (λ told. AnswersAs happens told c) reads old new before now (Ok d)
-refused_alone happens c {reads} {old} {new} {before} {now} {d} heard h = record {
-  ending = λ e seen. lift e (h.ending e seen);
+pub refused_alone : (happens : Outside → Type 0) (c : Option ClientCommand) {reads : List (List ℕ)} {old new : ShelfTold} {before now : ShelfFaults} (r : Result Decided NoMemory) → happens alone
+    → ComesToEnd (λ told. Answers alone told c) reads old new before now r → ComesToEnd (λ told. AnswersAs happens told c) reads old new before now r
+refused_alone happens c {reads} {old} {new} {before} {now} r heard h = record {
+  ending = lifted r h.ending;
   opened = h.opened;
-  names = h.names;
-  slots = h.slots;
-  short = h.short;
-  later = h.later;
-  writing = h.writing;
+  kept = h.kept;
 } where
   lift : (e : Ending) → Comes (Answers alone old.names c) (StopsAt reads old.opened new.opened before now) e
       → Comes (AnswersAs happens old.names c) (StopsAt reads old.opened new.opened before now) e
   lift e (as_defined a) = as_defined (alone, heard, a)
   lift e (not_read name stops is) = not_read name stops is
 
--- Memory ran out while names were read.
-pub ran_out : {B : Type 0} {gives : Option Names → B → Type 0} {refuses answers : Option Names → Ending → Type 0} {reads : List (List ℕ)} {old new : ShelfTold}
-    {before now : ShelfFaults} {stop : Stop} {x : NoMemory} → Reads {A = B} reads gives refuses old new before now (Err stop) → ComesToEnd answers reads old new before now (Err x)
-ran_out h = record {
-  ending = tt;
-  opened = h.prefix;
-  names = h.names;
-  slots = h.slots;
-  short = tt;
-  later = h.later;
-  writing = h.writing;
-}
+  lifted : (r : Result Decided NoMemory) → IfOk r (EndsAs (Comes (Answers alone old.names c) (StopsAt reads old.opened new.opened before now)))
+      → IfOk r (EndsAs (Comes (AnswersAs happens old.names c) (StopsAt reads old.opened new.opened before now)))
+  lifted (Ok d) ending = λ e seen. lift e (ending e seen)
+  lifted (Err ran) ending = tt
 
 -- Words of no command's form.
 pub usage_ends : (happens : Outside → Type 0) → happens alone → (c : Option ClientCommand) → c ≡ None → {told : ShelfTold} {faults : ShelfFaults} {d : Decided}
@@ -300,87 +281,31 @@ pub usage_ends : (happens : Outside → Type 0) → happens alone → (c : Optio
 usage_ends happens heard c is {told} {faults} {d} ends = record {
   ending = λ e seen. as_defined (alone, heard, subst (λ (z : Option ClientCommand). Answers alone told.names z e) (sym is) (ends e seen));
   opened = (0, none_opened told.opened);
-  names = refl;
-  slots = λ k. refl;
-  short = refl;
-  later = record { opening = omega arith; reading = omega arith; writing = omega arith };
-  writing = refl;
+  kept = keeps_all;
 }
 
--- A stop is one, whatever was to be made of what was read.
-pub stop_as : {A B : Type 0} {names : List (List ℕ)} {gives : Option Names → A → Type 0} {takes : Option Names → B → Type 0} {refuses : Option Names → Ending → Type 0}
-    {old new : ShelfTold} {before now : ShelfFaults} {stop : Stop} → Reads {A = A} names gives refuses old new before now (Err stop)
-    → Reads {A = B} names takes refuses old new before now (Err stop)
-stop_as h = record {
-  given = tt;
-  stopped = h.stopped;
-  opened = tt;
-  prefix = h.prefix;
-  names = h.names;
-  slots = h.slots;
-  short = h.short;
-  later = h.later;
-  writing = h.writing;
-}
+-- Memory ran out before anything was read.
+pub unread_ends : {answers : Option Names → Ending → Type 0} {reads : List (List ℕ)} {told : ShelfTold} {faults : ShelfFaults} {x : NoMemory} → ComesToEnd answers reads told told faults faults (Err x)
+unread_ends {told = told} = record { ending = tt; opened = (0, none_opened told.opened); kept = keeps_all }
 
 -- A list of calendars that was refused, before anything is opened.
 pub list_refused : {B : Type 0} {list : List ℕ} {goes_on : Option Names → List AddressParts → Ending → Type 0} {gives : Option Names → B → Type 0} {told : ShelfTold}
-    {faults : ShelfFaults} (names : List (List ℕ)) (stop : Stop) → IfBadList list stop.name.now stop.cause
+    {faults : ShelfFaults} (names : List (List ℕ)) {stop : Stop Status} → StopsAtList list stop
     → Reads {A = B} names gives (λ told. WithList list (goes_on told)) told told faults faults (Err stop)
-list_refused {list = list} {goes_on = goes_on} {told = told} {faults = faults} names stop h = record {
+list_refused {list = list} {goes_on = goes_on} {told = told} {faults = faults} names {stop} h = record {
   given = tt;
-  stopped = why stop.name.now stop.cause h;
+  stopped = subst (λ (z : List ℕ). StopsFor (WithList list (goes_on told.names)) (StopsAt names told.opened told.opened faults faults) z stop.why) (sym h.name) (by stop.why h.why);
   opened = tt;
   prefix = (0, none_opened told.opened);
-  names = refl;
-  slots = λ k. refl;
-  short = λ enough. refl;
-  later = record { opening = omega arith; reading = omega arith; writing = omega arith };
-  writing = refl;
+  kept = keeps_all;
 } where
-  why : (name : List ℕ) (e : InputError) → IfBadList list name e
-      → StopsFor (WithList list (goes_on told.names)) (StopsAt names told.opened told.opened faults faults) name e
-  why name (BadAddress place https) (bad, empty) = is_bad place https bad (ap (λ (z : List ℕ). refused z (status.BadAddress place https)) empty)
-  why name OutOfMemory bad = tt
-  why name NoFile bad = absurd bad
-  why name ReadFault bad = absurd bad
-  why name TooBig bad = absurd bad
-  why name (BadProof f) bad = absurd bad
-  why name (BadHeaders n) bad = absurd bad
-  why name FileTooLong bad = absurd bad
+  by : (e : InputError Status) → MayRefuseList list e → StopsFor (WithList list (goes_on told.names)) (StopsAt names told.opened told.opened faults faults) [] e
+  by NoFile h = absurd h
+  by ReadFault h = absurd h
+  by (Refused s) (bad place https bad_address is) = is_bad place https bad_address (ap (refused []) is)
+  by OutOfMemory h = tt
 
 pub end_of_command : (happens : Outside → Type 0) {c d : Option ClientCommand} {old new : ShelfTold} {before now : ShelfFaults} {r : Result Decided NoMemory} → c ≡ d
     → ComesToEnd (λ told. AnswersAs happens told d) (names_read d) old new before now r → ComesToEnd (λ told. AnswersAs happens told c) (names_read c) old new before now r
 end_of_command happens {c} {d} {old} {new} {before} {now} {r} is h =
     subst (λ (z : Option ClientCommand). ComesToEnd (λ told. AnswersAs happens told z) (names_read z) old new before now r) (sym is) h
-
--- What was read is seen as something else, and so are refusals.
-pub reads_into : {A B : Type 0} {names : List (List ℕ)} {gives : Option Names → A → Type 0} {takes : Option Names → B → Type 0} {refuses declines : Option Names → Ending → Type 0}
-    {old new : ShelfTold} {before now : ShelfFaults} {x : A} {y : B} → (gives old.names x → takes old.names y)
-    → Reads names gives refuses old new before now (Ok x) → Reads names takes declines old new before now (Ok y)
-reads_into f h = record {
-  given = f h.given;
-  stopped = tt;
-  opened = h.opened;
-  prefix = h.prefix;
-  names = h.names;
-  slots = h.slots;
-  short = λ enough. h.short (λ ran. ran);
-  later = h.later;
-  writing = h.writing;
-}
-
-pub stop_into : {A B : Type 0} {names : List (List ℕ)} {gives : Option Names → A → Type 0} {takes : Option Names → B → Type 0} {refuses declines : Option Names → Ending → Type 0}
-    {old new : ShelfTold} {before now : ShelfFaults} {stop : Stop} → ((e : Ending) → refuses old.names e → declines old.names e)
-    → Reads {A = A} names gives refuses old new before now (Err stop) → Reads {A = B} names takes declines old new before now (Err stop)
-stop_into {names = names} {refuses = first} {declines = second} {old = old} {new = new} {before = before} {now = now} {stop = stop} f h = record {
-  given = tt;
-  stopped = stops_as (first old.names) (second old.names) (StopsAt names old.opened new.opened before now) (StopsAt names old.opened new.opened before now) stop.name.now stop.cause f (λ name at. at) h.stopped;
-  opened = tt;
-  prefix = h.prefix;
-  names = h.names;
-  slots = h.slots;
-  short = h.short;
-  later = h.later;
-  writing = h.writing;
-}

@@ -6,14 +6,16 @@ use Rattle.std.proofs.lemmas.List.{drop_more, map-append, take-append-drop}
 use Rattle.ots_outside.specs.Shelf.{Names, ShelfFaults, ShelfTold}
 use Rattle.ots_ops.specs.declared.hash_op.HashOp.TheVariants.{Sha256}
 use Rattle.ots_ops.specs.Hashed.{hashed}
-use Rattle.ots_cli.specs.declared.input.InputError.{InputError}
-use Rattle.ots_cli.specs.declared.input.InputError.TheVariants.{OutOfMemory}
-use Rattle.ots_cli.specs.declared.input.Stop.{Stop}
+use Rattle.ots_inputs.specs.declared.error.InputError.{InputError}
+use Rattle.ots_inputs.specs.declared.error.InputError.TheVariants.{OutOfMemory}
+use Rattle.ots_client_text.specs.declared.status.Status.{Status}
+use Rattle.ots_inputs.specs.declared.error.Stop.{Stop}
 use Rattle.ots_cli.specs.Answer.{RefusesInput, RefusesOne}
-use Rattle.ots_cli.specs.Found.{AreHashed, IsHashOf, RefusesTarget}
-use Rattle.ots_cli.specs.Gathered.{Reads, ReadsName, StopsFor}
-use Rattle.ots_cli.proofs.Gathering.{stops_as}
-use Rattle.ots_inputs.proofs.Opened.{both, never_falls, prefix_of_more, stops_before, stops_later, then_opened}
+use Rattle.ots_cli.specs.Found.{AreHashed}
+use Rattle.ots_client_inputs.specs.Target.{IsHashOf, RefusesTarget}
+use Rattle.ots_cli.specs.Gathered.{Reads, StopsFor}
+use Rattle.ots_cli.proofs.Gathering.{ReadsName, stops_as}
+use Rattle.ots_inputs.proofs.Opened.{both, keeps_then, prefix_of_more, stops_before, stops_later, then_opened}
 use Rattle.ots_arguments.specs.Values.{texts}
 use Rattle.ots_inputs.specs.Under.{HasUnder}
 use Rattle.ots_inputs.specs.Opened.{StopsAt}
@@ -33,59 +35,47 @@ module _ {old mid new : ShelfTold} {before between now : ShelfFaults} where
   pub hashes_next : {names digests : List (List ℕ)} {name digest : List ℕ} → Hashes names old mid before between digests
       → ReadsName (IsHashOf Sha256) RefusesTarget name mid new between now (Ok digest) → Hashes (names ++ name ∷ []) old new before now (digests ++ digest ∷ [])
   hashes_next {names} {digests} {name} {digest} first next = record {
-    given = hashed_more old.names names digests name digest first.given (subst (λ (z : Option Names). HasUnder z name (λ b. IsHashOf Sha256 b digest)) first.names next.given);
+    given = hashed_more old.names names digests name digest first.given (subst (λ (z : Option Names). HasUnder z name (λ b. IsHashOf Sha256 b digest)) first.kept.names next.given);
     stopped = tt;
     opened = both names (name ∷ []) old.opened mid.opened new.opened first.opened next.opened;
     prefix = then_opened names (name ∷ []) old.opened mid.opened new.opened first.opened next.prefix;
-    names = next.names ∙ first.names;
-    slots = λ k. next.slots k ∙ first.slots k;
-    short = λ enough. next.short (λ ran. ran) ∙ first.short (λ ran. ran);
-    later = never_falls before between now first.later next.later;
-    writing = next.writing ∙ first.writing;
+    kept = keeps_then (λ enough ran. ran) (λ enough. enough) first.kept next.kept;
   }
 
-  pub hashes_stop : {B : Type 0} {gives : Option Names → B → Type 0} {names digests : List (List ℕ)} {name : List ℕ} {stop : Stop} (later : List (List ℕ))
+  pub hashes_stop : {B : Type 0} {gives : Option Names → B → Type 0} {names digests : List (List ℕ)} {name : List ℕ} {stop : Stop Status} (later : List (List ℕ))
       → Hashes names old mid before between digests → ReadsName {A = List ℕ} (IsHashOf Sha256) RefusesTarget name mid new between now (Err stop)
       → Reads {A = B} (names ++ name ∷ later) gives (λ told. RefusesOne told (names ++ name ∷ later)) old new before now (Err stop)
   hashes_stop {B} {gives} {names} {digests} {name} {stop} later first next = record {
     given = tt;
     stopped = stops_as (RefusesInput mid.names name RefusesTarget) (RefusesOne old.names (names ++ name ∷ later)) (StopsAt (name ∷ []) mid.opened new.opened between now)
-        (StopsAt (names ++ name ∷ later) old.opened new.opened before now) stop.name.now stop.cause (λ e refused. record {
+        (StopsAt (names ++ name ∷ later) old.opened new.opened before now) stop.name.now stop.why (λ e refused. record {
           earlier = names;
           name = name;
           later = later;
           split = refl;
           digests = digests;
           hashed = first.given;
-          refused = subst (λ (z : Option Names). RefusesInput z name RefusesTarget e) first.names refused;
+          refused = subst (λ (z : Option Names). RefusesInput z name RefusesTarget e) first.kept.names refused;
         })
-        (λ n at. stops_later names (name ∷ later) old.opened mid.opened new.opened before between now n first.opened first.later
+        (λ n at. stops_later names (name ∷ later) old.opened mid.opened new.opened before between now n first.opened first.kept.later
         (stops_before (name ∷ []) later mid.opened new.opened between now n at)) next.stopped;
     opened = tt;
     prefix = then_opened names (name ∷ later) old.opened mid.opened new.opened first.opened (prefix_of_more (name ∷ []) later mid.opened new.opened next.prefix);
-    names = next.names ∙ first.names;
-    slots = λ k. next.slots k ∙ first.slots k;
-    short = λ enough. next.short enough ∙ first.short (λ ran. ran);
-    later = never_falls before between now first.later next.later;
-    writing = next.writing ∙ first.writing;
+    kept = keeps_then (λ enough ran. ran) (λ enough. enough) first.kept next.kept;
   }
 
   -- Memory ran out after them.
-  pub hashes_short : {B : Type 0} {gives : Option Names → B → Type 0} {names digests : List (List ℕ)} {name digest : List ℕ} (later : List (List ℕ)) (r : Result B Stop)
-      → IsErrAnd r (λ stop. stop.cause ≡ OutOfMemory) → Hashes names old mid before between digests
+  pub hashes_short : {B : Type 0} {gives : Option Names → B → Type 0} {names digests : List (List ℕ)} {name digest : List ℕ} (later : List (List ℕ)) (r : Result B (Stop Status))
+      → IsErrAnd r (λ stop. stop.why ≡ OutOfMemory) → Hashes names old mid before between digests
       → ReadsName (IsHashOf Sha256) RefusesTarget name mid new between now (Ok digest)
       → Reads {A = B} (names ++ name ∷ later) gives (λ told. RefusesOne told (names ++ name ∷ later)) old new before now r
   hashes_short later (Ok x) short first next = absurd short
   hashes_short {B} {gives} {names} {digests} {name} {digest} later (Err stop) short first next = record {
     given = tt;
-    stopped = subst (λ (z : InputError). StopsFor (RefusesOne old.names (names ++ name ∷ later)) (StopsAt (names ++ name ∷ later) old.opened new.opened before now) stop.name.now z) (sym short) tt;
+    stopped = subst (λ (z : InputError Status). StopsFor (RefusesOne old.names (names ++ name ∷ later)) (StopsAt (names ++ name ∷ later) old.opened new.opened before now) stop.name.now z) (sym short) tt;
     opened = tt;
     prefix = then_opened names (name ∷ later) old.opened mid.opened new.opened first.opened (prefix_of_more (name ∷ []) later mid.opened new.opened next.prefix);
-    names = next.names ∙ first.names;
-    slots = λ k. next.slots k ∙ first.slots k;
-    short = λ enough. absurd (enough short);
-    later = never_falls before between now first.later next.later;
-    writing = next.writing ∙ first.writing;
+    kept = keeps_then (λ enough ran. ran) (λ enough ran. ran) first.kept next.kept;
   }
 
 -- ---- the digests

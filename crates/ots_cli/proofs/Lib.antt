@@ -1,4 +1,3 @@
-mod Reading
 mod Gathering
 mod Rewritten
 mod Carrying
@@ -17,3 +16,4 @@ mod Submitted
 mod Completeness
 pub mod Short
 mod Sampled
+mod Chains

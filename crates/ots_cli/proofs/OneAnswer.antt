@@ -1,5 +1,5 @@
 -- A command has one answer, and so one status.
-use Rattle.std.proofs.Common.{◌≡◌, ℕ, List, ◌++◌, Option, Some, None, inl, inr, sym, ap, subst, ◌∙◌, arith}
+use Rattle.std.proofs.Common.{◌≡◌, ℕ, List, [], ◌++◌, length, Option, Some, None, inl, inr, sym, ap, subst, ◌∙◌, arith}
 use Rattle.std.specs.FinMap as map
 use Rattle.ots_outside.specs.Shelf.{Names}
 use Rattle.ots_tree.specs.declared.detached.Detached.{Detached}
@@ -7,27 +7,43 @@ use Rattle.ots_reader.specs.declared.fault.Fault.{Fault}
 use Rattle.ots_detached.specs.File.{IsFileOf}
 use Rattle.ots_ops.specs.declared.hash_op.HashOp.{HashOp}
 use Rattle.ots_ops.specs.declared.hash_op.HashOp.TheVariants as hash
+use Rattle.std.proofs.lemmas.Option.{same_Some}
+use Rattle.std.specs.Option.{option_map}
+use Rattle.ots_chain.specs.Chain.{IsCheckOf}
+use Rattle.ots_chain.specs.PinLines.{pin_form}
+use Rattle.ots_chain.specs.Pins.{ArePins}
+use Rattle.ots_chain.specs.declared.checking.ChainCheck.{ChainCheck}
+use Rattle.ots_chain.specs.declared.checking.ChainCheck.TheVariants as check
+use Rattle.ots_chain.specs.declared.checking.ChainFault.{ChainFault}
+use Rattle.ots_chain.specs.declared.pins.Pin.{Pin}
+use Rattle.ots_chain.proofs.OneCheck.{one as one_check}
+use Rattle.ots_inputs.proofs.OneFile.{lines_given_once, lines_never_both, one_bad_line}
+use Rattle.ots_client_inputs.specs.Pins.{RefusesPins}
+use Rattle.ots_cli.specs.Chain.{ChecksChain, is_broken, pin_fails, is_whole}
 use Rattle.ots_headers.specs.HeaderTable.{Table}
 use Rattle.ots_headers.specs.TableRead.{IsTableOf}
 use Rattle.ots_headers.proofs.TableBytes.{length_of_table, one_table_lem}
 use Rattle.ots_verdicts.proofs.OneVerdict.{one}
 use Rattle.ots_detached.proofs.Files.{one_fault}
 use Rattle.ots_detached.proofs.BothWays.{no_fault, file_size, one_file, same_detached}
-use Rattle.ots_cli.specs.declared.status.Status.{Status}
-use Rattle.ots_cli.specs.declared.status.Status.TheVariants.{Done, BadProof, ReadFault}
+use Rattle.ots_client_text.specs.declared.status.Status.{Status}
+use Rattle.ots_client_text.specs.declared.status.Status.TheVariants.{Done, BadPins, BadProof, Broken, PinFails, ReadFault}
 use Rattle.ots_cli.specs.Ending.{Ending, printing, refused}
 use Rattle.ots_cli.specs.Rewritten.{IsRewritten}
 use Rattle.ots_cli.specs.declared.rewriting.Rewriting.{Rewriting}
 use Rattle.ots_cli.specs.declared.rewriting.Rewriting.TheVariants.{Canon, Prune}
 use Rattle.ots_canon.specs.Join.{IsMergeOf}
 use Rattle.ots_canon.proofs.Lawful.{one_form, one_join, one_prune}
-use Rattle.ots_cli.specs.Found.{IsHashOf, RefusesProof, too_big, bad_proof, RefusesTable, cut, too_many, RefusesTarget}
-use Rattle.ots_cli.specs.Text.{sample_text, verdict_status, verdict_text}
+use Rattle.ots_client_inputs.specs.Target.{IsHashOf, RefusesTarget}
+use Rattle.ots_client_inputs.specs.Proof.{RefusesProof, too_big, bad_proof}
+use Rattle.ots_client_inputs.specs.Headers.{RefusesTable, cut, too_many}
+use Rattle.ots_client_text.specs.Lines.{chain_text, sample_text, verdict_text}
+use Rattle.ots_client_text.specs.Status.{verdict_status}
 use Rattle.ots_sample.specs.declared.outcome.Sample.{Sample}
 use Rattle.ots_sample.proofs.OneSample.{one_sample}
-use Rattle.ots_client_words.specs.Words.{ClientCommand, HeaderFile, Verification, info, canon, merge, prune, verify, stamp, upgrade, sample}
+use Rattle.ots_client_words.specs.Words.{ClientCommand, HeaderFile, Verification, info, canon, merge, prune, verify, stamp, upgrade, sample, chain}
 use Rattle.ots_cli.specs.Asking.{IsOffline, Outside, alone}
-use Rattle.ots_cli.specs.Answer.{Answers, AnswersAs, Comes, as_defined, not_read, PrintsInfo, UnlessFailed, PrintsVerdict, RefusesInput, no_file, refuses, WithInput, is_given, is_refused, WithProof, WithTable, WithPerhapsTable, WithTarget, VerifiesTarget, VerifiesProof, VerifiesBy, Verifies, Writes, too_long, is_made, WritesOf, Merges, differ, joined}
+use Rattle.ots_cli.specs.Answer.{Answers, AnswersAs, Comes, as_defined, not_read, PrintsInfo, UnlessFailed, PrintsVerdict, RefusesInput, no_file, refuses, WithInput, is_given, is_refused, WithProof, HasPerhapsPins, WithPerhapsPins, WithTable, WithPerhapsTable, WithTarget, VerifiesTarget, VerifiesProof, VerifiesBy, Verifies, Writes, too_long, is_made, WritesOf, Merges, differ, joined}
 use Rattle.ots_cli.specs.CarriedOut.{Ends, carried_out, no_memory, status_over}
 use Rattle.ots_cli.proofs.Outcome.{carried_status, only_prints, over_names}
 use Rattle.ots_cli.proofs.ReadsBack.{offline_plain}
@@ -153,6 +169,55 @@ with_target : (names : Names) (name : List ℕ) (hash : HashOp) (P : List ℕ �
 with_target names name hash =
     one_input names name (IsHashOf hash) RefusesTarget (λ b x y f g. f.1 ∙ sym g.1) target_refusal (target_or_not hash)
 
+-- pins
+pins_refusal : (b : List ℕ) (s t : Status) → RefusesPins b s → RefusesPins b t → s ≡ t
+pins_refusal b s t (n, bad, f) (m, too, g) = f ∙ ap (λ (z : ℕ). BadPins z) (one_bad_line pin_form b n m bad too) ∙ sym g
+
+pins_or_not : (b : List ℕ) (pins : List Pin) (s : Status) → ArePins b pins → RefusesPins b s → ⊥
+pins_or_not b pins s are (n, bad, f) = lines_never_both pin_form b pins n are bad
+
+with_perhaps_pins : (names : Names) (name : Option (List ℕ)) (P : Option (List Pin) → Ending → Type 0) (d e : Ending)
+    → ((pins : Option (List Pin)) → P pins d → P pins e → d ≡ e) → WithPerhapsPins (Some names) name P d → WithPerhapsPins (Some names) name P e → d ≡ e
+with_perhaps_pins names None P d e one f g = one None f g
+with_perhaps_pins names (Some name) P d e one f g =
+    one_input names name ArePins RefusesPins (lines_given_once pin_form) pins_refusal pins_or_not (λ pins. P (Some pins)) d e (λ pins. one (Some pins)) f g
+
+pub given_perhaps_pins : (names : Names) (name : Option (List ℕ)) (P : Option (List Pin) → Ending → Type 0) (pins : Option (List Pin)) (e : Ending)
+    → HasPerhapsPins (Some names) name pins → WithPerhapsPins (Some names) name P e → P pins e
+given_perhaps_pins names None P None e has h = h
+given_perhaps_pins names None P (Some pins) e has h = absurd has
+given_perhaps_pins names (Some name) P None e has h = absurd has
+given_perhaps_pins names (Some name) P (Some pins) e has h =
+    given names name ArePins RefusesPins (lines_given_once pin_form) pins_refusal pins_or_not (λ ps. P (Some ps)) pins e has.0 has.1 has.2 h
+
+-- a chain is checked in one way
+broken_as : ChainCheck → Ending
+broken_as (check.Whole first last tip) = refused [] Done
+broken_as (check.Broken height fault) = refused [] (Broken height fault)
+
+whole_as : Option ℕ → ChainCheck → Ending
+whole_as count (check.Whole first last tip) = printing Done (chain_text first last tip count)
+whole_as count (check.Broken height fault) = refused [] Done
+
+pub whole_or_not : (t : Table) (first last height : ℕ) (tip : List ℕ) (fault : ChainFault) → IsCheckOf t (check.Whole first last tip)
+    → IsCheckOf t (check.Broken height fault) → ⊥
+whole_or_not t first last height tip fault f g = let clash = one_check t (check.Whole first last tip) (check.Broken height fault) f g in cc
+
+one_chain : (t : Table) (pins : Option (List Pin)) (d e : Ending) → ChecksChain t pins d → ChecksChain t pins e → d ≡ e
+unfolding broken_as whole_as
+one_chain t pins d e (is_broken height fault is f) (is_broken height' fault' too g) =
+    f ∙ ap broken_as (one_check t (check.Broken height fault) (check.Broken height' fault') is too) ∙ sym g
+one_chain t pins d e (is_broken height fault is f) (pin_fails first last tip h too fails g) = absurd (whole_or_not t first last height tip fault too is)
+one_chain t pins d e (is_broken height fault is f) (is_whole first last tip too none g) = absurd (whole_or_not t first last height tip fault too is)
+one_chain t pins d e (pin_fails first last tip h is fails f) (is_broken height fault too g) = absurd (whole_or_not t first last height tip fault is too)
+one_chain t pins d e (pin_fails first last tip h is fails f) (pin_fails first' last' tip' h' too fails' g) =
+    f ∙ ap (λ (z : ℕ). refused [] (PinFails z)) (same_Some h h' (sym fails ∙ fails')) ∙ sym g
+one_chain t pins d e (pin_fails first last tip h is fails f) (is_whole first' last' tip' too none g) = absurd (let clash : Some h ≡ None = sym fails ∙ none in cc)
+one_chain t pins d e (is_whole first last tip is none f) (is_broken height fault too g) = absurd (whole_or_not t first last height tip fault is too)
+one_chain t pins d e (is_whole first last tip is none f) (pin_fails first' last' tip' h too fails g) = absurd (let clash : Some h ≡ None = sym fails ∙ none in cc)
+one_chain t pins d e (is_whole first last tip is none f) (is_whole first' last' tip' too none' g) =
+    f ∙ ap (whole_as (option_map length pins)) (one_check t (check.Whole first last tip) (check.Whole first' last' tip') is too) ∙ sym g
+
 -- a proof is written in one way
 one_writing : (name : List ℕ) (r : Detached) (d e : Ending) → Writes name r d → Writes name r e → d ≡ e
 one_writing name r d e (too_long long f) (too_long long' g) = f ∙ sym g
@@ -209,6 +274,8 @@ one_answer o q names (Some (merge first second to)) d e alone f g =
     (λ p. with_proof names second (Merges to p) d e (λ q. merges to p q d e)) f g
 one_answer o q names (Some (prune from to)) d e alone f g = rewrites names Prune from to d e f g
 one_answer o q names (Some (verify v)) d e alone f g = verifies names v d e f g
+one_answer o q names (Some (chain w)) d e alone f g =
+    with_table names w.headers _ d e (λ t. with_perhaps_pins names w.pins (ChecksChain t) d e (λ pins. one_chain t pins d e)) f g
 one_answer o q names (Some (stamp s)) d e alone f g = absurd alone
 one_answer o q names (Some (upgrade u)) d e alone f g = absurd alone
 one_answer o q names (Some (sample n)) d e alone f g =

@@ -14,10 +14,11 @@ use Rattle.ots_upgrade.specs.declared.target.Target.{Target}
 use Rattle.ots_upgrade.specs.Stamped.{Gathers, IsStampOf, good_trees}
 use Rattle.ots_cli.specs.CarriedOut.{CarriesOn, DoesOrEnds, PrintsLast}
 use Rattle.ots_cli.specs.Ending.{makes, makes_stamp, prints}
-use Rattle.ots_cli.specs.Refusal.{refusal_text}
-use Rattle.ots_cli.specs.Stamping.{IsStampAt, KeepsStamped, StampedFiles, wrote_text}
-use Rattle.ots_cli.specs.declared.status.Status.{Status}
-use Rattle.ots_cli.specs.declared.status.Status.TheVariants.{OutOfMemory, TooBig}
+use Rattle.ots_client_text.specs.Refusal.{refusal_text}
+use Rattle.ots_cli.specs.Stamping.{IsStampAt, KeepsStamped, StampedFiles}
+use Rattle.ots_client_text.specs.Lines.{wrote_text}
+use Rattle.ots_client_text.specs.declared.status.Status.{Status}
+use Rattle.ots_client_text.specs.declared.status.Status.TheVariants.{OutOfMemory, TooBig}
 
 some_at : {A : Type 0} (xs : List A) (i : ℕ) → i < length xs → (x : A) × (slice_get xs i ≡ Some x)
 some_at [] i less = absurd (omega arith)

@@ -10,9 +10,10 @@ use Rattle.ots_detached.specs.File.{IsFileOf, file_of}
 use Rattle.ots_tree.specs.declared.detached.Detached.{Detached}
 use Rattle.ots_tree.specs.declared.token.Token.{Token}
 use Rattle.ots_upgrade.specs.declared.target.Target.{Target}
-use Rattle.ots_cli.specs.Stamping.{IsStampAt, proof_name, stamp_acts, wrote_text}
-use Rattle.ots_cli.specs.declared.status.Status.{Status}
-use Rattle.ots_cli.specs.declared.status.Status.TheVariants.{Done, No, Usage, BadProof, NoFile, Exists, ReadFault, WriteFault, TooBig, BadHeaders, TooFew, NonceFault, FileTooLong, BadAddress, Differs, OutOfMemory}
+use Rattle.ots_cli.specs.Stamping.{IsStampAt, stamp_acts}
+use Rattle.ots_client_text.specs.Lines.{proof_name, wrote_text}
+use Rattle.ots_client_text.specs.declared.status.Status.{Status}
+use Rattle.ots_client_text.specs.declared.status.Status.TheVariants.{Done, No, Usage, BadProof, NoFile, Exists, ReadFault, WriteFault, TooBig, BadHeaders, TooFew, NonceFault, FileTooLong, BadAddress, Differs, Broken, BadPins, PinFails, OutOfMemory}
 use Rattle.ots_cli.specs.Answer.{Comes, as_defined, not_read, UnlessFailed}
 use Rattle.ots_cli.specs.CarriedOut.{CarriesOut, Ends, carried_out, no_memory, MakesThen, PrintsLast, status_over}
 use Rattle.ots_cli.specs.Ending.{Act, Ending, makes, makes_stamp, printing, prints}
@@ -106,6 +107,9 @@ unless s NonceFault e = e
 unless s FileTooLong e = e
 unless s (Differs h d k f) e = e
 unless s (BadAddress place https) e = e
+unless s (Broken height fault) e = e
+unless s (BadPins line) e = e
+unless s (PinFails height) e = e
 unless s ReadFault e = tt
 unless s WriteFault e = tt
 unless s OutOfMemory e = tt

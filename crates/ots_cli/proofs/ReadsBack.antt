@@ -5,23 +5,29 @@ use Rattle.std.specs.FinMap as map
 use Rattle.ots_outside.specs.Shelf.{Names}
 use Rattle.ots_ops.specs.declared.hash_op.HashOp.{HashOp}
 use Rattle.ots_tree.specs.declared.detached.Detached.{Detached}
+use Rattle.ots_chain.specs.declared.pins.Pin.{Pin}
+use Rattle.ots_cli.specs.Chain.{ChecksChain, is_broken, pin_fails, is_whole}
 use Rattle.ots_headers.specs.HeaderTable.{Table}
 use Rattle.ots_detached.specs.File.{IsFileOf, file_of}
-use Rattle.ots_cli.specs.declared.status.Status.{Status}
-use Rattle.ots_cli.specs.declared.status.Status.TheVariants.{Done, No, Usage, BadProof, NoFile, Exists, ReadFault, WriteFault, TooBig, TooFew, NonceFault, FileTooLong, BadAddress, Differs, OutOfMemory}
+use Rattle.ots_client_text.specs.declared.status.Status.{Status}
+use Rattle.ots_client_text.specs.declared.status.Status.TheVariants.{Done, No, Usage, BadProof, NoFile, Exists, ReadFault, WriteFault, TooBig, TooFew, NonceFault, FileTooLong, BadAddress, Differs, Broken, PinFails, OutOfMemory}
 use Rattle.ots_cli.specs.Ending.{Ending, makes, printing, prints}
 use Rattle.ots_cli.specs.Asking.{IsOffline, Outside}
-use Rattle.ots_cli.specs.Text.{asked_text, complete_status, complete_text, verdict_status}
+use Rattle.ots_cli.specs.Text.{asked_text}
+use Rattle.ots_client_text.specs.Status.{complete_status, verdict_status}
+use Rattle.ots_client_text.specs.Lines.{complete_text}
 use Rattle.ots_upgrade.specs.declared.asking.AskedAt.{AskedAt}
-use Rattle.ots_cli.specs.Answer.{Answers, AnswersAs, Comes, are_hashed, one_refused, is_list, is_bad, WritesAsked, asked_too_long, asked_made, as_defined, not_read, PrintsVerdict, RefusesInput, no_file, refuses, is_given, is_refused, WithPerhapsTable, WithProof, WithTable, WithTarget, Writes, too_long, is_made, Merges, differ, joined, VerifiesBy, VerifiesProof, VerifiesTarget}
+use Rattle.ots_cli.specs.Answer.{Answers, AnswersAs, Comes, are_hashed, one_refused, is_list, is_bad, WritesAsked, asked_too_long, asked_made, as_defined, not_read, PrintsVerdict, RefusesInput, no_file, refuses, is_given, is_refused, WithPerhapsPins, WithPerhapsTable, WithProof, WithTable, WithTarget, Writes, too_long, is_made, Merges, differ, joined, VerifiesBy, VerifiesProof, VerifiesTarget}
 use Rattle.ots_cli.specs.CarriedOut.{CarriesOut, Ends, carried_out, no_memory}
-use Rattle.ots_cli.specs.Found.{RefusesProof, RefusesTarget, too_big, bad_proof}
-use Rattle.ots_cli.specs.Stamping.{Stamps, calendars_text, no_nonce, proof_name, stamp_acts, stamped, too_few}
+use Rattle.ots_client_inputs.specs.Proof.{RefusesProof, too_big, bad_proof}
+use Rattle.ots_client_inputs.specs.Target.{RefusesTarget}
+use Rattle.ots_cli.specs.Stamping.{Stamps, calendars_text, no_nonce, stamp_acts, stamped, too_few}
+use Rattle.ots_client_text.specs.Lines.{proof_name}
 use Rattle.ots_tree.specs.declared.token.Token.{Token}
 use Rattle.ots_upgrade.specs.Stamped.{good_trees}
 use Rattle.ots_upgrade.specs.declared.target.Target.{Target}
 use Rattle.ots_cli.specs.ReadsBack.{IsDoneOrNo, IsOutput, IsOutputAsked, IsResultOf, Leaves, ReadsBack}
-use Rattle.ots_client_words.specs.Words.{ClientCommand, HeaderFile, info, canon, merge, prune, verify, stamp, upgrade, sample}
+use Rattle.ots_client_words.specs.Words.{ClientCommand, HeaderFile, info, canon, merge, prune, verify, stamp, upgrade, sample, chain}
 use Rattle.ots_cli.proofs.Outcome.{EndsWith, HasStamp, IsPlain, MakesOnly, carried_leaves, carried_status, done_making, get_inserted, is_plain, never, stamps_done}
 
 -- ---- an ending that was carried out with Done
@@ -99,6 +105,7 @@ module _ (writing lost : Type 0) (names : Names) (new : Option Names) (taken now
   result happens o heard (info name) to e out a h = absurd out
   result happens o heard (verify v) to e out a h = absurd out
   result happens o heard (sample n) to e out a h = absurd out
+  result happens o heard (chain w) to e out a h = absurd out
   result happens o heard (canon from w) to e out (is_refused a) h = absurd (not_refused from e a h)
   result happens o heard (canon from w) to e out (is_given p (b, at, is) (q, made, writes)) h =
       let x = written w q e writes h in back happens o heard (canon from w) to x.0 q (under_output w to x.0 out x.1) x.2 (b, at, (p, is, made))
@@ -205,6 +212,7 @@ IsStampAsked (Some (verify v)) name = ⊥
 IsStampAsked (Some (stamp s)) name = IsOutput (stamp s) name
 IsStampAsked (Some (upgrade u)) name = ⊥
 IsStampAsked (Some (sample n)) name = ⊥
+IsStampAsked (Some (chain w)) name = ⊥
 
 none_stamped : (c : Option ClientCommand) → IsOffline c → (name : List ℕ) → IsStampAsked c name → ⊥
 none_stamped None offline name h = h
@@ -216,6 +224,7 @@ none_stamped (Some (verify v)) offline name h = h
 none_stamped (Some (stamp s)) offline name h = offline
 none_stamped (Some (upgrade u)) offline name h = h
 none_stamped (Some (sample n)) offline name h = h
+none_stamped (Some (chain w)) offline name h = h
 
 -- the proofs of the files from the i-th on
 only_stamps : (P : List ℕ → Type 0) (targets : List Target) (trees : List (List Token)) (i : ℕ) (files : List (List ℕ))
@@ -226,6 +235,17 @@ only_stamps P targets trees i (file ∷ files) each =
 
 abbrev none : List ℕ → Type 0
 none name = ⊥
+
+only_perhaps_pins : (told : Option Names) (name : Option (List ℕ)) (P : Option (List Pin) → Ending → Type 0) (e : Ending)
+    → ((pins : Option (List Pin)) → P pins e → MakesOnly none none e.acts) → WithPerhapsPins told name P e → MakesOnly none none e.acts
+only_perhaps_pins told None P e then h = then None h
+only_perhaps_pins told (Some name) P e then (is_given pins has h) = then (Some pins) h
+only_perhaps_pins told (Some name) P e then (is_refused h) = only_refused none none e h
+
+only_chain : (t : Table) (pins : Option (List Pin)) (e : Ending) → ChecksChain t pins e → MakesOnly none none e.acts
+only_chain t pins e (is_broken height fault is f) = only_text none none e (Broken height fault) _ f
+only_chain t pins e (pin_fails first last tip height is fails f) = only_text none none e (PinFails height) _ f
+only_chain t pins e (is_whole first last tip is all f) = only_text none none e Done _ f
 
 makes_only : (o : Outside) (told : Option Names) (c : Option ClientCommand) (e : Ending) → Answers o told c e → MakesOnly (IsOutputAsked c) (IsStampAsked c) e.acts
 makes_only o told None e a = only_text none none e Usage _ a
@@ -239,6 +259,7 @@ makes_only o told (Some (verify v)) e a =
     (λ b. only_perhaps none none told v.litecoin (VerifiesProof told v b) e
     (λ l. only_proof none none told v.proof (VerifiesTarget told v.target b l) e (λ p. only_target none none told v.target p.hash p b l e))) a
 makes_only o told (Some (sample n)) e a = only_text none none e (verdict_status a.0.verdict) _ a.2
+makes_only o told (Some (chain w)) e a = only_table none none told w.headers _ e (λ t. only_perhaps_pins told w.pins _ e (λ pins. only_chain t pins e)) a
 makes_only o told (Some (upgrade u)) e (is_bad place https bad f) = only_text (λ name. u.to ≡ name) none e (BadAddress place https) _ f
 makes_only o told (Some (upgrade u)) e (is_list calendars is a) =
     only_proof (λ name. u.to ≡ name) none told u.proof _ e (λ p made. only_asked (λ name. u.to ≡ name) none made.0 u.to made.1 e refl made.3) a

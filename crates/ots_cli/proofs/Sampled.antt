@@ -12,8 +12,9 @@ use Rattle.ots_cli.specs.CarriedOut.{CarriesOut, Ends, carried_out, no_memory}
 use Rattle.ots_cli.specs.Complete.{IsDoneUnlessLost}
 use Rattle.ots_cli.specs.Ending.{Ending, prints}
 use Rattle.ots_cli.specs.Opened.{names_read}
-use Rattle.ots_cli.specs.Text.{sample_text, verdict_status}
-use Rattle.ots_cli.specs.declared.status.Status.{Status}
+use Rattle.ots_client_text.specs.Lines.{sample_text}
+use Rattle.ots_client_text.specs.Status.{verdict_status}
+use Rattle.ots_client_text.specs.declared.status.Status.{Status}
 use Rattle.ots_inputs.specs.Opened.{StopsAt, not_opened, opened_last}
 
 none_named : (earlier later : List (List ℕ)) (name : List ℕ) → [] ≡ earlier ++ name ∷ later → ⊥

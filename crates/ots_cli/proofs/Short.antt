@@ -12,23 +12,27 @@ use Rattle.ots_ops.specs.declared.hash_op.HashOp.{HashOp}
 use Rattle.ots_outside.specs.Shelf.{Names, ShelfTold}
 use Rattle.ots_verifier.specs.Checked.{IsCheckOf, Pieces}
 use Rattle.ots_verifier.specs.declared.checked.Checked.{Checked}
-use Rattle.ots_client_words.specs.Words.{ClientCommand, HeaderFile, Verification, info, canon, merge, prune, verify, stamp, upgrade, sample}
-use Rattle.ots_cli.specs.declared.input.InputError.{InputError}
-use Rattle.ots_cli.specs.declared.input.InputError.TheVariants.{NoFile, ReadFault, TooBig, BadProof, BadHeaders, FileTooLong, BadAddress, OutOfMemory}
-use Rattle.ots_cli.specs.declared.input.Stop.{Stop}
+use Rattle.ots_client_words.specs.Words.{ClientCommand, HeaderFile, Verification, info, canon, merge, prune, verify, stamp, upgrade, sample, chain}
+use Rattle.ots_inputs.specs.declared.error.InputError.{InputError}
+use Rattle.ots_inputs.specs.declared.error.InputError.TheVariants.{NoFile, ReadFault, Refused, OutOfMemory}
+use Rattle.ots_inputs.specs.declared.error.Stop.{Stop}
 use Rattle.ots_cli.specs.declared.inputs.Inputs.{Inputs}
 use Rattle.ots_cli.specs.declared.inputs.Inputs.TheVariants as inputs
 use Rattle.ots_cli.specs.declared.ending.Ending.{Ending as Decided}
-use Rattle.ots_cli.specs.declared.status.Status.{Status}
-use Rattle.ots_cli.specs.declared.status.Status.TheVariants as status
+use Rattle.ots_client_text.specs.declared.status.Status.{Status}
+use Rattle.ots_client_text.specs.declared.status.Status.TheVariants as status
 use Rattle.ots_cli.specs.Answer.{AnswersAs, Comes, as_defined, not_read, PrintsVerdict, RefusesInput, no_file, refuses, Verifies, VerifiesProof, VerifiesTarget, WithPerhapsTable, is_given, is_refused}
 use Rattle.ots_cli.specs.Asking.{Outside}
 use Rattle.ots_cli.specs.Bounded.{RunsShort, GathersBounded, Bounds, EndsBounded, BoundsEnd}
 use Rattle.ots_cli.specs.CarriedOut.{CarriesOut}
 use Rattle.ots_cli.specs.Ending.{Ending, printing, prints, refused}
-use Rattle.ots_cli.specs.Found.{IsHashOf, RefusesProof, too_big, bad_proof, RefusesTable, cut, too_many, RefusesTarget, status_of}
-use Rattle.ots_cli.specs.Gathered.{RanOut}
-use Rattle.ots_cli.specs.Text.{verdict_status, verdict_text}
+use Rattle.ots_client_inputs.specs.Target.{IsHashOf, RefusesTarget}
+use Rattle.ots_client_inputs.specs.Proof.{RefusesProof, too_big, bad_proof}
+use Rattle.ots_client_inputs.specs.Headers.{RefusesTable, cut, too_many}
+use Rattle.ots_cli.specs.Gathered.{EndsStop}
+use Rattle.ots_inputs.specs.Input.{RanOut}
+use Rattle.ots_client_text.specs.Status.{verdict_status}
+use Rattle.ots_client_text.specs.Lines.{verdict_text}
 use Rattle.ots_inputs.proofs.Opened.{none_opened}
 use Rattle.ots_inputs.specs.Under.{HasUnder}
 use Rattle.ots_inputs.specs.Opened.{Opens, OpensPrefix}
@@ -36,9 +40,9 @@ use Rattle.ots_inputs.specs.Opened.{Opens, OpensPrefix}
 -- ---- while inputs are gathered
 
 -- the cause of a stop that `?` handed on
-pub ran_same : {B : Type 0} (r : Result B Stop) (stop : Stop) → IsErrAnd r (λ x. x ≡ stop) → RanOut r → stop.cause ≡ OutOfMemory
+pub ran_same : {B : Type 0} (r : Result B (Stop Status)) (stop : Stop Status) → IsErrAnd r (λ x. x ≡ stop) → RanOut r → stop.why ≡ OutOfMemory
 ran_same (Ok y) stop is ran = absurd ran
-ran_same (Err x) stop is ran = sym (ap (λ (z : Stop). z.cause) is) ∙ ran
+ran_same (Err x) stop is ran = sym (ap (λ (z : Stop Status). z.why) is) ∙ ran
 
 -- all of these names were opened
 pub whole_prefix : (names : List (List ℕ)) (old new : Option (List (List ℕ))) → Opens names old new → OpensPrefix names old new
@@ -48,10 +52,10 @@ pub rose_from : (a b c : ℕ) → b ≡ a → Rose b c → Rose a c
 rose_from a b c is h = subst (λ (z : ℕ). Rose z c) is h
 
 -- of the verdict that was gathered, or of the stop
-pub gathers_stop : (v : Verification) (old new : ShelfTold) (r : Result Inputs Stop) (stop : Stop) → IsErrAnd r (λ x. x ≡ stop) → (RanOut {A = Verdict} (Err stop) → RunsShort v old new)
+pub gathers_stop : (v : Verification) (old new : ShelfTold) (r : Result Inputs (Stop Status)) (stop : Stop Status) → IsErrAnd r (λ x. x ≡ stop) → (RanOut {A = Verdict} (Err stop) → RunsShort v old new)
     → GathersBounded v old new r
 gathers_stop v old new (Ok y) stop is h = absurd is
-gathers_stop v old new (Err x) stop is h = λ ran. h (sym (ap (λ (z : Stop). z.cause) is) ∙ ran)
+gathers_stop v old new (Err x) stop is h = λ ran. h (sym (ap (λ (z : Stop Status). z.why) is) ∙ ran)
 
 -- the headers by which a verifier was begun
 pub checked_by : (v : Pieces) (bitcoin : Table) (litecoin other : Option Table) (bytes : List ℕ) (p : Detached) (c : Checked) → v ≡ record { bitcoin = bitcoin; litecoin = other; bytes = bytes }
@@ -64,15 +68,11 @@ hashed_by told name h k digest is has = subst (λ (z : HashOp). HasUnder told na
 
 -- ---- how a command ends
 
-pub no_status : (cause : InputError) → status_of cause ≡ None → cause ≡ OutOfMemory
-no_status NoFile e = absurd cc
-no_status ReadFault e = absurd cc
-no_status TooBig e = absurd cc
-no_status (BadProof f) e = absurd cc
-no_status (BadHeaders n) e = absurd cc
-no_status FileTooLong e = absurd cc
-no_status (BadAddress place https) e = absurd cc
-no_status OutOfMemory e = refl
+ran_short : (name : List ℕ) (why : InputError Status) (x : NoMemory) → EndsStop name why (Err x) → why ≡ OutOfMemory
+ran_short name NoFile x ends = absurd ends
+ran_short name ReadFault x ends = absurd ends
+ran_short name (Refused s) x ends = absurd ends
+ran_short name OutOfMemory x ends = refl
 
 ends_decided : (v : Verification) (old new : ShelfTold) (i : Inputs) (r : Result Decided NoMemory) → GathersBounded v old new (Ok i) → ((w : Verdict) → i ≡ inputs.Verify w → IsOk r)
     → EndsBounded v old new r
@@ -89,16 +89,7 @@ bounds_decided (verify v) old new i r h prompt = ends_decided v old new i r h pr
 bounds_decided (stamp s) old new i r h prompt = tt
 bounds_decided (upgrade u) old new i r h prompt = tt
 bounds_decided (sample n) old new i r h prompt = tt
-
-pub bounds_stopped : (c : ClientCommand) (old new : ShelfTold) (stop : Stop) (x : NoMemory) → Bounds c old new (Err stop) → stop.cause ≡ OutOfMemory → BoundsEnd (Some c) old new (Err x)
-bounds_stopped (info proof) old new stop x h ran = tt
-bounds_stopped (canon from to) old new stop x h ran = tt
-bounds_stopped (merge first second to) old new stop x h ran = tt
-bounds_stopped (prune from to) old new stop x h ran = tt
-bounds_stopped (verify v) old new stop x h ran = h ran
-bounds_stopped (stamp s) old new stop x h ran = tt
-bounds_stopped (upgrade u) old new stop x h ran = tt
-bounds_stopped (sample n) old new stop x h ran = tt
+bounds_decided (chain w) old new i r h prompt = tt
 
 pub bounds_refused : (c : Option ClientCommand) (old new : ShelfTold) (d : Decided) → BoundsEnd c old new (Ok d)
 bounds_refused None old new d = tt
@@ -110,6 +101,19 @@ bounds_refused (Some (verify v)) old new d = tt
 bounds_refused (Some (stamp s)) old new d = tt
 bounds_refused (Some (upgrade u)) old new d = tt
 bounds_refused (Some (sample n)) old new d = tt
+bounds_refused (Some (chain w)) old new d = tt
+
+pub bounds_stopped : (c : ClientCommand) (old new : ShelfTold) (stop : Stop Status) (r : Result Decided NoMemory) → Bounds c old new (Err stop) → EndsStop stop.name.now stop.why r → BoundsEnd (Some c) old new r
+bounds_stopped c old new stop (Ok d) h ends = bounds_refused (Some c) old new d
+bounds_stopped (info proof) old new stop (Err x) h ends = tt
+bounds_stopped (canon from to) old new stop (Err x) h ends = tt
+bounds_stopped (merge first second to) old new stop (Err x) h ends = tt
+bounds_stopped (prune from to) old new stop (Err x) h ends = tt
+bounds_stopped (verify v) old new stop (Err x) h ends = h (ran_short stop.name.now stop.why x ends)
+bounds_stopped (stamp s) old new stop (Err x) h ends = tt
+bounds_stopped (upgrade u) old new stop (Err x) h ends = tt
+bounds_stopped (sample n) old new stop (Err x) h ends = tt
+bounds_stopped (chain w) old new stop (Err x) h ends = tt
 
 -- nothing was opened yet
 pub bounds_none : (c : Option ClientCommand) (told : ShelfTold) (x : NoMemory) → BoundsEnd c told told (Err x)
@@ -122,6 +126,7 @@ bounds_none (Some (verify v)) told x = inl (0, none_opened told.opened)
 bounds_none (Some (stamp s)) told x = tt
 bounds_none (Some (upgrade u)) told x = tt
 bounds_none (Some (sample n)) told x = tt
+bounds_none (Some (chain w)) told x = tt
 
 pub bounded_end : (c : Option ClientCommand) (v : Verification) (old new : ShelfTold) (x : NoMemory) → c ≡ Some (verify v) → BoundsEnd c old new (Err x) → RunsShort v old new
 bounded_end c v old new x is h = rw is at h

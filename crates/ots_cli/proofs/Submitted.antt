@@ -20,7 +20,7 @@ use Rattle.ots_cli.specs.Gathered.{Submits, SubmitsUpTo}
 use Rattle.ots_cli.specs.Stamping.{no_nonce, stamped, too_few}
 use Rattle.ots_cli.specs.declared.ending.Ending.{Ending as Decided}
 use Rattle.ots_cli.specs.declared.inputs.Submission.{Submission}
-use Rattle.ots_cli.specs.declared.status.Status.TheVariants.{NonceFault}
+use Rattle.ots_client_text.specs.declared.status.Status.TheVariants.{NonceFault}
 
 module _ {D : Type 0} (told : D → DialerTold) (faults : D → ℕ) where
   -- each question has an outcome

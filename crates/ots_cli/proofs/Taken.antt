@@ -6,20 +6,24 @@ use Rattle.ots_tree.specs.declared.detached.Detached.{Detached}
 use Rattle.ots_headers.specs.HeaderTable.{Table}
 use Rattle.ots_verdicts.specs.declared.verdicts.Verdict.{Verdict}
 use Rattle.ots_verdicts.specs.declared.verdicts.Verdict.TheVariants.{Yes, NoDigest, NoPath}
-use Rattle.ots_cli.specs.declared.status.Status.{Status}
-use Rattle.ots_cli.specs.declared.status.Status.TheVariants.{Done, No, Usage, BadProof, NoFile, Exists, ReadFault, WriteFault, TooBig, BadHeaders, TooFew, NonceFault, FileTooLong, BadAddress, Differs, OutOfMemory}
+use Rattle.ots_client_text.specs.declared.status.Status.{Status}
+use Rattle.ots_client_text.specs.declared.status.Status.TheVariants.{Done, No, Usage, BadProof, NoFile, Exists, ReadFault, WriteFault, TooBig, BadHeaders, TooFew, NonceFault, FileTooLong, BadAddress, Differs, Broken, BadPins, PinFails, OutOfMemory}
 use Rattle.ots_cli.specs.Ending.{Ending, makes, printing}
-use Rattle.ots_cli.specs.Answer.{Answers, AnswersAs, Comes, RefusesInput, WithHashes, are_hashed, one_refused, is_list, is_bad, WritesAsked, asked_too_long, asked_made, no_file, refuses, is_given, is_refused, PrintsInfo, WithProof, WithTable, WithPerhapsTable, WithTarget, PrintsVerdict, Writes, too_long, is_made, Merges, differ, joined, VerifiesProof, VerifiesTarget, VerifiesBy}
+use Rattle.ots_cli.specs.Answer.{Answers, AnswersAs, Comes, RefusesInput, WithHashes, are_hashed, one_refused, is_list, is_bad, WritesAsked, asked_too_long, asked_made, no_file, refuses, is_given, is_refused, PrintsInfo, WithProof, WithPins, WithPerhapsPins, WithTable, WithPerhapsTable, WithTarget, PrintsVerdict, Writes, too_long, is_made, Merges, differ, joined, VerifiesProof, VerifiesTarget, VerifiesBy}
 use Rattle.ots_cli.specs.Asking.{Outside}
 use Rattle.ots_address.specs.Address.{AddressParts}
 use Rattle.ots_cli.specs.Stamping.{Stamps, no_nonce, stamped, too_few}
 use Rattle.ots_upgrade.specs.declared.asking.AskedAt.{AskedAt}
 use Rattle.ots_cli.specs.CarriedOut.{Ends}
+use Rattle.ots_cli.specs.Chain.{ChecksChain, is_broken, pin_fails, is_whole}
+use Rattle.ots_chain.specs.declared.pins.Pin.{Pin}
 use Rattle.ots_cli.proofs.Outcome.{Failed, MayEnd, only_prints, outcome}
-use Rattle.ots_cli.specs.Found.{RefusesTarget, too_big, bad_proof, cut, too_many}
+use Rattle.ots_client_inputs.specs.Target.{RefusesTarget}
+use Rattle.ots_client_inputs.specs.Proof.{too_big, bad_proof}
+use Rattle.ots_client_inputs.specs.Headers.{cut, too_many}
 use Rattle.ots_cli.specs.Taken.{IsProof, TakesProofs, proofs_read}
-use Rattle.ots_cli.specs.Text.{verdict_status}
-use Rattle.ots_client_words.specs.Words.{ClientCommand, HeaderFile, info, canon, merge, prune, verify, stamp, upgrade, sample, Stamping}
+use Rattle.ots_client_text.specs.Status.{verdict_status}
+use Rattle.ots_client_words.specs.Words.{ClientCommand, HeaderFile, info, canon, merge, prune, verify, stamp, upgrade, sample, chain, Stamping}
 
 -- the status of an ending is this one, of which it is said
 of_status : (names : Names) (proofs : List (List ℕ)) (s t : Status) → s ≡ t → TakesProofs names proofs t → TakesProofs names proofs s
@@ -42,6 +46,9 @@ one_more names name rest NonceFault is h = tt
 one_more names name rest FileTooLong is h = (is, h)
 one_more names name rest (BadAddress place https) is h = tt
 one_more names name rest (Differs h d k e) is g = (is, g)
+one_more names name rest (Broken height fault) is h = tt
+one_more names name rest (BadPins line) is h = tt
+one_more names name rest (PinFails height) is h = tt
 one_more names name rest OutOfMemory is h = tt
 
 -- what one ending says
@@ -101,6 +108,21 @@ module _ (names : Names) (e : Ending) (s : Status) (may : MayEnd e s) where
   of_perhaps_table None proofs P then h = then None h
   of_perhaps_table (Some file) proofs P then h = of_table file proofs (λ t. P (Some t)) (λ t. then (Some t)) h
 
+  of_pins : (name : List ℕ) (P : List Pin → Ending → Type 0) → ((pins : List Pin) → P pins e → TakesProofs names [] s) → WithPins (Some names) name P e → TakesProofs names [] s
+  of_pins name P then (is_given pins has h) = then pins h
+  of_pins name P then (is_refused (no_file none f)) = of_text [] NoFile _ f tt
+  of_pins name P then (is_refused (refuses t has f)) = of_text [] t _ f (of_status names [] t (BadPins has.2.0) has.2.2 tt)
+
+  of_perhaps_pins : (name : Option (List ℕ)) (P : Option (List Pin) → Ending → Type 0) → ((pins : Option (List Pin)) → P pins e → TakesProofs names [] s)
+      → WithPerhapsPins (Some names) name P e → TakesProofs names [] s
+  of_perhaps_pins None P then h = then None h
+  of_perhaps_pins (Some name) P then h = of_pins name (λ pins. P (Some pins)) (λ pins. then (Some pins)) h
+
+  of_chain : (t : Table) (pins : Option (List Pin)) → ChecksChain t pins e → TakesProofs names [] s
+  of_chain t pins (is_broken height fault is f) = of_text [] (Broken height fault) _ f tt
+  of_chain t pins (pin_fails first last tip height is fails f) = of_text [] (PinFails height) _ f tt
+  of_chain t pins (is_whole first last tip is none f) = of_text [] Done _ f tt
+
   -- a status of an ending with several acts
   of_acts : (t : Status) → e.status ≡ t → TakesProofs names [] t → TakesProofs names [] s
   of_acts t is h = elim may [
@@ -136,6 +158,7 @@ module _ (names : Names) (e : Ending) (s : Status) (may : MayEnd e s) where
   takes o (stamp w) (is_bad place https is f) = of_text [] (BadAddress place https) _ f tt
   takes o (upgrade u) (is_list calendars is h) = of_proof u.proof [] _ (λ p completes. of_asked completes.0 u.to completes.1 completes.3) h
   takes o (upgrade u) (is_bad place https is f) = of_text (u.proof ∷ []) (BadAddress place https) _ f tt
+  takes o (chain w) h = of_table w.headers [] _ (λ t. of_perhaps_pins w.pins _ (of_chain t)) h
   takes o (sample n) h = of_text [] (verdict_status h.0.verdict) _ h.2 (of_verdict h.0.verdict)
   takes o (verify v) h =
       of_table v.bitcoin (v.proof ∷ []) (VerifiesBy (Some names) v)

@@ -8,14 +8,14 @@ use Rattle.ots_verdicts.specs.Confirmed.{IsVerdict}
 use Rattle.ots_verdicts.specs.declared.verdicts.Chain.TheVariants as chain
 use Rattle.ots_verdicts.specs.declared.verdicts.Verdict.{Verdict}
 use Rattle.ots_verdicts.specs.declared.verdicts.Verdict.TheVariants.{Yes, NoDigest, NoPath}
-use Rattle.ots_cli.specs.declared.status.Status.{Status}
-use Rattle.ots_cli.specs.declared.status.Status.TheVariants.{Done, No, Usage, BadProof, NoFile, Exists, ReadFault, WriteFault, TooBig, BadHeaders, TooFew, NonceFault, FileTooLong, BadAddress, Differs, OutOfMemory}
+use Rattle.ots_client_text.specs.declared.status.Status.{Status}
+use Rattle.ots_client_text.specs.declared.status.Status.TheVariants.{Done, No, Usage, BadProof, NoFile, Exists, ReadFault, WriteFault, TooBig, BadHeaders, TooFew, NonceFault, FileTooLong, BadAddress, Differs, Broken, BadPins, PinFails, OutOfMemory}
 use Rattle.ots_cli.specs.Ending.{Ending}
 use Rattle.ots_cli.specs.Asking.{Outside}
 use Rattle.ots_cli.specs.Answer.{Answers, AnswersAs, Comes, HasPerhapsTable, PrintsVerdict, Verifies, VerifiesBy, VerifiesProof, VerifiesTarget, WithPerhapsTable}
 use Rattle.ots_cli.specs.CarriedOut.{Ends}
 use Rattle.ots_cli.proofs.Outcome.{only_prints, outcome}
-use Rattle.ots_cli.specs.Text.{verdict_status}
+use Rattle.ots_client_text.specs.Status.{verdict_status}
 use Rattle.ots_client_words.specs.Words.{ClientCommand, HeaderFile, Verification, verify}
 use Rattle.ots_cli.specs.Yes.{HasFiles, IsDoneExactlyWhere, SaysYes}
 use Rattle.ots_cli.proofs.OneAnswer.{given_proof, given_table, given_target}
@@ -53,7 +53,7 @@ says_yes p target b None NoPath is (same, chain.Litecoin, height, confirmed) = a
 says_yes p target b (Some table) NoPath is (same, chain.Litecoin, height, confirmed) = absurd (is.2 height confirmed)
 
 -- a status that is Done exactly where something holds
-exactly : (says : Type 0) (s : Status) → (s ≡ Done → says) → (says → s ≡ Done) → IsDoneExactlyWhere says s
+pub exactly : (says : Type 0) (s : Status) → (s ≡ Done → says) → (says → s ≡ Done) → IsDoneExactlyWhere says s
 exactly says Done to from = to refl
 exactly says ReadFault to from = tt
 exactly says WriteFault to from = tt
@@ -68,6 +68,9 @@ exactly says (TooFew got wanted) to from = λ h. absurd (let clash = from h in c
 exactly says NonceFault to from = λ h. absurd (let clash = from h in cc)
 exactly says (BadHeaders n) to from = λ h. absurd (let clash = from h in cc)
 exactly says (BadAddress place https) to from = λ h. absurd (let clash = from h in cc)
+exactly says (Broken height fault) to from = λ h. absurd (let clash = from h in cc)
+exactly says (BadPins line) to from = λ h. absurd (let clash = from h in cc)
+exactly says (PinFails height) to from = λ h. absurd (let clash = from h in cc)
 exactly says FileTooLong to from = λ h. absurd (let clash = from h in cc)
 exactly says (Differs h d k e) to from = λ g. absurd (let clash = from g in cc)
 

@@ -8,7 +8,9 @@ use Rattle.ots_pending.specs.Pairs.{ArePairs, PairAt}
 use Rattle.ots_upgrade.specs.declared.asking.AskedAt.{AskedAt}
 use Rattle.ots_upgrade.specs.Upgrading.{AreAskedPairs, outcomes, questions, trees_of}
 use Rattle.ots_cli.specs.Asking.{Outside}
-use Rattle.ots_cli.specs.Text.{asked_text, complete_status, complete_text}
+use Rattle.ots_cli.specs.Text.{asked_text}
+use Rattle.ots_client_text.specs.Status.{complete_status}
+use Rattle.ots_client_text.specs.Lines.{complete_text}
 use Rattle.ots_base.specs.declared.limits.TheConstants.{MAX_PROOF_FILE}
 use Rattle.ots_outside.specs.Shelf.{Names}
 use Rattle.ots_tree.specs.declared.detached.Detached.{Detached}
@@ -20,14 +22,22 @@ use Rattle.ots_verdicts.specs.Confirmed.{IsVerdict}
 use Rattle.ots_verdicts.specs.declared.verdicts.Verdict.{Verdict}
 use Rattle.ots_cli.specs.declared.inputs.Inputs.{Inputs}
 use Rattle.ots_cli.specs.declared.inputs.Inputs.TheVariants as inputs
-use Rattle.ots_cli.specs.declared.status.Status.{Status}
-use Rattle.ots_cli.specs.declared.status.Status.TheVariants.{Done, Usage, NoFile, ReadFault, WriteFault, TooBig}
-use Rattle.ots_cli.specs.declared.status.Status.TheVariants.{BadAddress, Differs, OutOfMemory}
+use Rattle.ots_client_text.specs.declared.status.Status.{Status}
+use Rattle.ots_client_text.specs.declared.status.Status.TheVariants.{Done, Usage, NoFile, ReadFault, WriteFault, TooBig}
+use Rattle.ots_client_text.specs.declared.status.Status.TheVariants.{BadAddress, Differs, OutOfMemory}
 use Rattle.ots_cli.specs.Ending.{Ending, makes, printing, prints, refused}
-use Rattle.ots_cli.specs.Refusal.{refusal_text}
-use Rattle.ots_cli.specs.Found.{AreHashed, IsHashOf, RefusesProof, RefusesTable, RefusesTarget}
+use Rattle.ots_client_text.specs.Refusal.{refusal_text}
+use Rattle.ots_cli.specs.Found.{AreHashed}
+use Rattle.ots_client_inputs.specs.Target.{IsHashOf, RefusesTarget}
+use Rattle.ots_client_inputs.specs.Proof.{RefusesProof}
+use Rattle.ots_client_inputs.specs.Headers.{RefusesTable}
+use Rattle.ots_client_inputs.specs.Pins.{RefusesPins}
+use Rattle.ots_chain.specs.Pins.{ArePins}
+use Rattle.ots_chain.specs.declared.pins.Pin.{Pin}
+use Rattle.ots_cli.specs.Chain.{ChecksChain, items_of}
 use Rattle.ots_info.specs.Listing.{IsInfoText}
-use Rattle.ots_cli.specs.Text.{sample_text, verdict_status, verdict_text}
+use Rattle.ots_client_text.specs.Lines.{sample_text, verdict_text}
+use Rattle.ots_client_text.specs.Status.{verdict_status}
 use Rattle.ots_sample.specs.Sample.{IsSample}
 use Rattle.ots_sample.specs.declared.outcome.Sample.{Sample}
 use Rattle.ots_canon.specs.Join.{HaveOnePair, IsMergeOf}
@@ -37,7 +47,7 @@ use Rattle.ots_cli.specs.Stamping.{Stamps}
 use Rattle.ots_cli.specs.declared.inputs.Submission.{Submission}
 use Rattle.ots_arguments.specs.Values.{texts}
 use Rattle.ots_client_words.specs.Words.{ClientCommand, HeaderFile, Stamping, Upgrading, Verification, info, canon}
-use Rattle.ots_client_words.specs.Words.{merge, prune, verify, stamp, upgrade, sample}
+use Rattle.ots_client_words.specs.Words.{merge, prune, verify, stamp, upgrade, sample, chain, Chaining}
 use Rattle.ots_inputs.specs.Under.{IsUnder, HasUnder}
 
 -- ---- where nothing of the outside fails
@@ -93,6 +103,26 @@ HasPerhapsTable told (Some file) (Some table) = HasUnder told file.name (λ byte
 abbrev pub RefusesPerhapsTable : Option Names → Option HeaderFile → Ending → Type 0
 RefusesPerhapsTable told None e = ⊥
 RefusesPerhapsTable told (Some file) e = RefusesInput told file.name RefusesTable e
+
+-- pins that may be given
+abbrev pub WithPins : Option Names → List ℕ → (List Pin → Ending → Type 0) → Ending → Type 0
+WithPins told name = WithInput told name ArePins RefusesPins
+
+abbrev pub WithPerhapsPins : Option Names → Option (List ℕ) → (Option (List Pin) → Ending → Type 0) → Ending → Type 0
+WithPerhapsPins told None goes_on e = goes_on None e
+WithPerhapsPins told (Some name) goes_on e = WithPins told name (λ pins. goes_on (Some pins)) e
+
+-- They are under their name, or none are given.
+abbrev pub HasPerhapsPins : Option Names → Option (List ℕ) → Option (List Pin) → Type 0
+HasPerhapsPins told None None = Unit {0}
+HasPerhapsPins told None (Some pins) = ⊥
+HasPerhapsPins told (Some name) None = ⊥
+HasPerhapsPins told (Some name) (Some pins) = HasUnder told name (λ bytes. ArePins bytes pins)
+
+-- They are given, and refused.
+abbrev pub RefusesPerhapsPins : Option Names → Option (List ℕ) → Ending → Type 0
+RefusesPerhapsPins told None e = ⊥
+RefusesPerhapsPins told (Some name) e = RefusesInput told name RefusesPins e
 
 -- Its text is printed.
 abbrev pub PrintsInfo : Detached → Ending → Type 0
@@ -192,9 +222,13 @@ abbrev pub StampsFiles : Outside → Option Names → Stamping → Ending → Ty
 StampsFiles o told s e = WithList s.calendars (λ calendars. WithHashes told s.files
     (Stamps o s.least s.files calendars)) e
 
--- A proof of so many paths is made by the rule and verified, and what is told of it is printed.
+-- A proof of n paths is made by the rule and verified, and what is told of it is printed.
 abbrev pub Samples : ℕ → Ending → Type 0
 Samples n e = (s : Sample) × IsSample n s × (e ≡ printing (verdict_status s.verdict) (sample_text s))
+
+-- The headers are read, then the pins where they are given, and both are checked.
+abbrev pub ChecksFile : Option Names → Chaining → Ending → Type 0
+ChecksFile told c = WithTable told c.headers (λ table. WithPerhapsPins told c.pins (ChecksChain table))
 
 -- Words of no command's form are refused. What an ending rests on besides the names is what happens outside.
 abbrev pub Answers : Outside → Option Names → Option ClientCommand → Ending → Type 0
@@ -207,6 +241,7 @@ Answers o told (Some (verify v)) e = Verifies told v e
 Answers o told (Some (stamp s)) e = StampsFiles o told s e
 Answers o told (Some (upgrade u)) e = UpgradesFile o told u e
 Answers o told (Some (sample n)) e = Samples n e
+Answers o told (Some (chain c)) e = ChecksFile told c e
 
 -- The same, where it happened so outside.
 abbrev pub AnswersAs : (Outside → Type 0) → Option Names → Option ClientCommand → Ending → Type 0
@@ -228,6 +263,7 @@ Decides o (inputs.Verify v) e = TellsVerdict v e
 Decides o (inputs.Stamp s) e = DecidesStamps o s e
 Decides o (inputs.Upgrade calendars proof to) e = Completes o calendars.items proof to.now e
 Decides o (inputs.Sample s) e = Samples s.paths e
+Decides o (inputs.Chain headers pins) e = ChecksChain headers (items_of pins) e
 
 abbrev pub CompletesAs : (Outside → Type 0) → List AddressParts → Detached → List ℕ → Ending → Type 0
 CompletesAs happens calendars p to e = (o : Outside) × happens o × Completes o calendars p to e

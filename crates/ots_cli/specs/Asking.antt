@@ -16,7 +16,7 @@ use Rattle.ots_upgrade.specs.Stamping.{to_stamp}
 use Rattle.ots_cli.specs.Drawing.{Draws, DrawsOrFails, DrawsSome}
 use Rattle.ots_cli.specs.Found.{AreHashed}
 use Rattle.ots_client_words.specs.Words.{ClientCommand, Stamping, Upgrading, info, canon, merge, prune, verify, stamp}
-use Rattle.ots_client_words.specs.Words.{upgrade, sample}
+use Rattle.ots_client_words.specs.Words.{upgrade, sample, chain}
 use Rattle.ots_inputs.specs.Under.{HasUnder}
 
 pub record Outside : Type 0 where
@@ -54,6 +54,7 @@ IsOffline (Some (verify v)) = Unit {0}
 IsOffline (Some (stamp s)) = ⊥
 IsOffline (Some (upgrade u)) = ⊥
 IsOffline (Some (sample n)) = Unit {0}
+IsOffline (Some (chain c)) = Unit {0}
 
 -- Of what the proof under a name asks these calendars, some was asked in order, the last of it perhaps in part.
 pub record AsksUpTo {D : Type 0} (told : D → DialerTold) (faults : D → ℕ) (names : Option Names) (u : Upgrading)
@@ -91,6 +92,7 @@ DrawsFor left (Some (verify v)) old new = new ≡ old
 DrawsFor left (Some (stamp s)) old new = DrawsSome left (length s.files) old new
 DrawsFor left (Some (upgrade u)) old new = new ≡ old
 DrawsFor left (Some (sample n)) old new = new ≡ old
+DrawsFor left (Some (chain c)) old new = new ≡ old
 
 -- What a command asks, whatever its status is: nothing, or some of what it is to ask.
 abbrev pub Asks : {D N : Type 0} → (D → DialerTold) → (D → ℕ) → (N → Option (List ℕ)) → Option Names
@@ -105,3 +107,4 @@ Asks told faults left names (Some (stamp s)) old new before now = (new ≡ old)
     ⊎ StampsUpTo told faults left names s old new before now
 Asks told faults left names (Some (upgrade u)) old new before now = (new ≡ old) ⊎ AsksUpTo told faults names u old new
 Asks told faults left names (Some (sample n)) old new before now = new ≡ old
+Asks told faults left names (Some (chain c)) old new before now = new ≡ old

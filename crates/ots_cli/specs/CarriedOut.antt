@@ -7,15 +7,15 @@ use Rattle.ots_outside.specs.Shelf.{Names, OnlyWriting, ShelfFaults, ShelfTold}
 use Rattle.ots_outside.specs.Streams.{Takes, TakesPrefix}
 use Rattle.ots_outside.specs.Written.{with_name}
 use Rattle.ots_outputs.specs.Printed.{PrintsLastOr}
-use Rattle.ots_cli.specs.declared.status.Status.{Status}
-use Rattle.ots_cli.specs.declared.status.Status.TheVariants.{Exists, OutOfMemory, TooBig, WriteFault}
+use Rattle.ots_client_text.specs.declared.status.Status.{Status}
+use Rattle.ots_client_text.specs.declared.status.Status.TheVariants.{Exists, OutOfMemory, TooBig, WriteFault}
 use Rattle.ots_cli.specs.declared.ending.Ending.{Ending as Decided}
 use Rattle.ots_client_words.specs.Words.{ClientCommand}
 use Rattle.ots_cli.specs.Answer.{Answers, UnlessFailed}
 use Rattle.ots_cli.specs.Asking.{alone}
 use Rattle.ots_cli.specs.Decided.{IsEndingOf}
 use Rattle.ots_cli.specs.Ending.{Act, Ending, prints, makes, makes_stamp}
-use Rattle.ots_cli.specs.Refusal.{refusal_text}
+use Rattle.ots_client_text.specs.Refusal.{refusal_text}
 use Rattle.ots_cli.specs.Stamping.{IsStampAt}
 use Rattle.ots_base.specs.declared.limits.TheConstants.{MAX_PROOF_FILE}
 use Rattle.ots_detached.specs.File.{IsFileOf, file_of}

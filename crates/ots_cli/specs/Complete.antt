@@ -15,9 +15,11 @@ use Rattle.ots_upgrade.specs.Stamped.{good_trees}
 use Rattle.ots_cli.specs.Answer.{IsUpgradeOf}
 use Rattle.ots_cli.specs.Asking.{Outside}
 use Rattle.ots_cli.specs.Found.{AreHashed}
-use Rattle.ots_cli.specs.Stamping.{AreStampTargets, IsStampAt, proof_name}
-use Rattle.ots_cli.specs.declared.status.Status.{Status}
-use Rattle.ots_cli.specs.declared.status.Status.TheVariants.{Done, No, ReadFault, WriteFault, NonceFault, OutOfMemory}
+use Rattle.ots_cli.specs.Stamping.{AreStampTargets, IsStampAt}
+use Rattle.ots_client_text.specs.Lines.{proof_name}
+use Rattle.ots_client_text.specs.declared.status.Status.{Status}
+use Rattle.ots_client_text.specs.declared.status.Status.TheVariants.{Done, No, ReadFault, WriteFault, NonceFault}
+use Rattle.ots_client_text.specs.declared.status.Status.TheVariants.{OutOfMemory}
 use Rattle.ots_client_words.specs.Words.{Stamping, Upgrading}
 use Rattle.ots_inputs.specs.Under.{HasUnder}
 

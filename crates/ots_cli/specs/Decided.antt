@@ -6,9 +6,9 @@ use Rattle.ots_cli.specs.declared.ending.Acts.TheVariants as acts
 use Rattle.ots_cli.specs.declared.ending.Ending.{Ending as Decided}
 use Rattle.ots_cli.specs.declared.ending.Text.{Text}
 use Rattle.ots_cli.specs.declared.ending.Text.TheVariants as text
-use Rattle.ots_cli.specs.declared.status.Status.{Status}
+use Rattle.ots_client_text.specs.declared.status.Status.{Status}
 use Rattle.ots_cli.specs.Ending.{Act, Ending, prints, makes, makes_stamp}
-use Rattle.ots_cli.specs.Refusal.{refusal_text}
+use Rattle.ots_client_text.specs.Refusal.{refusal_text}
 use Rattle.ots_info.specs.Listing.{IsInfoText}
 use Rattle.ots_merkle.specs.CalendarTree.{root}
 use Rattle.ots_outside.specs.Dialer.{DialerTold}
@@ -18,10 +18,12 @@ use Rattle.ots_upgrade.specs.Stamping.{to_stamp}
 use Rattle.ots_upgrade.specs.declared.outcome.Outcome.{Outcome}
 use Rattle.ots_upgrade.specs.declared.target.Target.{Target}
 use Rattle.ots_cli.specs.declared.inputs.Submission.{Submission}
-use Rattle.ots_cli.specs.declared.status.Status.TheVariants.{Done, TooFew}
-use Rattle.ots_cli.specs.Stamping.{StampedFiles, calendars_text, proof_name, stamp_acts, wrote_text}
+use Rattle.ots_client_text.specs.declared.status.Status.TheVariants.{Done, TooFew}
+use Rattle.ots_cli.specs.Stamping.{StampedFiles, calendars_text, stamp_acts}
+use Rattle.ots_client_text.specs.Lines.{proof_name, wrote_text}
 use Rattle.ots_arguments.specs.Values.{texts}
-use Rattle.ots_cli.specs.Text.{asked_text, complete_text, sample_text, verdict_text}
+use Rattle.ots_cli.specs.Text.{asked_text}
+use Rattle.ots_client_text.specs.Lines.{chain_text, complete_text, sample_text, verdict_text}
 
 -- a text, where a run ends with this status
 abbrev pub IsTextOf : Status → Text → List ℕ → Type 0
@@ -34,6 +36,7 @@ IsTextOf status (text.Calendars replies) bytes = bytes ≡ calendars_text replie
     replies.now.outcomes.items
 IsTextOf status (text.Wrote name) bytes = bytes ≡ wrote_text name.now
 IsTextOf status (text.Sample s) bytes = bytes ≡ sample_text s
+IsTextOf status (text.Chain first last tip pins) bytes = bytes ≡ chain_text first last tip pins
 
 -- the proof of each file is made, and told
 abbrev pub acts_of_stamped : StampedFiles → List Act

@@ -9,7 +9,7 @@ Draws left [] old new = new ≡ old
 Draws {N} left (nonce ∷ nonces) old new = (mid : N) × Gives (left old) (left mid) nonce × (length nonce ≡ 16)
     × Draws left nonces mid new
 
--- Some were drawn, at most so many, and nothing is taken from the bytes to come but these.
+-- Some were drawn, at most `most`, and nothing is taken from the bytes to come but these.
 pub record DrawsSome {N : Type 0} (left : N → Option (List ℕ)) (most : ℕ) (old new : N) : Type 0 where
   pub nonces : List (List ℕ)
   pub few : length nonces ≤ most

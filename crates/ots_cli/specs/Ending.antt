@@ -2,8 +2,8 @@
 use Rattle.std.specs.Prelude.{ℕ, List, [], ◌∷◌}
 use Rattle.ots_tree.specs.declared.token.Token.{Token}
 use Rattle.ots_upgrade.specs.declared.target.Target.{Target}
-use Rattle.ots_cli.specs.declared.status.Status.{Status}
-use Rattle.ots_cli.specs.Refusal.{refusal_text}
+use Rattle.ots_client_text.specs.declared.status.Status.{Status}
+use Rattle.ots_client_text.specs.Refusal.{refusal_text}
 
 -- A text is printed; or a file with these bytes is made under a name; or the proof of the i-th of these files, where
 -- calendars answered these trees, is made under a name.

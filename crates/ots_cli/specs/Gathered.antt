@@ -1,9 +1,8 @@
 -- What reading names does to a shelf, and what it gives.
-use Rattle.std.specs.Prelude.{◌≡◌, ◌⊎◌, ℕ, List, [], ◌∷◌, length, map, Option, Result, Ok, Err, IfOk, IfErr, IsErrOf}
-use Rattle.ots_address.specs.Address.{AddressParts}
-use Rattle.ots_address.specs.AddressList.{IsBadAddress, IsListOf}
+use Rattle.std.specs.Prelude.{◌≡◌, ◌⊎◌, ℕ, List, length, map, Option, Result, Ok, Err, IfOk, IfErr, IsOk}
+use Rattle.ots_address.specs.AddressList.{IsListOf}
 use Rattle.ots_outside.specs.Dialer.{DialerTold}
-use Rattle.ots_outside.specs.Shelf.{Names, NeverFalls, ShelfFaults, ShelfTold}
+use Rattle.ots_outside.specs.Shelf.{Names, ShelfFaults, ShelfTold}
 use Rattle.ots_detached.specs.File.{IsFileOf}
 use Rattle.ots_upgrade.specs.Upgrading.{UpgradesUpTo}
 use Rattle.ots_merkle.specs.CalendarTree.{root}
@@ -13,89 +12,57 @@ use Rattle.ots_upgrade.specs.Stamped.{IsDepth, leaves}
 use Rattle.ots_upgrade.specs.Stamping.{to_stamp}
 use Rattle.ots_arguments.specs.Values.{texts}
 use Rattle.ots_client_words.specs.Words.{ClientCommand, Stamping, Upgrading, info, canon, merge, prune, verify, stamp}
-use Rattle.ots_client_words.specs.Words.{upgrade, sample}
+use Rattle.ots_client_words.specs.Words.{upgrade, sample, chain}
 use Rattle.ots_cli.specs.Drawing.{Draws, DrawsSome}
 use Rattle.ots_cli.specs.declared.inputs.Submission.{Submission}
 use Rattle.ots_cli.specs.declared.inputs.Inputs.{Inputs}
 use Rattle.ots_cli.specs.declared.inputs.Inputs.TheVariants as inputs
 use Rattle.ots_cli.specs.declared.ending.Ending.{Ending as Decided}
-use Rattle.ots_cli.specs.declared.input.InputError.{InputError}
-use Rattle.ots_cli.specs.declared.input.InputError.TheVariants.{NoFile, ReadFault, TooBig, BadProof, BadHeaders}
-use Rattle.ots_cli.specs.declared.input.InputError.TheVariants.{FileTooLong, BadAddress, OutOfMemory}
-use Rattle.ots_cli.specs.declared.input.Stop.{Stop}
-use Rattle.ots_cli.specs.declared.status.Status.{Status}
-use Rattle.ots_cli.specs.declared.status.Status.TheVariants as status
-use Rattle.ots_cli.specs.Decided.{EndsAs}
+use Rattle.ots_client_text.specs.declared.status.Status.{Status}
+use Rattle.ots_client_text.specs.declared.status.Status.TheVariants as status
+use Rattle.ots_cli.specs.Decided.{EndsAs, IsEnding}
 use Rattle.ots_cli.specs.Ending.{Ending, refused}
 use Rattle.ots_base.specs.declared.out_of_memory.OutOfMemory.{OutOfMemory as NoMemory}
-use Rattle.ots_cli.specs.Answer.{Comes, RefusesInput}
-use Rattle.ots_cli.specs.Found.{AreHashed, ReadsInput}
-use Rattle.ots_cli.specs.Opened.{OpensName}
+use Rattle.ots_cli.specs.Answer.{Comes}
+use Rattle.ots_cli.specs.Found.{AreHashed}
+use Rattle.ots_inputs.specs.declared.error.InputError.{InputError}
+use Rattle.ots_inputs.specs.declared.error.InputError.TheVariants.{NoFile, ReadFault, Refused, OutOfMemory}
+use Rattle.ots_inputs.specs.declared.error.Stop.{Stop}
+use Rattle.ots_inputs.specs.Input.{RanOut}
+use Rattle.ots_inputs.specs.Kept.{KeepsShelf}
 use Rattle.ots_inputs.specs.Under.{HasUnder}
 use Rattle.ots_inputs.specs.Opened.{Opens, OpensPrefix, StopsAt}
 
--- Why reading stopped at a name: it is refused with the status of the cause; or the shelf counted a fault there; or
+-- Why reading stopped at a name: it is not there or refused, with that status; or the shelf counted a fault there; or
 -- memory ran out.
-abbrev pub StopsFor : (Ending → Type 0) → (List ℕ → Type 0) → List ℕ → InputError → Type 0
-StopsFor refuses stops_at name ReadFault = stops_at name
-StopsFor refuses stops_at name OutOfMemory = Unit {0}
+abbrev pub StopsFor : (Ending → Type 0) → (List ℕ → Type 0) → List ℕ → InputError Status → Type 0
 StopsFor refuses stops_at name NoFile = refuses (refused name status.NoFile)
-StopsFor refuses stops_at name TooBig = refuses (refused name status.TooBig)
-StopsFor refuses stops_at name (BadProof f) = refuses (refused name (status.BadProof f))
-StopsFor refuses stops_at name (BadHeaders n) = refuses (refused name (status.BadHeaders n))
-StopsFor refuses stops_at name (BadAddress place https) = refuses (refused name (status.BadAddress place https))
-StopsFor refuses stops_at name FileTooLong = refuses (refused name status.FileTooLong)
-
--- Reading stopped because memory ran out.
-abbrev pub RanOut : {A : Type 0} → Result A Stop → Type 0
-RanOut (Ok x) = ⊥
-RanOut (Err stop) = stop.cause ≡ OutOfMemory
+StopsFor refuses stops_at name ReadFault = stops_at name
+StopsFor refuses stops_at name (Refused s) = refuses (refused name s)
+StopsFor refuses stops_at name OutOfMemory = Unit {0}
 
 -- Names were read in order. All of them, which gives this; or reading stopped at one, and `refuses` says of which
--- refusals that may be. All else that is told stays, and nothing was written.
+-- refusals that may be.
 pub record Reads {A : Type 0} (reads : List (List ℕ)) (gives : Option Names → A → Type 0)
     (refuses : Option Names → Ending → Type 0)
-    (old new : ShelfTold) (before now : ShelfFaults) (r : Result A Stop) : Type 0 where
+    (old new : ShelfTold) (before now : ShelfFaults) (r : Result A (Stop Status)) : Type 0 where
   pub given : IfOk r (gives old.names)
   pub stopped : IfErr r (λ stop. StopsFor (refuses old.names) (StopsAt reads old.opened new.opened before now)
-      stop.name.now stop.cause)
+      stop.name.now stop.why)
   pub opened : IfOk r (λ x. Opens reads old.opened new.opened)
   pub prefix : OpensPrefix reads old.opened new.opened
-  pub names : new.names ≡ old.names
-  pub slots : (k : ℕ) → new.slots k ≡ old.slots k
-  pub short : ¬ RanOut r → new.short ≡ old.short
-  pub later : NeverFalls before now
-  pub writing : now.writing ≡ before.writing
+  pub kept : KeepsShelf (¬ RanOut r) old new before now
 
--- The list has a first piece that is no address; or memory ran out.
-abbrev pub IfBadList : List ℕ → List ℕ → InputError → Type 0
-IfBadList list name (BadAddress place https) = IsBadAddress list place https × (name ≡ [])
-IfBadList list name OutOfMemory = Unit {0}
-IfBadList list name other = ⊥
-
--- A list of calendar addresses was read; or reading stops at the first that is none, or for want of memory.
-abbrev pub ReadsList : List ℕ → Result (List AddressParts) Stop → Type 0
-ReadsList list (Ok calendars) = IsListOf list calendars
-ReadsList list (Err stop) = IfBadList list stop.name.now stop.cause
-
--- One name was read: what its bytes give, or why they are refused.
-abbrev pub ReadsName : {A : Type 0} → (List ℕ → A → Type 0) → (List ℕ → Status → Type 0) → List ℕ → ShelfTold
-    → ShelfTold → ShelfFaults → ShelfFaults
-    → Result A Stop → Type 0
-ReadsName Gives Refuses name =
-    Reads (name ∷ []) (λ told x. HasUnder told name (λ bytes. Gives bytes x)) (λ told. RefusesInput told name Refuses)
-
--- The same, where the name is not told with the cause.
-pub record ReadsUnder {A : Type 0} (Gives : List ℕ → A → Type 0) (Refuses : List ℕ → Status → Type 0) (name : List ℕ)
-    (old new : ShelfTold)
-    (before now : ShelfFaults) (r : Result A InputError) : Type 0 where
-  pub answer : ReadsInput old.names name Gives Refuses r
-  pub opened : OpensName name old.opened new.opened before now r
-  pub names : new.names ≡ old.names
-  pub slots : (k : ℕ) → new.slots k ≡ old.slots k
-  pub short : ¬ IsErrOf r OutOfMemory → new.short ≡ old.short
-  pub later : NeverFalls before now
-  pub writing : now.writing ≡ before.writing
+-- A stop at a name ends a command with its refusal, or where memory ran out with that.
+abbrev pub EndsStop : List ℕ → InputError Status → Result Decided NoMemory → Type 0
+EndsStop name NoFile (Ok d) = EndsAs (IsEnding (refused name status.NoFile)) d
+EndsStop name ReadFault (Ok d) = EndsAs (IsEnding (refused name status.ReadFault)) d
+EndsStop name (Refused s) (Ok d) = EndsAs (IsEnding (refused name s)) d
+EndsStop name OutOfMemory (Ok d) = ⊥
+EndsStop name NoFile (Err ran) = ⊥
+EndsStop name ReadFault (Err ran) = ⊥
+EndsStop name (Refused s) (Err ran) = ⊥
+EndsStop name OutOfMemory (Err ran) = Unit {0}
 
 -- A run came to how it ends: `answers` says of the names at entry how that may be, and `reads` are the names that are
 -- read, in order. Nothing was made yet.
@@ -104,11 +71,7 @@ pub record ComesToEnd (answers : Option Names → Ending → Type 0) (reads : Li
     (r : Result Decided NoMemory) : Type 0 where
   pub ending : IfOk r (EndsAs (Comes (answers old.names) (StopsAt reads old.opened new.opened before now)))
   pub opened : OpensPrefix reads old.opened new.opened
-  pub names : new.names ≡ old.names
-  pub slots : (k : ℕ) → new.slots k ≡ old.slots k
-  pub short : IfOk r (λ d. new.short ≡ old.short)
-  pub later : NeverFalls before now
-  pub writing : now.writing ≡ before.writing
+  pub kept : KeepsShelf (IsOk r) old new before now
 
 -- ---- asking
 
@@ -142,6 +105,7 @@ AsksFor told faults left (inputs.Stamp s) old new before now = (new ≡ old)
 AsksFor told faults left (inputs.Upgrade calendars proof to) old new before now = UpgradesUpTo told faults
     calendars.items proof old new
 AsksFor told faults left (inputs.Sample s) old new before now = new ≡ old
+AsksFor told faults left (inputs.Chain headers pins) old new before now = new ≡ old
 
 -- What is drawn for inputs: nothing, or a nonce for each file that is stamped, as far as it came.
 abbrev pub DrawsOf : {N : Type 0} → (N → Option (List ℕ)) → Inputs → N → N → Type 0
@@ -152,6 +116,7 @@ DrawsOf left (inputs.Verify v) old new = new ≡ old
 DrawsOf left (inputs.Stamp s) old new = DrawsSome left (length s.files.items) old new
 DrawsOf left (inputs.Upgrade calendars proof to) old new = new ≡ old
 DrawsOf left (inputs.Sample s) old new = new ≡ old
+DrawsOf left (inputs.Chain headers pins) old new = new ≡ old
 
 -- Nobody is to be asked.
 abbrev pub AreOffline : Inputs → Type 0
@@ -162,6 +127,7 @@ AreOffline (inputs.Verify v) = Unit {0}
 AreOffline (inputs.Stamp s) = ⊥
 AreOffline (inputs.Upgrade calendars proof to) = ⊥
 AreOffline (inputs.Sample s) = Unit {0}
+AreOffline (inputs.Chain headers pins) = Unit {0}
 
 -- The calendars of the list are to be asked for the proof under the name.
 abbrev pub SuitsUpgrade : Option Names → Upgrading → Inputs → Type 0
@@ -171,6 +137,7 @@ SuitsUpgrade told u (inputs.Merge first second to) = ⊥
 SuitsUpgrade told u (inputs.Verify v) = ⊥
 SuitsUpgrade told u (inputs.Stamp s) = ⊥
 SuitsUpgrade told u (inputs.Sample s) = ⊥
+SuitsUpgrade told u (inputs.Chain headers pins) = ⊥
 SuitsUpgrade told u (inputs.Upgrade calendars proof to) = IsListOf u.calendars calendars.items
     × HasUnder told u.proof (λ bytes. IsFileOf bytes proof)
 
@@ -188,6 +155,7 @@ SuitsStamp told s (inputs.Verify v) = ⊥
 SuitsStamp told s (inputs.Stamp i) = IsSubmissionOf told s i
 SuitsStamp told s (inputs.Upgrade calendars proof to) = ⊥
 SuitsStamp told s (inputs.Sample i) = ⊥
+SuitsStamp told s (inputs.Chain headers pins) = ⊥
 
 -- whom these inputs of a command are for
 abbrev pub Suits : Option Names → ClientCommand → Inputs → Type 0
@@ -199,3 +167,4 @@ Suits told (verify v) i = AreOffline i
 Suits told (stamp s) i = SuitsStamp told s i
 Suits told (upgrade u) i = SuitsUpgrade told u i
 Suits told (sample n) i = AreOffline i
+Suits told (chain c) i = AreOffline i

@@ -1,9 +1,7 @@
-pub mod Status
 pub mod Opened
 pub mod Text
 pub mod Found
 pub mod ReadsBack
-pub mod Refusal
 pub mod Rewritten
 pub mod Ending
 pub mod Decided
@@ -11,9 +9,11 @@ pub mod Answer
 pub mod Asking
 pub mod Drawing
 pub mod Stamping
+pub mod WholeChain
 pub mod Yes
 pub mod Taken
 pub mod CarriedOut
+pub mod Chain
 pub mod Complete
 pub mod Gathered
 pub mod Bounded

@@ -1,16 +1,17 @@
 -- Which names a command opens.
-use Rattle.std.specs.Prelude.{◌≡◌, ℕ, List, [], ◌∷◌, ◌++◌, Option, Some, None, Result, Ok, Err}
-use Rattle.ots_outside.specs.Shelf.{ShelfFaults}
-use Rattle.ots_inputs.specs.Opened.{IsOpenedOrNot, Opens}
-use Rattle.ots_cli.specs.declared.input.InputError.{InputError}
-use Rattle.ots_cli.specs.declared.input.InputError.TheVariants.{ReadFault}
+use Rattle.std.specs.Prelude.{ℕ, List, [], ◌∷◌, ◌++◌, Option, Some, None}
 use Rattle.ots_client_words.specs.Words.{ClientCommand, HeaderFile, info, canon, merge, prune, verify, stamp, upgrade}
-use Rattle.ots_client_words.specs.Words.{sample}
+use Rattle.ots_client_words.specs.Words.{sample, chain}
 
 -- the name of headers that may be given
 abbrev pub names_of : Option HeaderFile → List (List ℕ)
 names_of None = []
 names_of (Some file) = file.name ∷ []
+
+-- the name that may be given
+abbrev pub names_perhaps : Option (List ℕ) → List (List ℕ)
+names_perhaps None = []
+names_perhaps (Some name) = name ∷ []
 
 -- the names that a command reads, in order
 abbrev pub names_read : Option ClientCommand → List (List ℕ)
@@ -22,10 +23,5 @@ names_read (Some (prune from to)) = from ∷ []
 names_read (Some (stamp s)) = s.files
 names_read (Some (upgrade u)) = u.proof ∷ []
 names_read (Some (sample n)) = []
+names_read (Some (chain c)) = c.headers.name ∷ names_perhaps c.pins
 names_read (Some (verify v)) = v.bitcoin.name ∷ names_of v.litecoin ++ v.proof ∷ v.target ∷ []
-
--- A name was opened and what it holds was read, or it was refused.
-abbrev pub OpensName : {A : Type 0} → List ℕ → Option (List (List ℕ)) → Option (List (List ℕ)) → ShelfFaults
-    → ShelfFaults → Result A InputError → Type 0
-OpensName name old new before now (Ok x) = Opens (name ∷ []) old new
-OpensName name old new before now (Err e) = IsOpenedOrNot name old new before now (e ≡ ReadFault)

@@ -6,8 +6,8 @@ use Rattle.ots_address.specs.AddressList.{IsListOf}
 use Rattle.ots_upgrade.specs.declared.asking.AskedAt.{AskedAt}
 use Rattle.ots_cli.specs.Answer.{IsUpgradeOf}
 use Rattle.ots_cli.specs.Asking.{Outside}
-use Rattle.ots_cli.specs.declared.status.Status.{Status}
-use Rattle.ots_cli.specs.declared.status.Status.TheVariants.{Done, No}
+use Rattle.ots_client_text.specs.declared.status.Status.{Status}
+use Rattle.ots_client_text.specs.declared.status.Status.TheVariants.{Done, No}
 use Rattle.std.specs.FinMap as map
 use Rattle.ots_outside.specs.Shelf.{Names}
 use Rattle.ots_tree.specs.declared.detached.Detached.{Detached}
@@ -16,11 +16,12 @@ use Rattle.ots_canon.specs.Join.{IsMergeOf}
 use Rattle.ots_upgrade.specs.declared.target.Target.{Target}
 use Rattle.ots_upgrade.specs.Stamped.{good_trees}
 use Rattle.ots_cli.specs.Found.{AreHashed}
-use Rattle.ots_cli.specs.Stamping.{AreStampTargets, IsStampAt, proof_name}
+use Rattle.ots_cli.specs.Stamping.{AreStampTargets, IsStampAt}
+use Rattle.ots_client_text.specs.Lines.{proof_name}
 use Rattle.ots_cli.specs.Rewritten.{IsRewritten}
 use Rattle.ots_cli.specs.declared.rewriting.Rewriting.TheVariants.{Canon, Prune}
 use Rattle.ots_client_words.specs.Words.{ClientCommand, Stamping, info, canon, merge, prune, verify, stamp, upgrade}
-use Rattle.ots_client_words.specs.Words.{sample}
+use Rattle.ots_client_words.specs.Words.{sample, chain}
 use Rattle.ots_inputs.specs.Under.{HasUnder}
 
 -- the names that a command writes
@@ -33,6 +34,7 @@ IsOutput (verify v) name = ⊥
 IsOutput (stamp s) name = (i : ℕ) × (file : List ℕ) × (slice_get s.files i ≡ Some file) × (proof_name file ≡ name)
 IsOutput (upgrade u) name = u.to ≡ name
 IsOutput (sample n) name = ⊥
+IsOutput (chain c) name = ⊥
 
 abbrev pub IsOutputAsked : Option ClientCommand → List ℕ → Type 0
 IsOutputAsked None name = ⊥
@@ -70,6 +72,7 @@ IsResultOf o names (prune from to) name r = HasUnder (Some names) from (λ bytes
     × IsRewritten Prune p r)
 IsResultOf o names (verify v) name r = ⊥
 IsResultOf o names (sample n) name r = ⊥
+IsResultOf o names (chain c) name r = ⊥
 IsResultOf o names (stamp s) name r = IsStampedFile o names s name r
 IsResultOf o names (upgrade u) name r = HasUnder (Some names) u.proof (λ bytes. (p : Detached) × IsFileOf bytes p
     × (calendars : List AddressParts) × IsListOf u.calendars calendars × (asked : List AskedAt)

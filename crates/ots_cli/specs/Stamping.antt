@@ -1,7 +1,7 @@
 -- What `stamp` does: files are hashed, each with a nonce of its own, calendars are asked to timestamp the root over all
 -- of them, and each file's proof is made. Source: the client of the reference library (opentimestamps-client,
 -- otsclient/cmds.py, stamp_command and create_timestamp).
-use Rattle.std.specs.Prelude.{◌≡◌, ◌<◌, ◌≤◌, ℕ, List, [], ◌∷◌, ◌++◌, codes, length, map, slice_get, suc, zip, Some}
+use Rattle.std.specs.Prelude.{◌≡◌, ◌<◌, ◌≤◌, ℕ, List, [], ◌∷◌, length, map, slice_get, suc, zip, Some}
 use Rattle.std.specs.Prelude.{None}
 use Rattle.std.specs.List.{flat_map}
 use Rattle.ots_address.specs.Address.{AddressParts}
@@ -15,15 +15,9 @@ use Rattle.ots_upgrade.specs.Stamped.{Gathers, IsDepth, IsSoundBelow, IsStampOf,
 use Rattle.ots_upgrade.specs.Stamping.{to_stamp}
 use Rattle.ots_cli.specs.Asking.{Outside}
 use Rattle.ots_cli.specs.Ending.{Act, Ending, makes_stamp, prints, refused}
-use Rattle.ots_cli.specs.Refusal.{refusal_text}
-use Rattle.ots_cli.specs.declared.status.Status.TheVariants.{Done, NonceFault, TooFew}
-use Rattle.ots_outputs.specs.Lines.{line}
-
--- ---- the files
-
--- the name of a file's proof
-abbrev pub proof_name : List ℕ → List ℕ
-proof_name name = name ++ codes ".ots"
+use Rattle.ots_client_text.specs.Lines.{proof_name, wrote_text}
+use Rattle.ots_client_text.specs.Refusal.{refusal_text}
+use Rattle.ots_client_text.specs.declared.status.Status.TheVariants.{Done, NonceFault, TooFew}
 
 -- ---- what is asked
 
@@ -42,10 +36,6 @@ pub record AreStampTargets (o : Outside) (calendars : List AddressParts) (digest
 -- a line for each calendar
 abbrev pub calendars_text : List AddressParts → List Outcome → List ℕ
 calendars_text calendars outcomes = flat_map calendar_line (zip calendars outcomes)
-
--- it is told that a file was made
-abbrev pub wrote_text : List ℕ → List ℕ
-wrote_text name = line (codes "wrote " ++ proof_name name)
 
 -- This is the proof of the i-th file, where these trees were answered.
 abbrev pub IsStampAt : List Target → List (List Token) → ℕ → Detached → Type 0

@@ -9,9 +9,11 @@ use Rattle.ots_tree.specs.declared.detached.Detached.{Detached}
 use Rattle.ots_reader.specs.declared.fault.Fault.{Fault}
 use Rattle.ots_detached.specs.File.{IsFileOf}
 use Rattle.ots_detached.specs.FileFault.{HasFault}
-use Rattle.ots_cli.specs.declared.status.Status.{Status}
-use Rattle.ots_cli.specs.declared.status.Status.TheVariants.{Done, No, BadProof, Exists, TooBig, FileTooLong, Differs}
+use Rattle.ots_client_text.specs.declared.status.Status.{Status}
+use Rattle.ots_client_text.specs.declared.status.Status.TheVariants.{Done, No, BadProof, Exists, TooBig, FileTooLong}
+use Rattle.ots_client_text.specs.declared.status.Status.TheVariants.{Differs}
 use Rattle.ots_client_words.specs.Words.{ClientCommand, info, canon, merge, prune, verify, stamp, upgrade, sample}
+use Rattle.ots_client_words.specs.Words.{chain}
 use Rattle.ots_inputs.specs.Under.{HasUnder}
 
 -- the names of the proofs that a command reads, in order
@@ -24,6 +26,7 @@ proofs_read (verify v) = v.proof ∷ []
 proofs_read (stamp s) = []
 proofs_read (upgrade u) = u.proof ∷ []
 proofs_read (sample n) = []
+proofs_read (chain c) = []
 
 -- The bytes under the name spell a sound proof.
 abbrev pub IsProof : Names → List ℕ → Type 0

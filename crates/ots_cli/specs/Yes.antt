@@ -11,8 +11,8 @@ use Rattle.ots_headers.specs.TableRead.{IsTableOf}
 use Rattle.ots_verdicts.specs.Confirmed.{IsConfirmed}
 use Rattle.ots_verdicts.specs.declared.verdicts.Chain.{Chain}
 use Rattle.ots_verdicts.specs.declared.verdicts.Chain.TheVariants as chain
-use Rattle.ots_cli.specs.declared.status.Status.{Status}
-use Rattle.ots_cli.specs.declared.status.Status.TheVariants.{Done, ReadFault, WriteFault, OutOfMemory}
+use Rattle.ots_client_text.specs.declared.status.Status.{Status}
+use Rattle.ots_client_text.specs.declared.status.Status.TheVariants.{Done, ReadFault, WriteFault, OutOfMemory}
 use Rattle.ots_cli.specs.Answer.{HasPerhapsTable}
 use Rattle.ots_client_words.specs.Words.{Verification}
 use Rattle.ots_inputs.specs.Under.{HasUnder}

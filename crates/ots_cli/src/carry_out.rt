@@ -5,15 +5,15 @@ ghost use Rattle.ots_detached.specs.File.{file_of};
 ghost use Rattle.ots_cli.specs.CarriedOut.{Carries, CarriesOutEnding, Makes, PrintsBoth, PrintsLast};
 ghost use Rattle.ots_cli.specs.Ending.{makes, prints};
 ghost use Rattle.ots_cli.specs.Decided.{IsTextOf};
-ghost use Rattle.ots_cli.specs.Refusal.{refusal_text};
-ghost use Rattle.ots_cli.specs.Text.{complete_text};
+ghost use Rattle.ots_client_text.specs.Refusal.{refusal_text};
+ghost use Rattle.ots_client_text.specs.Lines.{complete_text};
 ghost use Rattle.ots_outputs.specs.Printed.{SinkStays};
 
 use crate::ending::{Acts, Ending, Text};
 use crate::output::make_proof;
-use crate::status::Status;
 use crate::text::print_text;
 use crate::write_stamps::make_stamps;
+use ots_client_text::Status;
 use ots_outputs::OutputError;
 use ots_outside::{Failed, Shelf, Sink};
 use ots_tree::Detached;

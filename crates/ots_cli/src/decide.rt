@@ -8,17 +8,17 @@ ghost use Rattle.ots_cli.specs.Gathered.{AsksFor, DrawsOf};
 ghost use Rattle.ots_upgrade.specs.Upgrading.{UpgradesUpTo};
 ghost use Rattle.ots_cli.specs.Decided.{EndsAs};
 ghost use Rattle.ots_verdicts.specs.declared.verdicts.Verdict.{Verdict};
-ghost use Rattle.ots_cli.specs.declared.status.Status.TheVariants.{Differs};
+ghost use Rattle.ots_client_text.specs.declared.status.Status.TheVariants.{Differs};
 
+use crate::chain::checked_chain;
 use crate::ending::{Acts, Ending, Text};
 use crate::inputs::Inputs;
 use crate::rewriting::rewritten;
 use crate::stamping::stamped;
-use crate::status::Status;
-use crate::text::{complete_status, verdict_status};
 use ots_address::Address;
 use ots_base::{MAX_PROOF_FILE, OutOfMemory};
 use ots_canon::MergeError;
+use ots_client_text::{Status, complete_status, verdict_status};
 use ots_client_words::Sampling;
 use ots_detached::{file_length, written_file};
 use ots_outside::{Dialer, Nonces};
@@ -59,6 +59,7 @@ pub fn decide<'a, D: Dialer, N: Nonces>(
         Inputs::Stamp(submission) => stamped(alloc, submission, dialer, nonces),
         Inputs::Upgrade(calendars, proof, to) => upgraded(alloc, &calendars, &proof, to, dialer),
         Inputs::Sample(sampling) => sampled(alloc, sampling),
+        Inputs::Chain(headers, pins) => Ok(checked_chain(&headers, &pins)),
     }
 }
 

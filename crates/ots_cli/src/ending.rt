@@ -3,7 +3,7 @@ ghost use Rattle.ots_cli.specs.Decided.{EndsAs, IsEnding};
 ghost use Rattle.ots_cli.specs.Ending.{refused};
 
 use crate::replies::{Replies, Stamped};
-use crate::status::Status;
+use ots_client_text::Status;
 use ots_sample::Sample;
 use ots_tree::Detached;
 use ots_upgrade::AskedList;
@@ -53,6 +53,17 @@ pub enum Text<'a> {
     Complete(bool),
     /// What `sample` prints.
     Sample(Sample),
+    /// What `chain` prints of headers that are all good.
+    Chain {
+        /// The height of the first.
+        first: u64,
+        /// The height of the last.
+        last: u64,
+        /// The hash of the last.
+        tip: [u8; 32],
+        /// How many pins they have, where pins are given.
+        pins: Option<usize>,
+    },
 }
 
 impl<'a> Ending<'a> {

@@ -6,7 +6,9 @@ ghost use Rattle.ots_cli.specs.Found.{AreHashed};
 ghost use Rattle.ots_cli.specs.Gathered.{Reads};
 ghost use Rattle.ots_arguments.specs.Values.{texts};
 
-use crate::input::{Stop, hash_target};
+use ots_client_inputs::hash_target;
+use ots_client_text::Status;
+use ots_inputs::Stop;
 use ots_ops::{Digest, HashOp};
 use ots_outside::Shelf;
 use std::alloc::Global;
@@ -16,7 +18,7 @@ pub fn hash_targets<'a, S: Shelf>(
     alloc: Global,
     names: &[&'a str],
     shelf: &mut S,
-) -> Result<Vec<Digest>, Stop<'a>>
+) -> Result<Vec<Digest>, Stop<'a, Status>>
     ensures reads { Reads (texts names.entry.now) (λ told digests. AreHashed told (texts names.entry.now) digests.items)
         (λ told. RefusesOne told (texts names.entry.now))
         (S.told shelf.old) (S.told shelf.new) (S.faults shelf.old) (S.faults shelf.new) result }
@@ -25,7 +27,10 @@ pub fn hash_targets<'a, S: Shelf>(
 {
     let mut digests = Vec::with_capacity(alloc, names.len())?;
     for name in names {
-        digests.push(hash_target(name, HashOp::Sha256, shelf)?)?;
+        match hash_target(name, HashOp::Sha256, shelf) {
+            Ok(digest) => digests.push(digest)?,
+            Err(stop) => return Err(stop),
+        }
     }
     Ok(digests)
 }

@@ -5,7 +5,9 @@ ghost use Rattle.ots_client_words.specs.declared.limits.TheConstants.{MAX_STAMPE
 
 use crate::rewriting::Rewriting;
 use ots_address::Address;
+use ots_chain::Pin;
 use ots_client_words::Sampling;
+use ots_headers::Headers;
 use ots_ops::Digest;
 use ots_tree::Detached;
 use ots_verdicts::Verdict;
@@ -27,6 +29,8 @@ pub enum Inputs<'a> {
     Upgrade(Vec<Address>, Detached, &'a str),
     /// `sample`: how many paths the proof is to have.
     Sample(Sampling),
+    /// `chain`: the headers, and the pins where they are given.
+    Chain(Headers, Option<Vec<Pin>>),
 }
 
 /// Files that calendars are asked to timestamp.

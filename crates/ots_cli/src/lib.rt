@@ -6,20 +6,19 @@
 #![tactic(auto)]
 
 mod carry_out;
+mod chain;
 mod decide;
 mod ending;
 mod gather;
 mod hashing;
-mod input;
 mod inputs;
 mod output;
 mod replies;
 mod rewriting;
 mod run;
 mod stamping;
-mod status;
 mod text;
 mod write_stamps;
 
+pub use ots_client_text::Status;
 pub use run::run_client;
-pub use status::Status;

@@ -7,12 +7,14 @@ ghost use Rattle.ots_cli.specs.Asking.{Asks, DrawsFor, Happens, IsOffline};
 ghost use Rattle.ots_cli.specs.Bounded.{BoundsEnd, RunsShort};
 ghost use Rattle.ots_cli.specs.CarriedOut.{Ends, EndsExactly};
 ghost use Rattle.ots_cli.specs.Complete.{CanStamp, CanUpgrade, IsDoneUnlessFailed, IsDoneUnlessLost};
-ghost use Rattle.ots_cli.specs.Gathered.{ComesToEnd};
+ghost use Rattle.ots_cli.specs.Gathered.{ComesToEnd, EndsStop};
 ghost use Rattle.ots_cli.specs.Opened.{names_read};
 ghost use Rattle.ots_cli.specs.ReadsBack.{IsDoneOrNo, IsOutput, IsOutputAsked, Leaves, ReadsBack};
 ghost use Rattle.ots_cli.specs.Taken.{TakesProofs, proofs_read};
-ghost use Rattle.ots_client_words.specs.Words.{ClientCommand as Asked, Stamping, Upgrading, Verification, asked};
-ghost use Rattle.ots_client_words.specs.Words.{read_as, sample, stamp, upgrade, verify};
+ghost use Rattle.ots_client_words.specs.Words.{Chaining, ClientCommand as Asked, Stamping, Upgrading, Verification};
+ghost use Rattle.ots_client_words.specs.Words.{asked};
+ghost use Rattle.ots_client_words.specs.Words.{chain, read_as, sample, stamp, upgrade, verify};
+ghost use Rattle.ots_cli.specs.WholeChain.{HasWholeChain};
 ghost use Rattle.ots_cli.specs.Yes.{HasFiles, IsDoneExactlyWhere, SaysYes};
 ghost use Rattle.ots_headers.specs.HeaderTable.{Table};
 ghost use Rattle.ots_tree.specs.declared.detached.Detached.{Detached};
@@ -23,9 +25,10 @@ use crate::carry_out::carry_out;
 use crate::decide::decide;
 use crate::ending::Ending;
 use crate::gather::gather;
-use crate::status::Status;
 use ots_base::OutOfMemory;
+use ots_client_text::Status;
 use ots_client_words::{ClientCommand, WordsError, read_words};
+use ots_inputs::InputError;
 use ots_outside::{Dialer, Nonces, Shelf, Sink};
 use std::alloc::Global;
 
@@ -85,6 +88,8 @@ pub fn run_client<S: Shelf, K: Sink, D: Dialer, N: Nonces>(
         → IsDoneUnlessFailed result }
     ensures samples { (n : ℕ) → asked words.now ≡ Some (sample n)
         → IsDoneUnlessLost (Rose (K.faults out.old) (K.faults out.new)) result }
+    ensures chains { (names : Names) (c : Chaining) → (S.told shelf.old).names ≡ Some names
+        → asked words.now ≡ Some (chain c) → IsDoneExactlyWhere (HasWholeChain names c) result }
     ensures reads_back { (names : Names) (c : Asked) (to : List ℕ) → (S.told shelf.old).names ≡ Some names
         → asked words.now ≡ Some c
         → IsOutput c to → IsDoneOrNo result
@@ -140,9 +145,18 @@ fn end_of<'a, S: Shelf, D: Dialer, N: Nonces>(
 {
     match gather(alloc, command, shelf) {
         Ok(inputs) => decide(alloc, inputs, dialer, nonces),
-        Err(stop) => match stop.cause.status() {
-            Some(status) => Ok(Ending::refused(stop.name, status)),
-            None => Err(OutOfMemory),
-        },
+        Err(stop) => end_of_stop(stop.name, stop.why),
+    }
+}
+
+/// How a command ends where reading stopped at a name: with its refusal, or for want of memory.
+fn end_of_stop<'a>(name: &'a str, why: InputError<Status>) -> Result<Ending<'a>, OutOfMemory>
+    ensures { EndsStop name.entry.now why result }
+{
+    match why {
+        InputError::NoFile => Ok(Ending::refused(name, Status::NoFile)),
+        InputError::ReadFault => Ok(Ending::refused(name, Status::ReadFault)),
+        InputError::Refused(status) => Ok(Ending::refused(name, status)),
+        InputError::OutOfMemory => Err(OutOfMemory),
     }
 }

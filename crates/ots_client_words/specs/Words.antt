@@ -13,8 +13,9 @@ use Rattle.ots_client_words.specs.declared.command.ClientCommand.{ClientCommand 
 use Rattle.ots_client_words.specs.declared.command.ClientCommand.TheVariants as read
 use Rattle.ots_client_words.specs.declared.words.Form.{Form}
 use Rattle.ots_client_words.specs.declared.words.Form.TheVariants.{Info, Canon, Merge, Prune, Verify, Stamp, Upgrade}
-use Rattle.ots_client_words.specs.declared.words.Form.TheVariants.{Sample}
+use Rattle.ots_client_words.specs.declared.words.Form.TheVariants.{Sample, Chain}
 use Rattle.ots_client_words.specs.declared.command.HeaderFile.{HeaderFile as ReadHeaderFile}
+use Rattle.ots_client_words.specs.declared.command.Chaining.{Chaining as ReadChaining}
 use Rattle.ots_client_words.specs.declared.command.Stamping.{Stamping as ReadStamping}
 use Rattle.ots_client_words.specs.declared.command.Upgrading.{Upgrading as ReadUpgrading}
 use Rattle.ots_client_words.specs.declared.command.Sampling.{Sampling}
@@ -33,6 +34,11 @@ pub record Verification : Type 0 where
   pub proof : List ℕ
   pub bitcoin : HeaderFile
   pub litecoin : Option HeaderFile
+
+-- a file of headers, and the file of pins where it is given
+pub record Chaining : Type 0 where
+  pub headers : HeaderFile
+  pub pins : Option (List ℕ)
 
 -- the list of calendars as it was given, how many of them have to timestamp the files, and the files
 pub record Stamping : Type 0 where
@@ -62,8 +68,10 @@ pub data ClientCommand : Type 0 where
   stamp : Stamping → ClientCommand
   -- ask calendars to complete the proof
   upgrade : Upgrading → ClientCommand
-  -- make a proof of so many paths by a rule, and verify it
+  -- make a proof of this number of paths by a rule, and verify it
   sample : ℕ → ClientCommand
+  -- say whether the headers are one chain, and have the hashes of the pins
+  chain : Chaining → ClientCommand
 
 -- ---- the commands
 
@@ -76,10 +84,12 @@ word_of Verify = codes "verify"
 word_of Stamp = codes "stamp"
 word_of Upgrade = codes "upgrade"
 word_of Sample = codes "sample"
+word_of Chain = codes "chain"
 
 -- info PROOF; canon IN OUT; merge A B OUT; prune IN OUT;
 -- verify FILE PROOF HEADERS --from N, and perhaps --litecoin FILE --litecoin-from M;
--- stamp --calendars LIST --min M FILE..; upgrade --calendars LIST IN OUT; sample N
+-- stamp --calendars LIST --min M FILE..; upgrade --calendars LIST IN OUT; sample N;
+-- chain HEADERS --from N, and perhaps --pins PINS
 abbrev pub arguments_of : Form → List Described
 arguments_of Info = (codes "proof", Positional) ∷ []
 arguments_of Canon = (codes "in", Positional) ∷ (codes "out", Positional) ∷ []
@@ -90,6 +100,7 @@ arguments_of Verify = (codes "file", Positional) ∷ (codes "proof", Positional)
 arguments_of Stamp = (codes "calendars", Required) ∷ (codes "min", Required) ∷ (codes "files", Several) ∷ []
 arguments_of Upgrade = (codes "in", Positional) ∷ (codes "out", Positional) ∷ (codes "calendars", Required) ∷ []
 arguments_of Sample = (codes "paths", Positional) ∷ []
+arguments_of Chain = (codes "headers", Positional) ∷ (codes "from", Required) ∷ (codes "pins", Optional) ∷ []
 
 abbrev pub form_of : List ℕ → Option Form
 form_of word =
@@ -101,6 +112,7 @@ form_of word =
     else if bytes_eq word (word_of Stamp) then Some Stamp
     else if bytes_eq word (word_of Upgrade) then Some Upgrade
     else if bytes_eq word (word_of Sample) then Some Sample
+    else if bytes_eq word (word_of Chain) then Some Chain
     else None
 
 -- the file and the height that two words name, where both do
@@ -132,6 +144,17 @@ verification_in rows =
     (header_file_of (first_of (codes "headers") rows) (first_of (codes "from") rows)))
     (name_in rows (codes "proof")))
     (name_in rows (codes "file"))
+
+-- the name of pins, where they are given
+abbrev pub pins_file : Option (List ℕ) → Option (Option (List ℕ))
+pins_file None = Some None
+pins_file (Some name) = option_map (λ n. Some n) (nonempty name)
+
+abbrev pub chaining_in : List Row → Option Chaining
+chaining_in rows =
+    option_and_then (λ headers. option_map (λ pins. record { headers = headers; pins = pins })
+    (pins_file (first_of (codes "pins") rows)))
+    (header_file_of (first_of (codes "headers") rows) (first_of (codes "from") rows))
 
 -- how many calendars are wanted
 abbrev pub wanted : List ℕ → Option ℕ
@@ -172,6 +195,7 @@ command_in Verify rows = option_map verify (verification_in rows)
 command_in Stamp rows = option_map stamp (stamping_in rows)
 command_in Upgrade rows = option_map upgrade (upgrading_in rows)
 command_in Sample rows = option_map sample (option_and_then paths (first_of (codes "paths") rows))
+command_in Chain rows = option_map chain (chaining_in rows)
 
 -- what the words ask for by this form
 abbrev pub asked_by : Form → List (List ℕ) → Option ClientCommand
@@ -194,6 +218,9 @@ read_verification v = record {
   litecoin = option_map read_header_file v.litecoin;
 }
 
+abbrev pub read_chaining : ReadChaining → Chaining
+read_chaining c = record { headers = read_header_file c.headers; pins = option_map (λ s. s.now) c.pins }
+
 abbrev pub read_stamping : ReadStamping → Stamping
 read_stamping s = record { calendars = s.calendars.now; least = s.least; files = texts s.files.items }
 
@@ -212,6 +239,7 @@ read_as (read.Verify v) = verify (read_verification v)
 read_as (read.Stamp s) = stamp (read_stamping s)
 read_as (read.Upgrade u) = upgrade (read_upgrading u)
 read_as (read.Sample s) = sample (read_sampling s)
+read_as (read.Chain c) = chain (read_chaining c)
 
 -- what these words ask for, each seen as its bytes
 abbrev pub asked : List (String Global) → Option ClientCommand

@@ -1,7 +1,7 @@
 //! The values of arguments that only `ots` has.
 ghost use Rattle.std.specs.Prelude.{◌≡◌, ◌≤◌, None, Some, IfSome};
 ghost use Rattle.std.specs.Option.{option_map};
-ghost use Rattle.ots_client_words.specs.Words.{header_file, paths, perhaps_header_file_of, read_header_file};
+ghost use Rattle.ots_client_words.specs.Words.{header_file, paths, perhaps_header_file_of, pins_file, read_header_file};
 ghost use Rattle.ots_client_words.specs.Words.{read_sampling, wanted};
 
 use crate::command::{HeaderFile, Sampling};
@@ -34,6 +34,16 @@ pub fn header_file<'a>(name: &'a str, first: &str) -> Option<HeaderFile<'a>>
         name: nonempty(name)?,
         first: number(first, 0, MAX_HEIGHT)?,
     })
+}
+
+/// The file of pins that a word names, where it is given.
+pub fn pins_file<'a>(name: Option<&'a str>) -> Option<Option<&'a str>>
+    ensures { option_map (option_map (λ s. s.now)) result ≡ pins_file (option_map (λ s. s.now) name.entry) }
+{
+    match name {
+        Some(name) => Some(Some(nonempty(name)?)),
+        None => Some(None),
+    }
 }
 
 /// The headers of Litecoin: both words or none.

@@ -23,6 +23,9 @@ pub enum ClientCommand<'a> {
     Upgrade(Upgrading<'a>),
     /// `sample N`: make a proof of N paths by a rule, verify it, and print what it comes to.
     Sample(Sampling),
+    /// `chain HEADERS --from N --pins PINS`, of which `--pins` may be absent: say whether the headers are one chain,
+    /// and have the block hashes that the pins name.
+    Chain(Chaining<'a>),
 }
 
 /// What `stamp` is to do.
@@ -57,6 +60,15 @@ pub struct Sampling {
     pub paths: u32,
     pub ghost some: { 1 ≤ paths },
     pub ghost most: { paths ≤ MAX_PATHS },
+}
+
+/// What `chain` is to check.
+#[derive(Clone, Copy)]
+pub struct Chaining<'a> {
+    /// The headers.
+    pub headers: HeaderFile<'a>,
+    /// The file of pins, where it is given.
+    pub pins: Option<&'a str>,
 }
 
 /// What `verify` is to check.

@@ -6,7 +6,9 @@ mod command;
 mod limits;
 mod words;
 
-pub use command::{ClientCommand, HeaderFile, Sampling, Stamping, Upgrading, Verification};
+pub use command::{
+    Chaining, ClientCommand, HeaderFile, Sampling, Stamping, Upgrading, Verification,
+};
 pub use limits::{MAX_PATHS, MAX_STAMPED, MAX_WANTED};
 pub use ots_arguments::WordsError;
 pub use words::read_words;

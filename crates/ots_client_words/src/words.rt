@@ -3,12 +3,14 @@ ghost use Rattle.std.specs.Prelude.{◌≡◌, ◌≤◌, None, Some, map, strin
 ghost use Rattle.std.specs.Option.{option_map};
 ghost use Rattle.clap.specs.Words.{found_of, rows_of};
 ghost use Rattle.ots_arguments.specs.Arguments.{described};
-ghost use Rattle.ots_client_words.specs.Words.{arguments_of, asked_by, command_in, command_of, form_of, read_as};
-ghost use Rattle.ots_client_words.specs.Words.{read_stamping, read_upgrading, read_verification, stamping_in};
+ghost use Rattle.ots_client_words.specs.Words.{arguments_of, asked_by, chaining_in, command_in, command_of, form_of};
+ghost use Rattle.ots_client_words.specs.Words.{read_as, read_chaining, read_stamping, read_upgrading};
+ghost use Rattle.ots_client_words.specs.Words.{read_verification};
+ghost use Rattle.ots_client_words.specs.Words.{stamping_in};
 ghost use Rattle.ots_client_words.specs.Words.{upgrading_in, verification_in, wanted_calendars_in, word_of};
 
-use crate::arguments::{header_file, litecoin_file, sampling, wanted};
-use crate::command::{ClientCommand, Stamping, Upgrading, Verification};
+use crate::arguments::{header_file, litecoin_file, pins_file, sampling, wanted};
+use crate::command::{Chaining, ClientCommand, Stamping, Upgrading, Verification};
 use crate::limits::MAX_STAMPED;
 use clap::ArgMatches;
 use ots_arguments::{Argument, Kind, WordsError, file_name, file_names, read_arguments, value};
@@ -25,6 +27,7 @@ enum Form {
     Stamp,
     Upgrade,
     Sample,
+    Chain,
 }
 
 /// What `verify` is to check, by the values of its arguments.
@@ -36,6 +39,16 @@ fn verification<'a>(matches: &ArgMatches<'a>) -> Option<Verification<'a>>
         proof: file_name(matches, "proof")?,
         bitcoin: header_file(value(matches, "headers")?, value(matches, "from")?)?,
         litecoin: litecoin_file(value(matches, "litecoin"), value(matches, "litecoin-from"))?,
+    })
+}
+
+/// What `chain` is to check, by the values of its arguments.
+fn chaining<'a>(matches: &ArgMatches<'a>) -> Option<Chaining<'a>>
+    ensures { option_map read_chaining result ≡ chaining_in (rows_of (found_of matches.now)) }
+{
+    Some(Chaining {
+        headers: header_file(value(matches, "headers")?, value(matches, "from")?)?,
+        pins: pins_file(value(matches, "pins"))?,
     })
 }
 
@@ -121,6 +134,13 @@ static UPGRADE: [Argument; 3] = [
 /// The arguments of `sample`.
 static SAMPLE: [Argument; 1] = [Argument("paths", Kind::Positional)];
 
+/// The arguments of `chain`.
+static CHAIN: [Argument; 3] = [
+    Argument("headers", Kind::Positional),
+    Argument("from", Kind::Required),
+    Argument("pins", Kind::Optional),
+];
+
 impl Form {
     /// The command with this word.
     fn of(word: &str) -> Option<Form>
@@ -135,6 +155,7 @@ impl Form {
             "stamp" => Some(Form::Stamp),
             "upgrade" => Some(Form::Upgrade),
             "sample" => Some(Form::Sample),
+            "chain" => Some(Form::Chain),
             _ => None,
         }
     }
@@ -152,6 +173,7 @@ impl Form {
             Form::Stamp => "stamp",
             Form::Upgrade => "upgrade",
             Form::Sample => "sample",
+            Form::Chain => "chain",
         }
     }
 
@@ -167,6 +189,7 @@ impl Form {
             Form::Stamp => STAMP.as_slice(),
             Form::Upgrade => UPGRADE.as_slice(),
             Form::Sample => SAMPLE.as_slice(),
+            Form::Chain => CHAIN.as_slice(),
         }
     }
 
@@ -187,6 +210,7 @@ impl Form {
             Form::Stamp => Ok(stamping(alloc, matches)?.map(ClientCommand::Stamp)),
             Form::Upgrade => Ok(upgrading(matches).map(ClientCommand::Upgrade)),
             Form::Sample => Ok(sample(matches)),
+            Form::Chain => Ok(chaining(matches).map(ClientCommand::Chain)),
         }
     }
 }

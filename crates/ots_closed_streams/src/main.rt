@@ -63,7 +63,7 @@ fn first_failed(
     Ok(0)
 }
 
-/// Whether the calendar can't print on these words, and leaves a journal of so many records.
+/// Whether the calendar can't print on these words, and leaves a journal of this number of records.
 fn stores(
     rt: &HostRuntime,
     threads: &(impl Threads + Wait + Sync),

@@ -7,7 +7,7 @@
 //! | [`Served`] | how a connection ended |
 //!
 //! A digest is put in one hold of the book, and in a second its round is closed, unless another
-//! caller has closed it in between: so many connections share one commitment. Its ticket is withdrawn
+//! caller has closed it in between: in this way many connections share one commitment. Its ticket is withdrawn
 //! wherever no tree is given. The reply is written while the book is not held.
 #![tactic(auto)]
 

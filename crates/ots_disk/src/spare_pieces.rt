@@ -26,7 +26,7 @@ impl Model for SparePieces {
 }
 
 impl SparePieces {
-    /// Memory for so many pieces of at most `room` bytes.
+    /// Memory for `count` pieces of at most `room` bytes.
     pub fn new(alloc: Global, count: usize, room: usize) -> Result<SparePieces, OutOfMemory>
         ensures { IfOk result (λ s. s ≡ record { left = count; room = room }) }
     {

@@ -201,7 +201,7 @@ fn fails(made: &mut u64, failing: &[u64]) -> bool
     failing.contains(made)
 }
 
-/// Copies the bytes from a place on to the start of a buffer, at most so many.
+/// Copies at most `most` bytes from a place on to the start of a buffer.
 fn copy_from(bytes: &[u8], place: u64, most: usize, buf: &mut [u8]) -> usize
     requires { 0 < most }
     ensures within { result ≤ length buf.new }

@@ -59,7 +59,7 @@ impl Record {
         self.note(&[3, 0, length, u64::from(ok)], &[]);
     }
 
-    /// Notes a read of so many bytes, with those that came.
+    /// Notes a read of `asked` bytes, with those that came.
     pub(crate) fn got(&mut self, place: u64, asked: u64, ok: bool, bytes: &[u8])
         ensures { self.new.events ≡ got place asked ok bytes.now ∷ self.old.events }
     {

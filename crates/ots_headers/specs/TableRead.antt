@@ -17,7 +17,7 @@ pub record IsTableOf (height : ℕ) (b : List ℕ) (t : Table) : Type 0 where
 abbrev pub IsCut : ℕ → Type 0
 IsCut n = (n ≤ MAX_HEADER_FILE) × ((n ≡ 0) ⊎ (n % 80 ≢ 0))
 
--- the refusal of so many bytes
+-- the refusal of n bytes
 abbrev pub IsCutError : ℕ → HeadersError → Type 0
 IsCutError n (BadHeaders m) = (m ≡ n) × IsCut n
 IsCutError n ReadFault = ⊥

@@ -16,8 +16,8 @@ use std::marker::Model;
 pub enum HeadersError {
     /// A read failed, and the source has counted the fault.
     ReadFault,
-    /// The input has so many bytes: none, or no multiple of 80, or 83,886,081 where it has more
-    /// than 83,886,080.
+    /// The length of the input: 0, or no multiple of 80, or 83,886,081 where it has more than
+    /// 83,886,080 bytes.
     BadHeaders(u64),
     /// Memory ran out.
     OutOfMemory,
@@ -107,7 +107,7 @@ fn table_of(first: u64, bytes: Vec<u8>) -> Result<Headers, HeadersError>
     Ok(Headers { first, bytes })
 }
 
-/// Whether there are so many bytes that they are whole headers, and at least one.
+/// Whether the length is that of whole headers, and at least one.
 fn check_length(bytes: &[u8]) -> Result<(), HeadersError>
     requires { length bytes.now ≤ MAX_HEADER_FILE }
     ensures ok { IfOk result (λ _. (first : ℕ) → first ≤ 2 ^ 63 - 1

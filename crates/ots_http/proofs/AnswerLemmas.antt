@@ -10,7 +10,8 @@ use Rattle.ots_base.specs.Told.{IfTold}
 use Rattle.ots_outside.specs.Link.{LinkTold}
 use Rattle.ots_http.specs.declared.limits.TheConstants.{MAX_FIELDS, MAX_HEAD}
 use Rattle.ots_http.specs.declared.request.Request.{Request}
-use Rattle.ots_http.specs.RequestHeadRead.{FindsHead}
+use Rattle.ots_http.specs.Covered.{CoversRequest}
+use Rattle.ots_http.specs.HeadRead.{FindsHead}
 use Rattle.ots_http.specs.RequestTable.{by_head, request_by}
 use Rattle.ots_http.specs.RequestRead.{IsRequestAnswer, Decides, DecidesHead, digest_of}
 use Rattle.ots_http.proofs.RequestHeadLemmas.{head_some}
@@ -44,7 +45,7 @@ asked input came rest spans head h request whole fits room within at is =
     )
 
 pub asks_digest : (a b : Option LinkTold) (buffer : List ℕ) (spans : List HeaderSpan) (head : RequestSpans) (filled n : ℕ) (request : Request)
-    → FindsHead a b buffer spans head filled → length spans ≡ MAX_FIELDS
+    → FindsHead CoversRequest a b buffer spans head filled → length spans ≡ MAX_FIELDS
     → DecidesHead (span_bytes (take filled buffer) head.method) (span_bytes (take filled buffer) head.path) (map (header_bytes (take filled buffer)) (take head.headers spans)) (Ok n)
     → IfTold b (λ told. request ≡ digest_of n (drop head.len (take filled buffer) ++ told.left))
     → IfTold a (λ told. IsRequestAnswer told.left (Ok request))
@@ -52,18 +53,18 @@ asks_digest None b buffer spans head filled n request found room decides is = tt
 asks_digest (Some told) None buffer spans head filled n request found room decides is = absurd found.gives
 asks_digest (Some told) (Some later) buffer spans head filled n request found room decides is =
     let came = take filled buffer in
-    asked told.left came later.left spans head found.is.0 request found.gives.left (omega (arith, length-take filled buffer, found.fits)) room found.within found.is.1
+    asked told.left came later.left spans head found.parts.is.0 request found.gives.left (omega (arith, length-take filled buffer, found.fits)) room found.parts.within found.parts.is.1
     (is ∙ sym (decides.2 (drop head.len came ++ later.left)))
 
 pub asks_now : (a b : Option LinkTold) (buffer : List ℕ) (spans : List HeaderSpan) (head : RequestSpans) (filled : ℕ) (request : Request)
-    → FindsHead a b buffer spans head filled → length spans ≡ MAX_FIELDS
+    → FindsHead CoversRequest a b buffer spans head filled → length spans ≡ MAX_FIELDS
     → DecidesHead (span_bytes (take filled buffer) head.method) (span_bytes (take filled buffer) head.path) (map (header_bytes (take filled buffer)) (take head.headers spans)) (Err request)
     → IfTold a (λ told. IsRequestAnswer told.left (Ok request))
 asks_now None b buffer spans head filled request found room decides = tt
 asks_now (Some told) None buffer spans head filled request found room decides = absurd found.gives
 asks_now (Some told) (Some later) buffer spans head filled request found room decides =
     let came = take filled buffer in
-    asked told.left came later.left spans head found.is.0 request found.gives.left (omega (arith, length-take filled buffer, found.fits)) room found.within found.is.1
+    asked told.left came later.left spans head found.parts.is.0 request found.gives.left (omega (arith, length-take filled buffer, found.fits)) room found.parts.within found.parts.is.1
     (sym (decides (drop head.len came ++ later.left)))
 
 pub told_nothing : (a : Option LinkTold) → IfTold a (λ told. Unit {0})

@@ -1,16 +1,15 @@
 -- Heads of replies in what came of a link.
-use Rattle.std.proofs.Common.{◌≡◌, ◌⊎◌, ◌-◌, ◌<◌, ◌≤◌, ℕ, Bool, false, List, [], ◌∷◌, ◌++◌, length, take, drop, get_or, refl, sym, ap, subst, ◌∙◌, arith, append_assoc, length-append, append-nil, Option, Some, None, inl, inr}
+use Rattle.std.proofs.Common.{◌≡◌, ◌⊎◌, ◌-◌, ◌<◌, ◌≤◌, ℕ, Bool, false, List, [], ◌∷◌, ◌++◌, length, take, drop, get_or, refl, sym, ap, subst, ◌∙◌, arith, append_assoc, length-append, inl, inr}
 use Rattle.std.proofs.lemmas.List.{take-append-drop, drop_at}
 use Rattle.std.specs.List.{flat_map}
 use Rattle.httparse.specs.Ascii.{line_feed, space}
 use Rattle.httparse.specs.Grammar.{ResponseHead, print_response, print_blank, print_version, print_reason, print_end, print_field, print_section, ReadsResponse, HasNoResponse}
 use Rattle.httparse.specs.Spans.{ResponseOverflows}
 use Rattle.httparse.proofs.GrammarLemmas.{print_response-append}
-use Rattle.ots_base.specs.Told.{IfTold, BothTold}
-use Rattle.ots_outside.specs.Link.{LinkTold, LinkGives}
 use Rattle.ots_http.specs.Head.{HasNoReplyHead}
+use Rattle.ots_http.specs.HeadRead.{IsUndecided}
 use Rattle.ots_http.specs.LineEnds.{IsEndByte, IsBlank, HasNoLineFeed}
-use Rattle.ots_http.specs.declared.limits.TheConstants.{MAX_HEAD, MAX_FIELDS}
+use Rattle.ots_http.specs.declared.limits.TheConstants.{MAX_FIELDS}
 use Rattle.ots_http.proofs.HeadLemmas.{ends_in_line_feed, ends_before, text_in_prefix, at_drop}
 
 -- a head has bytes
@@ -66,28 +65,16 @@ no_reply_yet came before begun none blank (inr no_end) =
     subst HasNoResponse (take-append-drop before came)
     (no_reply_without_line (take before came) (drop before came) none no_end)
 
--- ---- inputs that have no head
+-- ---- inputs that begin with no head
 
--- the link ended after what came, which has no head
-pub no_reply_at_end : (a b : Option LinkTold) (came : List ℕ) → BothTold (LinkGives came) a b → IfTold b (λ link. link.left ≡ []) → HasNoResponse came
-    → IfTold a (λ link. HasNoReplyHead link.left)
-no_reply_at_end None b came gives ended none = tt
-no_reply_at_end (Some link) None came gives ended none = absurd gives
-no_reply_at_end (Some link) (Some later) came gives ended none =
-    λ h body head. none h body (head.reads.0, sym (gives.left ∙ ap (λ (z : List ℕ). came ++ z) ended ∙ append-nil came) ∙ head.reads.1)
-
--- MAX_HEAD bytes came, and no prefix of them is a head
-pub no_reply_in_full : (a b : Option LinkTold) (came : List ℕ) → BothTold (LinkGives came) a b → length came ≡ MAX_HEAD → HasNoResponse came
-    → IfTold a (λ link. HasNoReplyHead link.left)
-no_reply_in_full None b came gives full none = tt
-no_reply_in_full (Some link) None came gives full none = absurd gives
-no_reply_in_full (Some link) (Some later) came gives full none =
-    λ h body head. let short : length (print_response h) ≤ length came = omega (arith, full, head.limits.short) in
-    let prefix = reply_in_prefix came later.left body h (head.reads.0, sym gives.left ∙ head.reads.1) short in none h prefix.0 prefix.1
+pub reply_undecided : (came : List ℕ) → HasNoResponse came → IsUndecided HasNoResponse HasNoReplyHead came
+reply_undecided came none = record {
+  none_yet = none;
+  at_end = λ h body head. none h body head.reads;
+  full = λ full more h body head. let short : length (print_response h) ≤ length came = omega (arith, full, head.limits.short) in
+      let prefix = reply_in_prefix came more body h head.reads short in none h prefix.0 prefix.1;
+}
 
 -- whatever follows, there is no head of so few fields
-pub no_reply_ever : (a b : Option LinkTold) (came : List ℕ) → BothTold (LinkGives came) a b → ResponseOverflows MAX_FIELDS came → IfTold a (λ link. HasNoReplyHead link.left)
-no_reply_ever None b came gives never = tt
-no_reply_ever (Some link) None came gives never = absurd gives
-no_reply_ever (Some link) (Some later) came gives never =
-    λ h body head. omega (arith, never later.left h body (head.reads.0, sym gives.left ∙ head.reads.1), head.limits.few)
+pub reply_never : (n : ℕ) (came : List ℕ) → n ≡ MAX_FIELDS → ResponseOverflows n came → (more : List ℕ) → HasNoReplyHead (came ++ more)
+reply_never n came is over more h body head = omega (arith, is, over more h body head.reads, head.limits.few)

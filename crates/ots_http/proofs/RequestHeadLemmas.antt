@@ -1,25 +1,20 @@
 -- Heads of requests in what came of a link.
-use Rattle.std.proofs.Common.{◌≡◌, ◌⊎◌, ◌-◌, ◌<◌, ◌≤◌, ℕ, Bool, false, List, [], ◌∷◌, ◌++◌, length, take, drop, get_or, refl, sym, ap, subst, ◌∙◌, arith, append_assoc, length-append, append-nil, Option, Some, None, inl, inr, IsTrue}
+use Rattle.std.proofs.Common.{◌≡◌, ◌⊎◌, ◌-◌, ◌<◌, ◌≤◌, ℕ, Bool, false, List, [], ◌∷◌, ◌++◌, length, take, drop, get_or, refl, sym, ap, subst, ◌∙◌, arith, append_assoc, length-append, inl, inr, IsTrue}
 use Rattle.std.proofs.lemmas.List.{take-append-drop, drop_at, get_or_append_left}
 use Rattle.std.specs.List.{flat_map}
 use Rattle.httparse.specs.Ascii.{line_feed, space}
 use Rattle.httparse.specs.Grammar.{RequestHead, print_request, print_blank, print_version, print_end, print_field, print_section, is_token_byte, IsToken, ReadsRequest, HasNoRequest}
 use Rattle.httparse.specs.Spans.{RequestOverflows}
 use Rattle.httparse.proofs.GrammarLemmas.{print_request-append}
-use Rattle.ots_base.specs.Told.{IfTold, BothTold}
-use Rattle.ots_outside.specs.Link.{LinkTold, LinkGives}
 use Rattle.ots_http.specs.Head.{HasNoRequestHead}
+use Rattle.ots_http.specs.HeadRead.{IsUndecided}
 use Rattle.ots_http.specs.LineEnds.{IsEndByte, IsBlank, HasNoLineFeed}
-use Rattle.ots_http.specs.declared.limits.TheConstants.{MAX_HEAD, MAX_FIELDS}
+use Rattle.ots_http.specs.declared.limits.TheConstants.{MAX_FIELDS}
 use Rattle.ots_http.proofs.HeadLemmas.{ends_in_line_feed, ends_before, text_in_prefix, at_drop}
 
 -- a head has bytes
 pub head_some : (h : RequestHead) (rest : List ℕ) → IsToken h.method → 0 < length (print_request h ++ rest)
 head_some h rest method = rw (print_request-append h rest) (simp length-append (omega (arith, method.0)))
-
--- nothing is no head
-pub no_request_in_nothing : HasNoRequest []
-no_request_in_nothing h rest reads = omega (arith, ap length reads.1, head_some h rest reads.0.method)
 
 -- a head in what came of an input, where so much came
 pub head_in_prefix : (came rest body : List ℕ) (h : RequestHead) → ReadsRequest (came ++ rest) h body → length (print_request h) ≤ length came
@@ -68,35 +63,16 @@ none_yet came before begun none blank (inr no_end) =
     subst HasNoRequest (take-append-drop before came)
     (none_without_line (take before came) (drop before came) none no_end)
 
--- ---- inputs that have no head
+-- ---- inputs that begin with no head
 
--- the link ended after what came, which has no head
-pub none_at_end : (a b : Option LinkTold) (came : List ℕ) → BothTold (LinkGives came) a b → IfTold b (λ link. link.left ≡ []) → 0 < length came → HasNoRequest came
-    → IfTold a (λ link. (0 < length link.left) × HasNoRequestHead link.left)
-none_at_end None b came gives ended some none = tt
-none_at_end (Some link) None came gives ended some none = absurd gives
-none_at_end (Some link) (Some later) came gives ended some none = (
-  omega (arith, ap length gives.left, length-append came later.left),
-  λ h body head. none h body (head.reads.0, sym (gives.left ∙ ap (λ (z : List ℕ). came ++ z) ended ∙ append-nil came) ∙ head.reads.1),
-)
-
--- MAX_HEAD bytes came, and no prefix of them is a head
-pub none_in_full : (a b : Option LinkTold) (came : List ℕ) → BothTold (LinkGives came) a b → length came ≡ MAX_HEAD → HasNoRequest came
-    → IfTold a (λ link. (0 < length link.left) × HasNoRequestHead link.left)
-none_in_full None b came gives full none = tt
-none_in_full (Some link) None came gives full none = absurd gives
-none_in_full (Some link) (Some later) came gives full none = (
-  omega (arith, ap length gives.left, length-append came later.left),
-  λ h body head. let short : length (print_request h) ≤ length came = omega (arith, full, head.limits.short) in
-      let prefix = head_in_prefix came later.left body h (head.reads.0, sym gives.left ∙ head.reads.1) short in none h prefix.0 prefix.1,
-)
+pub undecided : (came : List ℕ) → HasNoRequest came → IsUndecided HasNoRequest HasNoRequestHead came
+undecided came none = record {
+  none_yet = none;
+  at_end = λ h body head. none h body head.reads;
+  full = λ full more h body head. let short : length (print_request h) ≤ length came = omega (arith, full, head.limits.short) in
+      let prefix = head_in_prefix came more body h head.reads short in none h prefix.0 prefix.1;
+}
 
 -- whatever follows, there is no head of so few fields
-pub none_ever : (a b : Option LinkTold) (came : List ℕ) → BothTold (LinkGives came) a b → 0 < length came → RequestOverflows MAX_FIELDS came
-    → IfTold a (λ link. (0 < length link.left) × HasNoRequestHead link.left)
-none_ever None b came gives some never = tt
-none_ever (Some link) None came gives some never = absurd gives
-none_ever (Some link) (Some later) came gives some never = (
-  omega (arith, ap length gives.left, length-append came later.left),
-  λ h body head. omega (arith, never later.left h body (head.reads.0, sym gives.left ∙ head.reads.1), head.limits.few),
-)
+pub never : (n : ℕ) (came : List ℕ) → n ≡ MAX_FIELDS → RequestOverflows n came → (more : List ℕ) → HasNoRequestHead (came ++ more)
+never n came is over more h body head = omega (arith, is, over more h body head.reads, head.limits.few)

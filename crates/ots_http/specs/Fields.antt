@@ -28,7 +28,7 @@ values_of name fields = map (λ (field : NameAndValue). field.1) (filter (is_nam
 abbrev pub is_number : List ℕ → Bool
 is_number value = nat_lt 0 (length value) && list_all is_ascii_digit value
 
--- The length that one value states, where at most so many bytes are taken.
+-- The length that one value states, where at most `most` bytes are taken.
 abbrev pub stated_by : ℕ → List ℕ → StatedLength
 stated_by most value =
     if is_number value then (if nat_lt most (digits_value 10 value) then TooGreat else Length (digits_value 10 value))
@@ -40,7 +40,7 @@ stated most [] = Absent
 stated most (value ∷ []) = stated_by most value
 stated most (value ∷ another ∷ more) = Malformed
 
--- The length that a head states of its body, where at most so many bytes are taken. No coding is taken: a
+-- The length that a head states of its body, where at most `most` bytes are taken. No coding is taken: a
 -- Transfer-Encoding field is as bad as a length that is no number, whatever the Content-Length fields are.
 abbrev pub length_beside : ℕ → List NameAndValue → List (List ℕ) → StatedLength
 length_beside most fields [] = stated most (values_of (codes "content-length") fields)

@@ -3,7 +3,7 @@ use Rattle.std.specs.Prelude.{ℕ, ◌≤◌, List, length, Option}
 use Rattle.ots_base.specs.Told.{BothTold}
 use Rattle.ots_outside.specs.Link.{LinkTold, LinkGives}
 
--- At most so many bytes were read. The bytes taken stay.
+-- At most `most` bytes were read. The bytes taken stay.
 pub record GivesAtMost (most : ℕ) (old new : Option LinkTold) : Type 0 where
   pub bytes : List ℕ
   pub gives : BothTold (LinkGives bytes) old new

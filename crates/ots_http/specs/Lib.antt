@@ -6,10 +6,10 @@ pub mod Head
 pub mod LineEnds
 pub mod Reading
 pub mod ReplyBodyRead
-pub mod ReplyHeadRead
 pub mod ReplyTable
 pub mod ReplyText
-pub mod RequestHeadRead
+pub mod Covered
+pub mod HeadRead
 pub mod RequestRead
 pub mod RequestTable
 pub mod RequestText

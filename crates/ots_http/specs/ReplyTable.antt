@@ -2,7 +2,7 @@
 -- fits decides.
 use Rattle.std.specs.Prelude.{◌≡◌, ℕ, nat_eq, nat_lt, List, length, take, if◌then◌else◌, Result, Ok, Err}
 use Rattle.httparse.specs.Grammar.{ResponseHead, status_code}
-use Rattle.ots_http.specs.declared.limits.TheConstants.{MAX_REPLY_BODY}
+use Rattle.ots_base.specs.declared.limits.TheConstants.{MAX_REPLY_BODY}
 use Rattle.ots_http.specs.declared.fields.StatedLength.{StatedLength}
 use Rattle.ots_http.specs.declared.fields.StatedLength.TheVariants.{Absent, Malformed, TooGreat, Length}
 use Rattle.ots_http.specs.declared.reply.HttpReply.{HttpReply}

@@ -6,8 +6,8 @@ ghost use Rattle.httparse.specs.Spans.{IsHeaderWithin, header_bytes, span_bytes}
 ghost use Rattle.ots_http.specs.Fields.{body_length, is_named, values_of, stated, stated_by, StatesAtMost};
 ghost use Rattle.ots_http.specs.FieldValues.{AreValues, with_another};
 
-use crate::limits::MAX_REPLY_BODY;
 use httparse::spans::{HeaderSpan, Span};
+use ots_base::MAX_REPLY_BODY;
 
 /// The length of the body that the fields of a head state.
 #[derive(Clone, Copy, Debug, PartialEq, Eq)]

@@ -8,6 +8,7 @@
 mod asking;
 mod draft;
 mod fields;
+mod heads;
 mod laws;
 mod limits;
 mod line_ends;
@@ -22,8 +23,9 @@ mod writing;
 
 pub use asking::{Asked, write_request};
 pub use laws::{one_reply_outcome, one_request_answer};
-pub use limits::{MAX_FIELDS, MAX_HEAD, MAX_REPLY_BODY};
+pub use limits::{MAX_FIELDS, MAX_HEAD};
 pub use ots_address::{Address, AddressError, read_addresses};
+pub use ots_base::MAX_REPLY_BODY;
 pub use reply::{HttpReply, ReplyError, read_reply};
 pub use replying::{Reply, write_reply};
 pub use request::{Request, RequestError, read_request};

@@ -1,5 +1,5 @@
 //! Where the head of a message may have ended: at the end of a line.
-ghost use Rattle.std.specs.Prelude.{◌≡◌, ◌≤◌, ◌⊎◌, false, length, drop};
+ghost use Rattle.std.specs.Prelude.{◌≡◌, ◌<◌, ◌≤◌, ◌⊎◌, false, length, drop};
 ghost use Rattle.ots_http.specs.LineEnds.{IsBlank, HasNoLineFeed};
 
 /// Whether a byte came that is none of an empty line, in the new bytes or before them.
@@ -15,7 +15,8 @@ pub(crate) fn has_begun(before: bool, new: &[u8]) -> bool
 /// once.
 pub(crate) fn may_end(came: &[u8], before: usize, begun: bool) -> bool
     requires { before ≤ length came.now }
-    ensures { result ≡ false → (begun ≡ false) ⊎ HasNoLineFeed (drop before came.now) }
+    ensures none { result ≡ false → (begun ≡ false) ⊎ HasNoLineFeed (drop before came.now) }
+    ensures later { result ≡ false → 0 < before }
 {
     if before == 0 || !begun {
         return before == 0;

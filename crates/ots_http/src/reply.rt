@@ -9,10 +9,11 @@ ghost use Rattle.ots_http.specs.ReplyBodyRead.{IsBodyAnswer};
 ghost use Rattle.ots_http.specs.declared.reply.ReplyError.TheVariants.{LinkFault, OutOfMemory};
 
 use crate::fields::{StatedLength, body_length};
-use crate::limits::{MAX_FIELDS, MAX_HEAD, MAX_REPLY_BODY};
+use crate::heads::{HeadRead, read_head};
+use crate::limits::{MAX_FIELDS, MAX_HEAD};
 use crate::reading::read_on;
-use crate::reply_head::{ReplyHeadRead, read_reply_head};
-use httparse::spans::EMPTY_HEADER_SPAN;
+use httparse::spans::{EMPTY_HEADER_SPAN, ResponseSpans};
+use ots_base::MAX_REPLY_BODY;
 use ots_outside::{Bytes, Failed, Link};
 use std::alloc::{AllocError, Global};
 
@@ -67,9 +68,9 @@ pub fn read_reply<L: Link>(alloc: Global, link: &mut L) -> Result<HttpReply, Rep
 {
     let mut buffer = [0; MAX_HEAD + MAX_REPLY_BODY + 1];
     let mut fields = [EMPTY_HEADER_SPAN; MAX_FIELDS];
-    match read_reply_head(link, &mut buffer, &mut fields)? {
-        ReplyHeadRead::NoHead => Err(ReplyError::BadHttp),
-        ReplyHeadRead::Head(head, filled) => {
+    match read_head::<ResponseSpans, L>(link, &mut buffer, &mut fields)? {
+        HeadRead::NoHead | HeadRead::Ended => Err(ReplyError::BadHttp),
+        HeadRead::Head(head, filled) => {
             if head.code != 200 {
                 return Ok(HttpReply::Status(head.code));
             }

@@ -9,9 +9,9 @@ ghost use Rattle.ots_http.specs.RequestRead.{IsRequestAnswer, DecidesHead, Decid
 ghost use Rattle.ots_http.specs.declared.request.RequestError.TheVariants.{LinkFault};
 
 use crate::fields::{StatedLength, body_length};
+use crate::heads::{HeadRead, read_head};
 use crate::limits::{MAX_FIELDS, MAX_HEAD};
 use crate::reading::read_on;
-use crate::request_head::{RequestHeadRead, read_request_head};
 use httparse::spans::{EMPTY_HEADER_SPAN, HeaderSpan, RequestSpans};
 use ots_outside::{Failed, Leaf, Link, MAX_DIGEST, Wanted};
 
@@ -57,10 +57,10 @@ pub fn read_request<L: Link>(link: &mut L) -> Result<Request, RequestError>
 {
     let mut buffer = [0; MAX_HEAD + MAX_DIGEST];
     let mut fields = [EMPTY_HEADER_SPAN; MAX_FIELDS];
-    match read_request_head(link, &mut buffer, &mut fields)? {
-        RequestHeadRead::Ended => Err(RequestError::Closed),
-        RequestHeadRead::NoHead => Ok(Request::Refused(400)),
-        RequestHeadRead::Head(head, filled) => {
+    match read_head::<RequestSpans, L>(link, &mut buffer, &mut fields)? {
+        HeadRead::Ended => Err(RequestError::Closed),
+        HeadRead::NoHead => Ok(Request::Refused(400)),
+        HeadRead::Head(head, filled) => {
             match decide_head(&buffer[..filled], &fields[..head.headers], head) {
                 Ok(size) => match read_on(link, &mut buffer, filled, head.len + size) {
                     Ok(count) => Ok(digest_of_size(&buffer[head.len..count], size)),

@@ -7,7 +7,7 @@ use Rattle.ots_inputs.specs.declared.error.InputError.{InputError}
 use Rattle.ots_inputs.specs.declared.error.InputError.TheVariants.{NoFile, ReadFault, Refused, OutOfMemory}
 use Rattle.ots_inputs.specs.declared.file.TooBig.{TooBig}
 
--- All bytes, of which there are at most so many.
+-- All bytes, of which there are at most `limit`.
 abbrev pub GivesBytes : ℕ → List ℕ → Vec ℕ Global → Type 0
 GivesBytes limit bytes read = (bytes ≡ read.items) × (length bytes ≤ limit)
 
@@ -39,7 +39,7 @@ MeansInput Gives Refuses limit (Err (Refused too_big)) (Err (Refused r)) = (byte
 MeansInput Gives Refuses limit (Err (Refused too_big)) (Err OutOfMemory) = ⊥
 MeansInput Gives Refuses limit (Err OutOfMemory) (Err e) = e ≡ OutOfMemory
 
--- What was read of a file has at most so many bytes.
+-- What was read of a file has at most `limit` bytes.
 abbrev pub IsWithin : ℕ → Result (Vec ℕ Global) (InputError TooBig) → Type 0
 IsWithin limit (Ok bytes) = length bytes.items ≤ limit
 IsWithin limit (Err e) = Unit {0}

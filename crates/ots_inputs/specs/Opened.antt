@@ -19,11 +19,6 @@ IsOpenedOrNot name old new before now faulted =
     (Opens [] old new × (faulted → Rose before.opening now.opening))
     ⊎ (Opens (name ∷ []) old new × (faulted → Rose before.reading now.reading))
 
--- Opening the name failed, or reading it.
-abbrev pub FaultAt : List ℕ → Option (List (List ℕ)) → Option (List (List ℕ)) → ShelfFaults → ShelfFaults → Type 0
-FaultAt name old new before now = (Opens [] old new × Rose before.opening now.opening)
-    ⊎ (Opens (name ∷ []) old new × Rose before.reading now.reading)
-
 -- Of these names reading stopped at this one, and those before it were opened: it was not, and opening failed; or it
 -- was the last, and reading failed.
 pub data StopsAt (names : List (List ℕ)) (old new : Option (List (List ℕ))) (before now : ShelfFaults)

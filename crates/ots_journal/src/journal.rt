@@ -151,7 +151,7 @@ impl<D: Disk> Journal<D> {
         let _ = &self.sure;
     }
 
-    /// Makes room for at least so many entries with so many bytes of payloads, so that appending
+    /// Makes room for at least `entries` entries with `bytes` bytes of payloads, so that appending
     /// them takes no memory.
     pub fn reserve(&mut self, entries: usize, bytes: usize) -> Result<(), OutOfMemory>
         ensures same { self.new ≡ record self.old {

@@ -57,7 +57,7 @@ fn split_head(bytes: &[u8]) -> Option<(usize, usize, &[u8])>
     Some((count, size, rest))
 }
 
-/// Reads the entries that the bytes from a place on are, and says whether they are so many.
+/// Reads the entries that the bytes from a place on are, and says whether their number is `count`.
 fn read_entries(
     places: &mut Vec<Place>,
     bytes: &[u8],

@@ -96,7 +96,7 @@ impl Stored {
         &self.file[self.mark + 1..]
     }
 
-    /// Makes room for at least so many entries, and bytes of payloads, after those that are there.
+    /// Makes room for at least `entries` entries, with `bytes` bytes of payloads, after those that are there.
     pub fn reserve(&mut self, entries: usize, bytes: usize) -> Result<(), OutOfMemory>
         ensures ok { OnOk result (IsReserved self.old self.new entries bytes) }
         ensures err { OnErr result (self.new ≡ self.old) }
@@ -182,8 +182,8 @@ impl Stored {
     }
 }
 
-/// The bytes that so many entries with so many bytes of payloads take at most, each in a group of
-/// its own: two gates, the two numbers of the group, a kind and a length beside the payload.
+/// The most bytes that `entries` entries with `bytes` bytes of payloads take, each in a group of its
+/// own: two gates, the two numbers of the group, a kind and a length beside the payload.
 fn room_in_file(entries: usize, bytes: usize) -> Result<usize, OutOfMemory>
     ensures { IfOk result (λ room. room ≡ 13 * entries + bytes) }
 {

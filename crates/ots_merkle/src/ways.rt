@@ -70,7 +70,7 @@ fn extend_paths(
     Ok(node(&left, &right))
 }
 
-/// Adds one step to each of so many paths, from a first one on.
+/// Adds one step to each of `count` paths, from that at `first` on.
 fn extend_each(
     alloc: Global,
     paths: &mut [Ops],

@@ -35,7 +35,7 @@ pub enum ArgError {
     /// There are no bytes.
     #[error("an argument has at least 1 byte")]
     Empty,
-    /// There are more than 4096 bytes, namely so many.
+    /// The number of bytes, which is more than 4096.
     #[error("an argument of {0} bytes is longer than 4096")]
     TooLong(u64),
     /// Memory ran out.

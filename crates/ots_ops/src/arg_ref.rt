@@ -1,11 +1,11 @@
 //! The argument of an append or a prepend, where it stands.
 ghost use Rattle.std.specs.Prelude.{◌≡◌, ◌≤◌, length, Ok, Err, IfOk, IfErr};
 ghost use Rattle.ots_base.specs.declared.limits.TheConstants.{MAX_ARGUMENT};
-ghost use Rattle.ots_ops.specs.Arg.{AreBytes, IsArg};
+ghost use Rattle.ots_ops.specs.Arg.{IsArg};
 ghost use Rattle.ots_ops.specs.NewArg.{new_arg};
 
 use crate::arg::{Arg, ArgError};
-use ots_base::{MAX_ARGUMENT, OutOfMemory};
+use ots_base::{MAX_ARGUMENT, OutOfMemory, are_bytes};
 use std::alloc::Global;
 
 /// An argument whose bytes stand elsewhere, as in those that it was read from: 1 to `MAX_ARGUMENT`
@@ -61,8 +61,3 @@ impl<'a> ArgRef<'a> {
         Ok(Arg::kept(bytes))
     }
 }
-
-/// The numbers in a slice of bytes are below 256.
-fn are_bytes(bytes: &[u8])
-    ensures { AreBytes bytes.now }
-{}

@@ -1,6 +1,7 @@
 -- Printing a text, with which a run ends.
-use Rattle.std.specs.Prelude.{◌≡◌, ◌≤◌, ◌⊎◌, ℕ, List, Option}
+use Rattle.std.specs.Prelude.{◌≡◌, ◌≤◌, ◌⊎◌, ℕ, List, Option, Result, MatchResult}
 use Rattle.ots_outside.specs.Streams.{Takes, TakesPrefix}
+use Rattle.ots_outside.specs.declared.failed.Failed.{Failed}
 
 -- A text is the last thing that is printed: the sink takes it whole and the run ends with this status; or the sink
 -- fails, has taken a prefix of it, and that is a write fault.
@@ -12,3 +13,8 @@ PrintsLastOr write_fault printing status text taken now r =
 pub record SinkStays {K : Type 0} (faults : K → ℕ) (keeps : K → K → Type 0) (old new : K) : Type 0 where
   pub later : faults old ≤ faults new
   pub same : keeps old new
+
+-- A text was printed: the sink has taken it whole; or the sink failed, and has taken a prefix of it.
+abbrev pub Prints : (List ℕ → Type 0) → Type 0 → Option (List ℕ) → Option (List ℕ) → Result (Unit {0}) Failed → Type 0
+Prints IsText printing taken now r = (text : List ℕ) × IsText text
+    × MatchResult r (λ _. Takes taken now text) (λ _. printing × TakesPrefix taken now text)

@@ -22,7 +22,7 @@ pub(crate) fn no_pairs(alloc: Global) -> Listing
     }
 }
 
-/// Adds a pair of this URI and the message with this number, with so many operations before it. Where
+/// Adds a pair of this URI and the message with this number, with `depth` operations before it. Where
 /// it is there, it is as deep as the deeper one.
 pub(crate) fn add(
     alloc: Global,

@@ -99,7 +99,7 @@ impl<'a, K: Sink> Printer<'a, K> {
         Ok(())
     }
 
-    /// Leaves room for so many bytes; or none is held, where they are more than there is room for.
+    /// Leaves room for `count` bytes; or none is held, where they are more than there is room for.
     fn make_room(&mut self, count: usize)
         ensures puts { Puts K.taken K.faults K.same [] self.old self.new }
         ensures room { count ≤ ROOM → length self.new.held + count ≤ ROOM }

@@ -34,7 +34,7 @@ FindsWhole bytes (Ok (Some (x, used))) = IsTokenAt bytes (token_of x) used
 FindsWhole bytes (Ok None) = IsCut bytes
 FindsWhole bytes (Err r) = IsSettled bytes r
 
--- The token ends within the piece, of which it takes so many bytes, and it began with the old ones.
+-- The token ends within the piece, of which it takes `used` bytes, and it began with the old ones.
 pub record IsJoinedAt (old piece : List ℕ) (x : Token) (used : ℕ) : Type 0 where
   pub token : IsTokenAt (old ++ piece) x (length old + used)
   pub some : 1 ≤ used

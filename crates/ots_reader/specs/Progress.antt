@@ -23,7 +23,7 @@ pub record Reader : Type 0 where
   pub shape : Shape
   pub progress : Progress
 
--- One more piece of so many bytes may come: the tree isn't whole, and all bytes are fewer than 2^64.
+-- A piece of `more` bytes may come: the tree isn't whole, and all bytes are fewer than 2^64.
 abbrev pub MayBeFed : Progress → ℕ → Type 0
 MayBeFed (reading fed) more = length fed + more < 2 ^ 64
 MayBeFed (whole tree) more = ⊥

@@ -78,7 +78,7 @@ abbrev pub is_none : List Shape → Bool
 is_none [] = true
 is_none (p ∷ ps) = false
 
--- The answer is this token, of which so many bytes are the piece's, and whether it is the tree's last one.
+-- The answer is this token, of which `used` bytes are the piece's, and whether it is the tree's last one.
 abbrev pub IsNext : Token → ℕ → Bool → Result (Option Next) Fault → Type 0
 IsNext x used last (Ok (Some next)) = (token_of next.token ≡ x) × (next.used ≡ used) × (next.last ≡ last)
 IsNext x used last (Ok None) = ⊥

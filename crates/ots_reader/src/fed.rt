@@ -5,6 +5,6 @@
 pub enum Fed {
     /// The tree goes on after the piece.
     More,
-    /// The tree is whole, and so many bytes of the piece belong to it.
+    /// The tree is whole. The number is how many bytes of the piece belong to it.
     Done(usize),
 }

@@ -45,8 +45,8 @@ impl Model for TokenReader {
 }
 
 impl TokenReader {
-    /// No byte yet of the tree that stands below a message of so many bytes, 1 to 4096, and so many
-    /// operations, at most 255.
+    /// No byte yet of the tree that stands below a message of `shape.length` bytes, 1 to 4096, and
+    /// `shape.depth` operations, at most 255.
     pub fn begin(alloc: Global, shape: Shape) -> Result<TokenReader, OutOfMemory>
         requires least { 1 ≤ shape.length }
         requires greatest { shape.length ≤ MAX_MESSAGE }

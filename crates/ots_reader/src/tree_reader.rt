@@ -15,11 +15,11 @@ use ots_tree::{Shape, Tree, TreeBuilder};
 use std::alloc::Global;
 use std::marker::Model;
 
-/// For the tokens of a piece of so many bytes or more, room is made before they are read. The replies of
+/// For the tokens of a piece of at least this length, room is made before they are read. The replies of
 /// calendars, of which many trees may be held at a time, are shorter.
 const LONG_PIECE: usize = 65_536;
 
-/// That room is for tokens of so many bytes. In most proofs they are longer: a hash takes one byte, and
+/// That room is for tokens of this length. In most proofs they are longer: a hash takes one byte, and
 /// what is hashed with it, or attests it, many.
 const BYTES_OF_A_TOKEN: usize = 4;
 
@@ -64,8 +64,8 @@ impl Model for TreeReader {
 }
 
 impl TreeReader {
-    /// No byte yet of the tree that stands below a message of so many bytes, 1 to 4096, and so many
-    /// operations, at most 255. The room for one token and for all open nodes is taken.
+    /// No byte yet of the tree that stands below a message of `shape.length` bytes, 1 to 4096, and
+    /// `shape.depth` operations, at most 255. The room for one token and for all open nodes is taken.
     pub fn begin(alloc: Global, shape: Shape) -> Result<TreeReader, OutOfMemory>
         requires least { 1 ≤ shape.length }
         requires greatest { shape.length ≤ MAX_MESSAGE }

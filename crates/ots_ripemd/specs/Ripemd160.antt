@@ -111,7 +111,7 @@ compressed h x = joined h (after x left h) (after x right h)
 
 -- ---- a message
 
--- the first pieces of so many elements each: their size, then their count
+-- the first `count` pieces of `size` elements each
 unfoldable pub pieces : ℕ → ℕ → List ℕ → List (List ℕ)
 pieces size zero xs = []
 pieces size (suc count) xs = take size xs ∷ pieces size count (drop size xs)

@@ -16,7 +16,7 @@ use std::alloc::Global;
 /// The time of Bitcoin's first block, in seconds since 1970.
 const FIRST_TIME: u32 = 0x495f_ab29;
 
-/// The table by which the proof with so many paths and this digest is verified: one header, at half
+/// The table by which the proof with `paths` paths and this digest is verified: one header, at half
 /// the number of paths, whose Merkle root is what the path of that number makes of the digest.
 pub fn headers_of(alloc: Global, paths: u32, digest: &Digest) -> Result<Headers, OutOfMemory>
     requires digest { digest.now ≡ digest_of paths }

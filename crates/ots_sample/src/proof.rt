@@ -14,7 +14,7 @@ use ots_ops::{Digest, HashOp, Hasher};
 use ots_tree::{Detached, from_tokens, limits_of_detached};
 use std::alloc::Global;
 
-/// The proof with so many paths in canonical form. On the way it is written to memory and read back.
+/// The proof with `paths` paths in canonical form. On the way it is written to memory and read back.
 pub fn sample_proof(alloc: Global, paths: u32) -> Result<Detached, OutOfMemory>
     requires some { 1 ≤ paths }
     requires at_most { paths ≤ MAX_SAMPLE }
@@ -25,7 +25,7 @@ pub fn sample_proof(alloc: Global, paths: u32) -> Result<Detached, OutOfMemory>
     canonical(alloc, &read)
 }
 
-/// The proof with so many paths, from the last number to 0.
+/// The proof with `paths` paths, from the last number to 0.
 fn made_proof(alloc: Global, paths: u32) -> Result<Detached, OutOfMemory>
     requires some { 1 ≤ paths }
     ensures { IfOk result (IsMadeOf paths) }

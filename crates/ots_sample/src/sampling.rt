@@ -11,11 +11,11 @@ use ots_verdicts::verdict;
 use sha2::{Digest, Sha256};
 use std::alloc::Global;
 
-/// The most paths of a sample. The limit is this project's: the canonical file of so many has
+/// The most paths of a sample. The limit is this project's: the canonical file of as many has
 /// 2,083,552 bytes, about half of what a proof file may have.
 pub const MAX_SAMPLE: u32 = 100_000;
 
-/// A sample with so many paths, 1 to `MAX_SAMPLE`.
+/// A sample with this number of paths, 1 to `MAX_SAMPLE`.
 ///
 /// The digest is SHA-256 of the number of paths as 8 bytes, and path i, from the last to 0, appends i
 /// as 4 bytes, hashes by SHA-256 and ends in the Bitcoin block i; all bytes are in big-endian order.

@@ -9,7 +9,7 @@ use ots_ops::{Arg, ArgError, Op};
 use ots_tree::Token;
 use std::alloc::Global;
 
-/// The tokens of the tree with so many paths, from the last number to 0.
+/// The tokens of the tree with `paths` paths, from the last number to 0.
 pub fn tokens_of(alloc: Global, paths: u32) -> Result<Vec<Token>, OutOfMemory>
     ensures { IfOk result (λ tokens. tokens.items ≡ tokens_below paths) }
 {

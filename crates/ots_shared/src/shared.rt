@@ -48,7 +48,7 @@ pub struct RefusedShared<D: Disk> {
 }
 
 impl<D: Disk> Shared<D> {
-    /// Shares a book among so many callers, 1 to 65. The pass stands for all of them, and has seen
+    /// Shares a book among `callers` callers, 1 to 65. The pass stands for all of them, and has seen
     /// the book's records.
     pub fn open(
         alloc: Global,

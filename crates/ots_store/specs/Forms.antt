@@ -13,7 +13,7 @@ IsForm (Tip span) (TipRecord tip) = (span.first ≡ tip.first) × (span.count �
 IsForm (Anchor span) (AnchorRecord anchor) = (span.first ≡ anchor.first) × (span.count ≡ anchor.count)
 IsForm form r = ⊥
 
--- the bytes are so many steps
+-- the bytes are `count` steps
 pub record AreSteps (count : ℕ) (bytes : List ℕ) : Type 0 where
   pub whole : bytes ≡ flat_map step_bytes (steps_at count bytes)
   pub many : length (steps_at count bytes) ≡ count

@@ -39,7 +39,7 @@ tip_end tip = tip.first + tip.count
 abbrev pub anchor_end : Anchor → ℕ
 anchor_end anchor = anchor.first + anchor.count
 
--- The greatest end of the anchors, 0 where there is none: so many commitments are covered.
+-- The greatest end of the anchors, 0 where there is none: how many commitments are covered.
 abbrev pub covered_by : List Anchor → ℕ
 covered_by [] = 0
 covered_by (anchor ∷ anchors) = max (anchor_end anchor) (covered_by anchors)

@@ -29,7 +29,7 @@ pub record Are (n : ℕ) (places : List ℕ) : Type 0 where
   pub within : IsWithin n places
   pub each : (p : ℕ) → p < n → (j : ℕ) × (j < length places) × (slice_index places j ≡ p)
 
--- The places of the first so many of these commitments, in order.
+-- The places of the first n of these commitments, in order.
 pub record Indexes (n : ℕ) (places : List ℕ) (all : List (List ℕ)) : Type 0 where
   pub are : Are n places
   pub rises : Rises places all

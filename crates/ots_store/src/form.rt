@@ -102,7 +102,7 @@ pub fn split_part(bytes: &[u8]) -> Option<(&[u8], &[u8])>
     Some((&rest[..size], &rest[size..]))
 }
 
-/// Whether the bytes are so many steps.
+/// Whether the bytes are `count` steps.
 fn are_steps(bytes: &[u8], count: usize) -> bool
     ensures yes { result ≡ true → AreSteps count bytes.now }
     ensures no { result ≡ false → (branch : List (Side × List ℕ)) → length branch ≡ count

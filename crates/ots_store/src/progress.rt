@@ -18,9 +18,9 @@ use ots_journal::Entry;
 pub struct Progress {
     pub commits: u64,
     pub covered: u64,
-    /// Of the tips in the list so many end by what is covered, and so do those among so many
-    /// entries of the group.
+    /// How many of the tips in the list end by what is covered.
     pub tips: usize,
+    /// The tips among the first `group` entries of the group end by it too.
     pub group: usize,
 }
 

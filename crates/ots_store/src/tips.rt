@@ -9,7 +9,7 @@ use crate::Tip;
 use crate::form::{Form, Span, form_of};
 use ots_journal::Entry;
 
-/// Whether so many commitments from one index on end after an index.
+/// Whether `count` commitments from index `first` on end after index `covered`.
 pub fn reaches_past(first: u64, count: u64, covered: u64) -> bool
     ensures yes { result ≡ true → covered < first + count }
     ensures no { result ≡ false → first + count ≤ covered }

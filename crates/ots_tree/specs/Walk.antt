@@ -63,7 +63,7 @@ pub record Position (S : Type 0) : Type 0 where
   pub others : List S
   -- the last token is a fork
   pub forked : Bool
-  -- so many others are kept before more memory is taken
+  -- how many others are kept before more memory is taken
   pub room : ℕ
 
 abbrev pub open_at : {S : Type 0} → Position S → Open S

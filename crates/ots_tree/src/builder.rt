@@ -52,7 +52,7 @@ impl TreeBuilder {
         *self.tokens.allocator()
     }
 
-    /// Makes room for so many more tokens at once. Without memory for that they need not be there: each
+    /// Makes room for `additional` more tokens at once. Without memory for that they need not be there: each
     /// of them still takes its own.
     pub fn reserve(&mut self, additional: usize) -> Result<(), OutOfMemory>
         ensures { self.new ≡ self.old }

@@ -27,7 +27,7 @@ pub use laws::{
 pub use length::spelled_length;
 pub use listing::listed;
 pub use making::{single, under};
-pub use path_messages::PathMessages;
+pub use path_messages::{PathMessages, result_of};
 pub use pending::{PendingAt, pending_messages};
 pub use shape::Shape;
 pub use sound::is_sound;

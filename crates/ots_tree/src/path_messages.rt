@@ -1,6 +1,8 @@
 //! The messages of the nodes on the path of a walk.
 ghost use Rattle.std.specs.Prelude.{◌≡◌, ◌^◌, ◌<◌, ◌∷◌, [], None, Some, IfOk, OnOk, MatchOption, length};
 ghost use Rattle.std.specs.List.{slice_get};
+ghost use Rattle.std.specs.Option.{option_and_then, option_copied};
+ghost use Rattle.ots_ops.specs.Apply.{apply};
 ghost use Rattle.ots_tree.specs.PendingWalk.{followed, result_at};
 
 use crate::token::Token;
@@ -81,7 +83,19 @@ fn result_at(
 ) -> Result<Option<Message>, OutOfMemory>
     ensures { IfOk result (λ next. next ≡ result_at op.now depth messages.now) }
 {
-    let Some(message) = messages.get(depth) else {
+    result_of(alloc, op, messages.get(depth))
+}
+
+/// The result of an operation on a message, in memory of `alloc`: none where there is no message, or
+/// the operation has no result on it.
+pub fn result_of(
+    alloc: Global,
+    op: &Op,
+    message: Option<&Message>,
+) -> Result<Option<Message>, OutOfMemory>
+    ensures { IfOk result (λ next. next ≡ option_and_then (apply op.now) (option_copied message.entry)) }
+{
+    let Some(message) = message else {
         return Ok(None);
     };
     match apply(alloc, op, message.bytes()) {

@@ -29,7 +29,7 @@ const GATHERED: usize = 32_768;
 ///
 /// `WriteFault` comes only where the sink's count of faults rose, and the sink has then taken a
 /// prefix of the spelling. It takes no memory, and hands the sink at least 24,566 bytes at once, as
-/// long as so many are left.
+/// long as as many are left.
 pub fn spell_to<K: Sink>(tree: &Tree, sink: &mut K) -> Result<(), WriteFault>
     ensures whole { OnOk result (Takes (K.taken sink.old) (K.taken sink.new) (spelled tree.now)) }
     ensures prefix { TakesPrefix (K.taken sink.old) (K.taken sink.new) (spelled tree.now) }

@@ -47,7 +47,7 @@ impl<T: Drop> Walk<T> {
         }
     }
 
-    /// The same, with room for so many other nodes, in memory of `alloc`.
+    /// The same, with room for `count` other nodes, in memory of `alloc`.
     pub fn begin_with_room(alloc: Global, first: T, count: usize) -> Result<Walk<T>, OutOfMemory>
         ensures begun { IfOk result (λ walk. open_at walk ≡ begun first) }
         ensures room { IfOk result (λ walk. walk.room ≡ count) }

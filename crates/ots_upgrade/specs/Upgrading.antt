@@ -23,7 +23,7 @@ use Rattle.ots_upgrade.specs.declared.upgrading.Upgraded.{Upgraded}
 abbrev pub address_of : List AddressParts → List ℕ → Option AddressParts
 address_of calendars uri = find (λ a. bytes_eq a.text uri) calendars
 
--- A calendar is asked for the timestamp of a message. Its answer is to stand below the message, and so many operations.
+-- A calendar is asked for the timestamp of a message. Its answer is to stand below the message, and `depth` operations.
 abbrev pub to_get : List ℕ → ℕ → AddressParts → Question
 to_get message depth address = record { address = address; asked = Get message; length = length message; depth = depth }
 

@@ -12,6 +12,6 @@ in_bytes (suc k) n = if nat_lt n 128 then n ∷ [] else (128 + n % 128) ∷ in_b
 unfoldable pub varuint : ℕ → List ℕ
 varuint n = in_bytes 9 n
 
--- a length and then so many bytes
+-- a length and then as many bytes
 unfoldable pub varbytes : List ℕ → List ℕ
 varbytes x = varuint (length x) ++ x

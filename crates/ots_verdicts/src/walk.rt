@@ -3,15 +3,15 @@ ghost use Rattle.std.specs.Prelude.{◌≡◌, IfOk};
 ghost use Rattle.std.specs.Option.{option_copied};
 ghost use Rattle.ots_tree.specs.Wire.{IsPre};
 ghost use Rattle.ots_tree.specs.Walk.{IsStep};
-ghost use Rattle.ots_verdicts.specs.Walked.{message_after, messages_by, messages, noted, noted_end, walked, nothing};
+ghost use Rattle.ots_verdicts.specs.Walked.{messages_by, messages, noted, noted_end, walked, nothing};
 
 use crate::best::Best;
 use crate::verdicts::Chain;
 use ots_attest::Attestation;
 use ots_base::OutOfMemory;
 use ots_headers::Headers;
-use ots_ops::{Digest, Message, Op, OpError, apply};
-use ots_tree::{Token, Walk};
+use ots_ops::{Digest, Message};
+use ots_tree::{Token, Walk, result_of};
 use std::alloc::Global;
 
 /// The least heights that are confirmed by the paths of a tree, whose tokens these are, from the
@@ -88,7 +88,7 @@ fn follow(
             walk.keep(copy)?;
         }
         Token::Op(op) => {
-            let next = result_of(alloc, op, walk.carried())?;
+            let next = result_of(alloc, op, walk.carried().as_ref())?;
             walk.lead(next);
         }
         Token::Attestation(_) => return Ok(walk.close()),
@@ -103,23 +103,5 @@ fn copy_of(message: &Option<Message>) -> Result<Option<Message>, OutOfMemory>
     match message {
         Some(message) => Ok(Some(message.copy()?)),
         None => Ok(None),
-    }
-}
-
-/// The result of an operation, where there is one.
-fn result_of(
-    alloc: Global,
-    op: &Op,
-    message: &Option<Message>,
-) -> Result<Option<Message>, OutOfMemory>
-    ensures { IfOk result (λ next. next ≡ message_after op.now message.now) }
-{
-    let Some(message) = message else {
-        return Ok(None);
-    };
-    match apply(alloc, op, message.bytes()) {
-        Ok(next) => Ok(Some(next)),
-        Err(OpError::OutOfMemory) => Err(OutOfMemory),
-        Err(_) => Ok(None),
     }
 }

@@ -51,7 +51,7 @@ fn found_after(stage: Stage, following: &Following) -> Result<Checked, CheckErro
     }
 }
 
-/// What is wrong with a header of which so many bytes have come.
+/// What is wrong with a header of which `count` bytes have come.
 fn fault_of_header(header: &[u8; MAX_HEADER], count: usize) -> Fault
     requires { IsSome (header_fault (take (min count MAX_HEADER) header.now)) }
     ensures { header_fault (take (min count MAX_HEADER) header.now) ≡ Some result }

@@ -21,7 +21,7 @@ pub(crate) fn part(rows: &mut Vec<Row>, row: usize, shared: bool)
     }
 }
 
-/// Puts the result of an operation in the place of the message of so many bytes at the start of a row,
+/// Puts the result of an operation in the place of the message of `count` bytes at the start of a row,
 /// and answers how long it is.
 pub(crate) fn put_result(rows: &mut Vec<Row>, row: usize, count: usize, op: OpRef<'_>) -> usize
     requires within { row < length rows.old.items }
@@ -35,7 +35,7 @@ pub(crate) fn put_result(rows: &mut Vec<Row>, row: usize, count: usize, op: OpRe
     put_applied(&mut rows[row], count, op)
 }
 
-/// Puts the result of an operation in the place of the message of so many bytes at the start of the row.
+/// Puts the result of an operation in the place of the message of `count` bytes at the start of the row.
 fn put_applied(row: &mut Row, count: usize, op: OpRef<'_>) -> usize
     requires fits { count ≤ MAX_MESSAGE }
     requires has_result { IsSome (apply (op_of op) (take count row.old)) }

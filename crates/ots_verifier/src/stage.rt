@@ -22,7 +22,7 @@ pub(crate) enum Stage {
     Refused(Fault),
 }
 
-/// The stage after one more piece, before which so many bytes have come. It takes no memory.
+/// The stage after one more piece, before which `count` bytes have come. It takes no memory.
 pub(crate) fn read_after(
     stage: Stage,
     following: &mut Following,

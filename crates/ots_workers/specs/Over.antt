@@ -6,7 +6,7 @@ abbrev pub Reaches : Option ℕ → ℕ → Type 0
 Reaches None count = ⊥
 Reaches (Some most) count = most ≤ count
 
--- No link is to come, or so many were accepted as were asked for.
+-- No link is to come, or as many were accepted as were asked for.
 abbrev pub IsDone : {L : Type 0} → Option (List L) → Option ℕ → ℕ → Type 0
 IsDone coming most count = (coming ≡ Some []) ⊎ Reaches most count
 

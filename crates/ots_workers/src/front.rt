@@ -128,7 +128,7 @@ pub struct Turn<L> {
     pub nonce: OneNonce,
 }
 
-/// Whether so many links were accepted as were asked for.
+/// Whether as many links were accepted as were asked for.
 fn has_all(most: Option<u64>, count: u64) -> bool
     ensures reached { result ≡ true → Reaches most count }
     ensures below { result ≡ false → IfSome most (λ n. count < n) }

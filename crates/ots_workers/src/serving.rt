@@ -39,7 +39,7 @@ pub struct Ended<D: Disk, A: Accepter, C: Clock, N: Nonces> {
     pub book: Book<D>,
 }
 
-/// Serves connections with so many workers, 1 to 64, until no link is to come, `most` were accepted,
+/// Serves connections with `workers` workers, 1 to 64, until no link is to come, `most` were accepted,
 /// or an accept failed. Each worker has a pass of its own, and the front is locked for each accept
 /// and each giving back. Where memory runs out in a connection, serving goes on.
 pub fn serve_links<

@@ -2,7 +2,7 @@ use Rattle.std.proofs.Common.{◌≡◌, ℕ, List, [], ◌∷◌, refl, ap}
 use Rattle.ots_cli.specs.Decided.{IsTextOf}
 use Rattle.ots_cli.specs.Ending.{prints}
 use Rattle.ots_cli.specs.Stamping.{calendars_text}
-use Rattle.ots_cli.specs.Refusal.{refusal_text}
+use Rattle.ots_client_text.specs.Refusal.{refusal_text}
 use Rattle.ots_cli.proofs.Carrying.{ending_carried, file_made, made_after, refused_after, text_printed}
 use Rattle.ots_cli.proofs.carry_out.carry_out.Goals as goal
 

@@ -30,6 +30,10 @@ pub returns-in-Stamp-clause-decided : goal.returns-in-Stamp-clause-decided
 returns-in-Stamp-clause-decided g c =
     stamping_decided _ _ (λ o e h. subst (λ (z : Inputs). Decides o z e) (sym c.in-Stamp.is) h) c.stamped.result c.stamped.ensures.decided
 
+pub returns-in-Chain-clause-decided : goal.returns-in-Chain-clause-decided
+returns-in-Chain-clause-decided g c = λ e is.
+    (alone, nothing g.D.Dialer.told g.D.Dialer.faults g.N.Nonces.left g.N.Nonces.faults _ _, subst (λ (z : Inputs). Decides alone z e) (sym c.in-Chain.is) (c.checked_chain.ensures e is))
+
 pub returns-in-Sample-clause-decided : goal.returns-in-Sample-clause-decided
 returns-in-Sample-clause-decided g c =
     offline_decided _ (nothing g.D.Dialer.told g.D.Dialer.faults g.N.Nonces.left g.N.Nonces.faults _ _) _ _ (λ e h. subst (λ (z : Inputs). Decides alone z e) (sym c.in-Sample.is) h) c.sampled.result c.sampled.ensures

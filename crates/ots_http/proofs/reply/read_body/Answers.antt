@@ -1,5 +1,5 @@
 use Rattle.std.proofs.Common.{◌+◌, ℕ, List, arith}
-use Rattle.ots_http.specs.declared.limits.TheConstants.{MAX_REPLY_BODY}
+use Rattle.ots_base.specs.declared.limits.TheConstants.{MAX_REPLY_BODY}
 use Rattle.ots_http.specs.ReplyBodyRead.{IsBodyAnswer}
 use Rattle.ots_http.proofs.BufferLemmas.{body_read}
 use Rattle.ots_http.proofs.reply.read_body.Goals as goal

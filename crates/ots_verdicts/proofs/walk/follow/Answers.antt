@@ -17,4 +17,4 @@ pub returns-in_ok-next-in-Op : goal.returns-in_ok-next-in-Op
 returns-in_ok-next-in-Op c =
     let o = c.in-Op.op in
     rw c.in-Op.is (leads messages_by (token.Op o) c.args.walk.now c.lead.new.self true
-    (c.lead.ensures.led messages_by o (ap Some (sym (c.in_ok-next-in-Op.ensures ∙ ap (message_after o) c.carried-in-Op.ensures)))))
+    (c.lead.ensures.led messages_by o (ap Some (sym (c.in_ok-next-in-Op.ensures ∙ ap (message_after o) (c.as_ref.ensures.value ∙ c.carried-in-Op.ensures))))))

@@ -1,5 +1,0 @@
-use Rattle.ots_printer.proofs.Pieces.{puts_as, puts_then}
-use Rattle.ots_cli.proofs.text.put_yes.Goals as goal
-
-pub returns : goal.returns
-returns g c = puts_then (puts_then (puts_then (puts_then ((puts_as c.yes_words.ensures c.word.ensures)) c.number.ensures g.met.K.Sink.same_trans) c.word-2.ensures g.met.K.Sink.same_trans) c.number-2.ensures g.met.K.Sink.same_trans) c.word-3.ensures g.met.K.Sink.same_trans

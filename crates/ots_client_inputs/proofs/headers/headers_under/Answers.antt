@@ -1,0 +1,16 @@
+use Rattle.std.proofs.Common.{rules}
+use Rattle.ots_client_inputs.proofs.Reading.{headers_refused}
+use Rattle.ots_client_inputs.proofs.headers.headers_under.Goals as goal
+
+pub returns-in-Err : goal.returns-in-Err
+returns-in-Err g c = record {
+  answer = rw c.refused_headers.ensures (headers_refused _ _ _ _ c.in_ok-slot.ensures.not_there (rw (c.new.ensures.shelf, c.new.ensures.slot) c.in_ok-slot.ensures.ok.left) c.args.first c.in-Err.error c.in-Err.ensures.input);
+  opened = search rules;
+  kept = record {
+    names = search rules;
+    slots = search rules;
+    short = search rules;
+    later = search rules;
+    writing = search rules;
+  };
+}

@@ -1,0 +1,16 @@
+use Rattle.std.proofs.Common.{rules}
+use Rattle.ots_client_inputs.proofs.Reading.{target_refused}
+use Rattle.ots_client_inputs.proofs.target.digest_under.Goals as goal
+
+pub returns-in-Err-clause-reads : goal.returns-in-Err-clause-reads
+returns-in-Err-clause-reads g c = record {
+  answer = rw c.refused_target.ensures (target_refused _ _ _ _ c.in_ok-slot.ensures.not_there (rw (c.new.ensures.shelf, c.new.ensures.slot) c.in_ok-slot.ensures.ok.left) c.args.hash c.in-Err.error c.in-Err.ensures.input);
+  opened = search rules;
+  kept = record {
+    names = search rules;
+    slots = search rules;
+    short = search rules;
+    later = search rules;
+    writing = search rules;
+  };
+}

@@ -1,6 +1,0 @@
-use Rattle.ots_http.proofs.RequestHeadLemmas.{none_yet}
-use Rattle.ots_http.proofs.request_head.parse_new.Goals as goal
-
-pub returns-then-not-may_end-clause-partial : goal.returns-then-not-may_end-clause-partial
-returns-then-not-may_end-clause-partial c =
-    none_yet c.args.came.now c.args.before c.args.begun c.requires.none c.requires.blank (c.may_end.ensures c.if-not-may_end.true)

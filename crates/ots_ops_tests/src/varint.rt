@@ -1,2 +1,0 @@
-//! Tests of ots_varint: what its clauses can't say of themselves.
-mod tests;

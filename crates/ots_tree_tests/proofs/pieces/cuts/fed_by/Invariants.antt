@@ -1,9 +1,0 @@
-use Rattle.std.proofs.Common.{◌-◌, length}
-use Rattle.ots_tree_tests.proofs.Came.{Came}
-use Rattle.ots_tree_tests.proofs.pieces.cuts.fed_by.Given as goal
-
-abbrev pub invariant-loop-came : goal.invariant-loop-came
-invariant-loop-came l = Came l.reader.progress l.came
-
-abbrev pub decreases-loop-came : goal.decreases-loop-came
-decreases-loop-came l = length l.bytes - l.came
