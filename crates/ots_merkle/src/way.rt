@@ -24,54 +24,37 @@ pub fn path(alloc: Global, leaves: &[[u8; 32]], i: usize) -> Result<Ops, OutOfMe
     ensures leads { IfOk result (λ ops. value ops (slice_index_or leaves.now i []) ≡ Some (root leaves.now)) }
     ensures short { IfOk result (λ ops. length ops ≤ 64) }
 {
-    let mut ops = Ops::new(alloc);
-    add_path(alloc, &mut ops, leaves, i)?;
-    Ok(ops)
+    path_within(alloc, leaves, i, HEIGHT)
 }
 
-/// Adds the path of the leaf of index `i` in the calendar's tree of these leaves.
-pub(crate) fn add_path(
+/// The path in a tree of this height, which the leaves fit.
+fn path_within(
     alloc: Global,
-    ops: &mut Ops,
-    leaves: &[[u8; 32]],
-    i: usize,
-) -> Result<(), OutOfMemory>
-    requires is_leaf { i < length leaves.now }
-    requires most { length leaves.now < 2 ^ 32 }
-    ensures { OnOk result (ops.new ≡ ops.old ++ path leaves.now i) }
-{
-    add_path_within(alloc, ops, leaves, i, HEIGHT)
-}
-
-/// Adds the path in a tree of this height, which the leaves fit.
-fn add_path_within(
-    alloc: Global,
-    ops: &mut Ops,
     leaves: &[[u8; 32]],
     i: usize,
     height: u32,
-) -> Result<(), OutOfMemory>
+) -> Result<Ops, OutOfMemory>
     requires is_leaf { i < length leaves.now }
     requires fits { length leaves.now ≤ 2 ^ height }
     requires most { length leaves.now < 2 ^ 32 }
     requires height { height ≤ 32 }
-    ensures { OnOk result (ops.new ≡ ops.old ++ path_within height leaves.now i) }
+    ensures { IfOk result (λ ops. ops ≡ path_within height leaves.now i) }
 {
     if height == 0 {
-        return Ok(());
+        return Ok(Ops::new(alloc));
     }
     let half = power_of_two(height - 1);
     if leaves.len() <= half {
-        return add_path_within(alloc, ops, leaves, i, height - 1);
+        return path_within(alloc, leaves, i, height - 1);
     }
     let left = &leaves[..half];
     let right = &leaves[half..];
     if i < half {
-        add_path_within(alloc, ops, left, i, height - 1)?;
-        add_step(ops, Op::Append(argument_of(alloc, &root(right))?))
+        let ops = path_within(alloc, left, i, height - 1)?;
+        with_step(ops, Op::Append(argument_of(alloc, &root(right))?))
     } else {
-        add_path_within(alloc, ops, right, i - half, height - 1)?;
-        add_step(ops, Op::Prepend(argument_of(alloc, &root(left))?))
+        let ops = path_within(alloc, right, i - half, height - 1)?;
+        with_step(ops, Op::Prepend(argument_of(alloc, &root(left))?))
     }
 }
 
@@ -91,6 +74,14 @@ pub(crate) fn argument_of(alloc: Global, hash: &[u8; 32]) -> Result<Arg, OutOfMe
         Ok(argument) => Ok(argument),
         Err(_) => Err(OutOfMemory),
     }
+}
+
+/// These operations, and then a step to the node above: the other part's root, and SHA-256.
+fn with_step(mut ops: Ops, other: Op) -> Result<Ops, OutOfMemory>
+    ensures { IfOk result (λ longer. longer ≡ ops ++ other ∷ Op.Sha256 ∷ []) }
+{
+    add_step(&mut ops, other)?;
+    Ok(ops)
 }
 
 /// Adds a step to the node above: the other part's root, and SHA-256.
