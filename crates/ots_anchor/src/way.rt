@@ -37,7 +37,7 @@ pub fn complete_path(
     let way = path(alloc, &leaves, i)?;
     let mut ops = Ops::new(alloc);
     ops.push(Op::Sha256)?;
-    add_all(&mut ops, &way)?;
+    ops.extend(way.items())?;
     add_before(alloc, &mut ops, prefix)?;
     add_after(alloc, &mut ops, suffix)?;
     add_twice(&mut ops)?;
@@ -56,16 +56,6 @@ fn hashed(alloc: Global, commitments: &[[u8; 44]]) -> Result<Vec<[u8; 32]>, OutO
     Ok(leaves)
 }
 
-/// Adds copies of these operations.
-fn add_all(ops: &mut Ops, others: &Ops) -> Result<(), OutOfMemory>
-    ensures { OnOk result (ops.new ≡ ops.old ++ others.now) }
-{
-    for op in others.items() {
-        ops.push(op.copy()?)?;
-    }
-    Ok(())
-}
-
 /// Adds that these bytes stand before, where there are any.
 fn add_before(alloc: Global, ops: &mut Ops, bytes: &[u8]) -> Result<(), OutOfMemory>
     requires { length bytes.now ≤ MAX_MESSAGE }
@@ -74,7 +64,7 @@ fn add_before(alloc: Global, ops: &mut Ops, bytes: &[u8]) -> Result<(), OutOfMem
     if bytes.is_empty() {
         return Ok(());
     }
-    ops.push(Op::Prepend(argument_of(alloc, bytes)?))
+    ops.push(Op::Prepend(Arg::copy_of(alloc, bytes)?))
 }
 
 /// Adds that these bytes stand after, where there are any.
@@ -85,7 +75,7 @@ fn add_after(alloc: Global, ops: &mut Ops, bytes: &[u8]) -> Result<(), OutOfMemo
     if bytes.is_empty() {
         return Ok(());
     }
-    ops.push(Op::Append(argument_of(alloc, bytes)?))
+    ops.push(Op::Append(Arg::copy_of(alloc, bytes)?))
 }
 
 /// Adds SHA-256 twice.
@@ -113,22 +103,10 @@ fn add_step(alloc: Global, ops: &mut Ops, side: Side, hash: &[u8; 32]) -> Result
     ensures ops { OnOk result (ops.new ≡ ops.old ++ climb ((side, hash.now) ∷ [])) }
     ensures hash { length hash.now ≡ 32 }
 {
-    let argument = argument_of(alloc, hash)?;
+    let argument = Arg::copy_of(alloc, hash)?;
     ops.push(match side {
         Side::Left => Op::Prepend(argument),
         Side::Right => Op::Append(argument),
     })?;
     add_twice(ops)
-}
-
-/// Bytes as an argument, 1 to 4096 of them.
-fn argument_of(alloc: Global, bytes: &[u8]) -> Result<Arg, OutOfMemory>
-    requires some { 1 ≤ length bytes.now }
-    requires short { length bytes.now ≤ MAX_MESSAGE }
-    ensures { IfOk result (λ argument. argument ≡ bytes.now) }
-{
-    match Arg::new(alloc, bytes) {
-        Ok(argument) => Ok(argument),
-        Err(_) => Err(OutOfMemory),
-    }
 }

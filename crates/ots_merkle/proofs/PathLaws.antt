@@ -1,5 +1,5 @@
 -- Laws of the paths in a calendar's tree.
-use Rattle.std.proofs.Common.{◌≡◌, ℕ, zero, suc, ◌+◌, ◌-◌, ◌*◌, ◌^◌, ◌<◌, ◌≤◌, List, [], ◌∷◌, ◌++◌, length, take, drop, get_or, nat_lt, Bool, true, false, Option, Some, None, refl, sym, ap, ◌∙◌, subst, arith, length-append, length-drop, length-take-le}
+use Rattle.std.proofs.Common.{◌≡◌, ℕ, zero, suc, ◌+◌, ◌-◌, ◌*◌, ◌^◌, ◌<◌, ◌≤◌, List, [], ◌∷◌, ◌++◌, length, take, drop, get_or, nat_lt, Bool, true, false, Option, Some, None, refl, sym, ap, ◌∙◌, subst, arith, append_assoc, length-append, length-drop, length-take-le}
 use Rattle.std.specs.Prelude.{option_and_then}
 use Rattle.std.proofs.lemmas.Bool.{lt-ltb, le-ltb, le-leb, lt-leb, ltb-true, ltb-false}
 use Rattle.std.proofs.lemmas.List.{take_at, take_rest, drop_at, get_or-take, get_or-drop}
@@ -241,7 +241,7 @@ path_at_zero n leaves i e = rw e refl
 pub skipped : (n m : ℕ) (leaves : List (List ℕ)) (i : ℕ) → n ≡ suc m → length leaves ≤ 2 ^ m → path_within m leaves i ≡ path_within n leaves i
 skipped n m leaves i e fits = rw e (sym (path_lower m leaves i fits))
 
-pub left_made : (n m : ℕ) (leaves left right : List (List ℕ)) (i : ℕ) (ops longer : List Op) (other : List ℕ)
+left_made : (n m : ℕ) (leaves left right : List (List ℕ)) (i : ℕ) (ops longer : List Op) (other : List ℕ)
     → n ≡ suc m → length leaves ≤ 2 ^ n → 2 ^ m < length leaves → i < 2 ^ m → left ≡ take (2 ^ m) leaves → right ≡ drop (2 ^ m) leaves
     → ops ≡ path_within m left i → other ≡ root right → longer ≡ ops ++ Append other ∷ Sha256 ∷ [] → longer ≡ path_within n leaves i
 left_made n m leaves left right i ops longer other e fits more here l r p o made =
@@ -251,7 +251,7 @@ left_made n m leaves left right i ops longer other e fits more here l r p o made
     let o′ : other ≡ root_within m (drop (2 ^ m) leaves) = o ∙ ap root r ∙ sym (root_at_height m (drop (2 ^ m) leaves) few) in
     rw e (made ∙ (λ j. p′ j ++ Append (o′ j) ∷ Sha256 ∷ []) ∙ sym (path_left m leaves i more here))
 
-pub right_made : (n m : ℕ) (leaves left right : List (List ℕ)) (i j : ℕ) (ops longer : List Op) (other : List ℕ)
+right_made : (n m : ℕ) (leaves left right : List (List ℕ)) (i j : ℕ) (ops longer : List Op) (other : List ℕ)
     → n ≡ suc m → 2 ^ m < length leaves → 2 ^ m ≤ i → j ≡ i - 2 ^ m → left ≡ take (2 ^ m) leaves → right ≡ drop (2 ^ m) leaves
     → ops ≡ path_within m right j → other ≡ root left → longer ≡ ops ++ Prepend other ∷ Sha256 ∷ [] → longer ≡ path_within n leaves i
 right_made n m leaves left right i j ops longer other e more there k l r p o made =
@@ -259,6 +259,23 @@ right_made n m leaves left right i j ops longer other e more there k l r p o mad
     let p′ : ops ≡ path_within m (drop (2 ^ m) leaves) (i - 2 ^ m) = p ∙ (λ s. path_within m (r s) (k s)) in
     let o′ : other ≡ root_within m (take (2 ^ m) leaves) = o ∙ ap root l ∙ sym (root_at_height m (take (2 ^ m) leaves) full) in
     rw e (made ∙ (λ s. p′ s ++ Prepend (o′ s) ∷ Sha256 ∷ []) ∙ sym (path_right m leaves i more there))
+
+-- the same after other operations
+pub left_added : (n m : ℕ) (leaves left right : List (List ℕ)) (i : ℕ) (old ops longer : List Op) (other : List ℕ)
+    → n ≡ suc m → length leaves ≤ 2 ^ n → 2 ^ m < length leaves → i < 2 ^ m → left ≡ take (2 ^ m) leaves → right ≡ drop (2 ^ m) leaves
+    → ops ≡ old ++ path_within m left i → other ≡ root right → longer ≡ ops ++ Append other ∷ Sha256 ∷ [] → longer ≡ old ++ path_within n leaves i
+left_added n m leaves left right i old ops longer other e fits more here l r p o made =
+    let steps : List Op = Append other ∷ Sha256 ∷ [] in
+    made ∙ ap (λ x. x ++ steps) p ∙ append_assoc old (path_within m left i) steps
+    ∙ ap (λ x. old ++ x) (left_made n m leaves left right i (path_within m left i) (path_within m left i ++ steps) other e fits more here l r refl o refl)
+
+pub right_added : (n m : ℕ) (leaves left right : List (List ℕ)) (i j : ℕ) (old ops longer : List Op) (other : List ℕ)
+    → n ≡ suc m → 2 ^ m < length leaves → 2 ^ m ≤ i → j ≡ i - 2 ^ m → left ≡ take (2 ^ m) leaves → right ≡ drop (2 ^ m) leaves
+    → ops ≡ old ++ path_within m right j → other ≡ root left → longer ≡ ops ++ Prepend other ∷ Sha256 ∷ [] → longer ≡ old ++ path_within n leaves i
+right_added n m leaves left right i j old ops longer other e more there k l r p o made =
+    let steps : List Op = Prepend other ∷ Sha256 ∷ [] in
+    made ∙ ap (λ x. x ++ steps) p ∙ append_assoc old (path_within m right j) steps
+    ∙ ap (λ x. old ++ x) (right_made n m leaves left right i j (path_within m right j) (path_within m right j ++ steps) other e more there k l r refl o refl)
 
 pub right_fits : (n m : ℕ) (leaves : List (List ℕ)) (half : ℕ) → n ≡ suc m → half ≡ 2 ^ m → length leaves ≤ 2 ^ n
     → length (take (length leaves - half) (drop half leaves)) ≤ 2 ^ m

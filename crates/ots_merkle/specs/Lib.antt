@@ -1,5 +1,7 @@
 pub mod Hashes
 pub mod CalendarTree
+pub mod Runs
+pub mod TreeParts
 pub mod BlockTree
 pub mod Row
 pub mod Extended

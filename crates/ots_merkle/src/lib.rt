@@ -4,6 +4,7 @@
 mod block;
 mod branch;
 mod calendar;
+mod growing;
 mod hashes;
 mod laws;
 mod peaks;
@@ -15,6 +16,7 @@ mod ways;
 pub use block::{block_branch, block_root};
 pub use branch::{Branch, Side};
 pub use calendar::root;
+pub use growing::{GrowingTree, RUN};
 pub use laws::{
     block_tree, branch_leads_to_root, calendar_tree, path_is_short, path_leads_to_root,
 };

@@ -24,37 +24,54 @@ pub fn path(alloc: Global, leaves: &[[u8; 32]], i: usize) -> Result<Ops, OutOfMe
     ensures leads { IfOk result (λ ops. value ops (slice_index_or leaves.now i []) ≡ Some (root leaves.now)) }
     ensures short { IfOk result (λ ops. length ops ≤ 64) }
 {
-    path_within(alloc, leaves, i, HEIGHT)
+    let mut ops = Ops::new(alloc);
+    add_path(alloc, &mut ops, leaves, i)?;
+    Ok(ops)
 }
 
-/// The path in a tree of this height, which the leaves fit.
-fn path_within(
+/// Adds the path of the leaf of index `i` in the calendar's tree of these leaves.
+pub(crate) fn add_path(
     alloc: Global,
+    ops: &mut Ops,
+    leaves: &[[u8; 32]],
+    i: usize,
+) -> Result<(), OutOfMemory>
+    requires is_leaf { i < length leaves.now }
+    requires most { length leaves.now < 2 ^ 32 }
+    ensures { OnOk result (ops.new ≡ ops.old ++ path leaves.now i) }
+{
+    add_path_within(alloc, ops, leaves, i, HEIGHT)
+}
+
+/// Adds the path in a tree of this height, which the leaves fit.
+fn add_path_within(
+    alloc: Global,
+    ops: &mut Ops,
     leaves: &[[u8; 32]],
     i: usize,
     height: u32,
-) -> Result<Ops, OutOfMemory>
+) -> Result<(), OutOfMemory>
     requires is_leaf { i < length leaves.now }
     requires fits { length leaves.now ≤ 2 ^ height }
     requires most { length leaves.now < 2 ^ 32 }
     requires height { height ≤ 32 }
-    ensures { IfOk result (λ ops. ops ≡ path_within height leaves.now i) }
+    ensures { OnOk result (ops.new ≡ ops.old ++ path_within height leaves.now i) }
 {
     if height == 0 {
-        return Ok(Ops::new(alloc));
+        return Ok(());
     }
     let half = power_of_two(height - 1);
     if leaves.len() <= half {
-        return path_within(alloc, leaves, i, height - 1);
+        return add_path_within(alloc, ops, leaves, i, height - 1);
     }
     let left = &leaves[..half];
     let right = &leaves[half..];
     if i < half {
-        let ops = path_within(alloc, left, i, height - 1)?;
-        with_step(ops, Op::Append(argument_of(alloc, &root(right))?))
+        add_path_within(alloc, ops, left, i, height - 1)?;
+        add_step(ops, Op::Append(Arg::copy_of(alloc, &root(right))?))
     } else {
-        let ops = path_within(alloc, right, i - half, height - 1)?;
-        with_step(ops, Op::Prepend(argument_of(alloc, &root(left))?))
+        add_path_within(alloc, ops, right, i - half, height - 1)?;
+        add_step(ops, Op::Prepend(Arg::copy_of(alloc, &root(left))?))
     }
 }
 
@@ -64,24 +81,6 @@ pub(crate) fn power_of_two(exponent: u32) -> usize
     ensures { result ≡ 2 ^ exponent }
 {
     1 << exponent
-}
-
-/// A hash as an argument.
-pub(crate) fn argument_of(alloc: Global, hash: &[u8; 32]) -> Result<Arg, OutOfMemory>
-    ensures { IfOk result (λ argument. argument ≡ hash.now) }
-{
-    match Arg::new(alloc, hash) {
-        Ok(argument) => Ok(argument),
-        Err(_) => Err(OutOfMemory),
-    }
-}
-
-/// These operations, and then a step to the node above: the other part's root, and SHA-256.
-fn with_step(mut ops: Ops, other: Op) -> Result<Ops, OutOfMemory>
-    ensures { IfOk result (λ longer. longer ≡ ops ++ other ∷ Op.Sha256 ∷ []) }
-{
-    add_step(&mut ops, other)?;
-    Ok(ops)
 }
 
 /// Adds a step to the node above: the other part's root, and SHA-256.

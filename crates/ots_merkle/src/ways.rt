@@ -6,9 +6,9 @@ ghost use Rattle.ots_merkle.specs.Extended.{Extended, step};
 
 use crate::branch::Side;
 use crate::hashes::node;
-use crate::way::{HEIGHT, add_step, argument_of, power_of_two};
+use crate::way::{HEIGHT, add_step, power_of_two};
 use ots_base::OutOfMemory;
-use ots_ops::{Op, Ops};
+use ots_ops::{Arg, Op, Ops};
 use std::alloc::Global;
 
 /// The paths of all leaves, each as `path` makes it, in memory of `alloc`. There is at least one
@@ -93,7 +93,7 @@ fn extend_each(
 fn extend(alloc: Global, ops: &mut Ops, side: Side, other: &[u8; 32]) -> Result<(), OutOfMemory>
     ensures { OnOk result (ops.new ≡ ops.old ++ step side other.now) }
 {
-    let argument = argument_of(alloc, other)?;
+    let argument = Arg::copy_of(alloc, other)?;
     match side {
         Side::Left => add_step(ops, Op::Prepend(argument)),
         Side::Right => add_step(ops, Op::Append(argument)),

@@ -58,6 +58,16 @@ impl Arg {
         }
     }
 
+    /// The argument of 1 to 4096 bytes, in memory of `alloc`, which it keeps.
+    pub fn copy_of(alloc: Global, bytes: &[u8]) -> Result<Arg, OutOfMemory>
+        requires least { 1 ≤ length bytes.now }
+        requires greatest { length bytes.now ≤ MAX_ARGUMENT }
+        ensures { IfOk result (λ argument. argument ≡ bytes.now) }
+    {
+        let bytes = Vec::from_slice(alloc, bytes)?;
+        Ok(Arg { bytes })
+    }
+
     /// The argument that keeps these bytes, 1 to 4096 of them.
     pub(crate) fn kept(bytes: Vec<u8>) -> Arg
         requires least { 1 ≤ length bytes.items }

@@ -1,5 +1,5 @@
 //! Operations, one after another.
-ghost use Rattle.std.specs.Prelude.{◌≡◌, ◌++◌, ◌∷◌, [], IfOk, is_ok, if◌then◌else◌};
+ghost use Rattle.std.specs.Prelude.{◌≡◌, ◌++◌, ◌∷◌, [], IfOk, OnOk, is_ok, if◌then◌else◌};
 
 use crate::op::Op;
 use ots_base::OutOfMemory;
@@ -48,22 +48,24 @@ impl Ops {
         self.items.as_slice()
     }
 
+    /// Adds copies of these operations after the others, in memory of this list's allocator. Where
+    /// memory ran out, some of them may have been added.
+    pub fn extend(&mut self, ops: &[Op]) -> Result<(), OutOfMemory>
+        ensures { OnOk result (self.new ≡ self.old ++ ops.now) }
+    {
+        self.items.reserve(ops.len())?;
+        for op in ops {
+            self.push(op.copy()?)?;
+        }
+        Ok(())
+    }
+
     /// The same operations once more, in memory of this list's allocator.
     pub fn copy(&self) -> Result<Ops, OutOfMemory>
         ensures { IfOk result (λ copied. copied ≡ self.now) }
     {
-        let items = copy_all(*self.items.allocator(), &self.items)?;
-        Ok(Ops { items })
+        let mut copied = Ops::new(*self.items.allocator());
+        copied.extend(self.items())?;
+        Ok(copied)
     }
-}
-
-/// The same operations once more.
-fn copy_all(alloc: Global, ops: &[Op]) -> Result<Vec<Op>, OutOfMemory>
-    ensures { IfOk result (λ copied. copied.items ≡ ops.now) }
-{
-    let mut copied = Vec::with_capacity(alloc, ops.len())?;
-    for op in ops {
-        copied.push(op.copy()?)?;
-    }
-    Ok(copied)
 }

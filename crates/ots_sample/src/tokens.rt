@@ -1,11 +1,10 @@
 //! The tokens of a sample's tree, before it is brought to canonical form.
 ghost use Rattle.std.specs.Prelude.{◌≡◌, ◌++◌, OnOk, IfOk};
-ghost use Rattle.std.specs.Int.{w32, to_be_bytes};
 ghost use Rattle.ots_sample.specs.Tokens.{tokens_below, item_tokens};
 
 use ots_attest::Attestation;
 use ots_base::OutOfMemory;
-use ots_ops::{Arg, ArgError, Op};
+use ots_ops::{Arg, Op};
 use ots_tree::Token;
 use std::alloc::Global;
 
@@ -27,19 +26,8 @@ fn push_item(alloc: Global, number: u32, tokens: &mut Vec<Token>) -> Result<(), 
     if number > 0 {
         tokens.push(Token::Fork)?;
     }
-    tokens.push(Token::Op(Op::Append(argument_of(alloc, number)?)))?;
+    tokens.push(Token::Op(Op::Append(Arg::copy_of(alloc, &number.to_be_bytes())?)))?;
     tokens.push(Token::Op(Op::Sha256))?;
     tokens.push(Token::Attestation(Attestation::Bitcoin(u64::from(number))))?;
     Ok(())
-}
-
-/// The number as 4 big-endian bytes.
-fn argument_of(alloc: Global, number: u32) -> Result<Arg, OutOfMemory>
-    ensures { IfOk result (λ argument. argument ≡ to_be_bytes w32 number) }
-{
-    match Arg::new(alloc, &number.to_be_bytes()) {
-        Ok(argument) => Ok(argument),
-        Err(ArgError::OutOfMemory) => Err(OutOfMemory),
-        Err(ArgError::Empty | ArgError::TooLong(_)) => unreachable!(),
-    }
 }

@@ -180,7 +180,7 @@ fn longer(longest: usize, ops: &Ops) -> usize
 fn ops_to_root(alloc: Global, target: &Target, path: &Ops) -> Result<Ops, OutOfMemory>
     ensures { IfOk result (λ ops. ops ≡ Op.Append target.now.nonce ∷ Op.Sha256 ∷ path.now) }
 {
-    let nonce = argument_of(alloc, &target.nonce)?;
+    let nonce = Arg::copy_of(alloc, &target.nonce)?;
     let mut ops = Ops::new(alloc);
     ops.push(Op::Append(nonce))?;
     ops.push(Op::Sha256)?;
@@ -196,14 +196,4 @@ fn canonical_under(alloc: Global, ops: &[Op], good: &Tree) -> Result<Tree, OutOf
 {
     let tree = under(alloc, ops, good.copy()?)?;
     canon(alloc, &tree)
-}
-
-/// A nonce as an argument.
-fn argument_of(alloc: Global, nonce: &[u8; 16]) -> Result<Arg, OutOfMemory>
-    ensures { IfOk result (λ argument. argument ≡ nonce.now) }
-{
-    match Arg::new(alloc, nonce) {
-        Ok(argument) => Ok(argument),
-        Err(_) => Err(OutOfMemory),
-    }
 }

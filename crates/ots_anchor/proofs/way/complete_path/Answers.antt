@@ -11,9 +11,9 @@ use Rattle.ots_anchor.proofs.way.complete_path.Goals as goal
 pub returns-clause-path : goal.returns-clause-path
 returns-clause-path c =
     chained c.args.commitments.now c.args.i c.args.prefix.now c.args.suffix.now c.args.branch.now c.deref.result.now c.in_ok-way.way
-    c.push.new.self c.add_all.new.ops c.add_before.new.ops c.add_after.new.ops c.add_twice.new.ops c.add_branch.new.ops
+    c.push.new.self c.extend.new.self c.add_before.new.ops c.add_after.new.ops c.add_twice.new.ops c.add_branch.new.ops
     (c.deref.ensures.value ∙ c.in_ok-leaves.ensures) c.in_ok-way.ensures.path (c.in_ok-push.ensures ∙ ap (λ (z : List Op). z ++ Sha256 ∷ []) c.new-ops.ensures)
-    c.in_ok-add_all.ensures c.in_ok-add_before.ensures c.in_ok-add_after.ensures c.in_ok-add_twice.ensures c.in_ok-add_branch.ensures.ops
+    (c.in_ok-extend.ensures ∙ ap (λ (z : List Op). c.push.new.self ++ z) c.items.ensures) c.in_ok-add_before.ensures c.in_ok-add_after.ensures c.in_ok-add_twice.ensures c.in_ok-add_branch.ensures.ops
 
 up : (c : goal.After-drop-leaves-2) → value (path (hashed c.args.commitments.now) c.args.i) (get_or (hashed c.args.commitments.now) c.args.i []) ≡ Some (root (hashed c.args.commitments.now))
 up c =
