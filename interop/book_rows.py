@@ -1,5 +1,5 @@
 #!/usr/bin/python3
-"""Prints the values that the tests of the calendar's book expect.
+"""Prints the values that the tests of the calendar's book expect, and those that its rows name.
 
     interop/book_rows.py
 

@@ -454,7 +454,9 @@ class Book:
         i = self.records.commits.index(commitment)
         for anchor in self.records.anchors:
             if anchor.first <= i < anchor.first + anchor.count:
-                return self.records.steps(anchor, i), anchor.height
+                steps = self.records.steps(anchor, i)
+                assert applied(steps, commitment) == anchor.root
+                return steps, anchor.height
         return 'pending'
 
 

@@ -13,7 +13,7 @@ pub use calls::{
     is_left, is_tip, is_waiting, let_go, put, tip, withdraw,
 };
 pub use values::{
-    BLOCK, BLOCK_ROOT, COMMITMENT, COMPLETE, DIGEST, JOURNAL, LATER, LATER_BLOCK, LATER_COMPLETE,
+    BLOCK, COMMITMENT, COMPLETE, DIGEST, JOURNAL, LATER, LATER_BLOCK, LATER_COMPLETE,
     LATER_TIP_ROOT, TICKET_TREE, TIP_ROOT,
 };
-pub use ways::{Given, give, is_given, leads_to};
+pub use ways::{Given, give, is_given};

@@ -1,7 +1,7 @@
 // What a run leaves.
 use crate::stage::Stage;
-use crate::table::Table;
 use ots_io::MapShelf;
+use ots_row_words::Table;
 use std::alloc::{AllocError, Global};
 use std::io::ErrorKind;
 use std::rt::Files;

@@ -27,13 +27,10 @@
 
 mod call;
 mod left;
-mod pieces;
 mod run;
 mod said;
 mod scene;
 mod stage;
-mod table;
-mod words;
 
 use crate::scene::Scene;
 use std::io;

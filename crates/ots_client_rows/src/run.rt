@@ -2,11 +2,11 @@
 use crate::call::call;
 use crate::left::{Ended, Folder, Left, left_by};
 use crate::stage::Stage;
-use crate::table::{Row, Table};
 use ots_io::{
     BytesSink, Dialer, DialerRoom, DirShelf, ListNonces, MapShelf, Nonces, ScriptDialer, Shelf,
     ShelfRoom,
 };
+use ots_row_words::{Row, Table};
 use std::alloc::{AllocError, Global};
 use std::rt::Files;
 use std::{fs, io};

@@ -1,7 +1,7 @@
 // What is said of a run.
 use crate::left::{Ended, Left};
-use crate::table::Row;
 use hex::encode;
+use ots_row_words::Row;
 use std::alloc::{AllocError, Global};
 
 /// The longest bytes that are printed where others were wanted.

@@ -1,11 +1,11 @@
 // What a script has said so far.
 use crate::left::Left;
-use crate::pieces::bytes_of;
 use crate::run::{run_in_memory, run_on_files};
 use crate::said::{say_compared, say_left, say_line};
 use crate::stage::{Failing, Stage};
-use crate::table::Table;
-use crate::words::{malformed, number_of, numbers_of, range_of, texts_of, words_of};
+use ots_row_words::{
+    Table, bytes_of, malformed, number_of, numbers_of, range_of, texts_of, words_of,
+};
 use std::alloc::Global;
 use std::io;
 use std::rt::Files;

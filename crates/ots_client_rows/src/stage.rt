@@ -1,5 +1,5 @@
 // What a run is done on.
-use crate::table::Table;
+use ots_row_words::Table;
 use std::alloc::Global;
 
 /// Which calls fail, each by its number from 1: of the shelf, writes of the sink, calls of the dialer and

@@ -1,6 +1,7 @@
-//! What no clause of `ots_connection` says: that each reply comes with ample memory, letter for letter,
-//! and what several callers of one book do. Expected bytes are those of Python's hashlib and hmac.
-mod serving;
-mod sharing;
+//! What no clause of `ots_connection` and `ots_shared` says of several callers of one book, and of one whose journal is
+//! full. Expected bytes are those of Python's hashlib and hmac.
+mod beside;
+mod connections;
+mod crews;
 mod tests;
-mod texts;
+mod watching;

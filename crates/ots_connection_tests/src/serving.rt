@@ -1,5 +1,5 @@
-//! What no clause of `ots_workers` says: that several connections are served at once, that each gets
-//! its reply, and that no more are accepted than were asked for.
+//! What no clause of `ots_workers` says: that several connections are served at once, and that each of several workers'
+//! links gets its reply.
 mod forms;
 mod runs;
 mod tests;

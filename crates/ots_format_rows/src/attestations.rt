@@ -10,12 +10,12 @@
 use crate::names::Names;
 use crate::operations::say_spelled;
 use crate::orders::say_order;
-use crate::said::Said;
 use crate::words::{bytes_of, split_word};
 use ots_attest::{
     Attestation, AttestationRef, MAX_SPELLED_ATTESTATION, PayloadError, Uri, UriError, UriRef,
     from_payload, read_payload, spell_attestation,
 };
+use ots_row_words::Said;
 use std::alloc::Global;
 
 /// The longest payload.

@@ -13,13 +13,13 @@
 // TREE is the BYTES of a tree below 32 bytes, FILE those of a proof file.
 use crate::hashes::word_of;
 use crate::names::Names;
-use crate::said::Said;
 use crate::tokens::say_tree;
 use crate::trees::read;
 use crate::words::{bytes_of, split_bar, split_word};
 use ots_canon::{MergeError, canon, equal, is_canonical, merge, prune};
 use ots_detached::read_bytes;
 use ots_ops::HashOp;
+use ots_row_words::Said;
 use ots_tree::{Detached, Tree, spelled_length};
 use std::alloc::Global;
 

@@ -11,13 +11,13 @@ use crate::hashes::{hash_of, say_digest, word_of};
 use crate::names::Names;
 use crate::readers::say_fault;
 use crate::runs::Runs;
-use crate::said::Said;
 use crate::words::{bytes_of, counts_of, numbers_of, split_bar, split_number, split_word};
 use ots_detached::{
     FileError, HashError, file_length, hash_source, read_bytes, read_file, write_file,
 };
 use ots_io::{BytesSink, BytesSource, Sink, Source};
 use ots_ops::{Digest, HashOp};
+use ots_row_words::Said;
 use ots_tree::Detached;
 use std::alloc::Global;
 

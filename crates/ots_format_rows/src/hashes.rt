@@ -9,10 +9,10 @@
 // | `hash digest BYTES` | the digest that these bytes are |
 // | `hash same BYTES \| BYTES` | whether two digests are the same |
 use crate::names::Names;
-use crate::said::Said;
 use crate::words::{bytes_of, split_bar, split_number, split_word};
 use ots_ops::{Digest, HashOp, Hasher};
 use ots_ripemd::{Ripemd160, ripemd160};
+use ots_row_words::Said;
 
 /// The longest piece, and the longest bytes that are hashed here.
 const PIECE: usize = 1000;

@@ -29,15 +29,14 @@ mod orders;
 mod pairs;
 mod readers;
 mod runs;
-mod said;
 mod script;
 mod tokens;
 mod trees;
 mod verdicts;
 mod words;
 
-use crate::said::Said;
 use crate::script::Script;
+use ots_row_words::Said;
 use std::alloc::AllocError;
 use std::io;
 

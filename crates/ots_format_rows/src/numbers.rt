@@ -6,8 +6,8 @@
 // | `number read BYTES` | what these bytes begin with, at once and byte by byte |
 // | `number length BYTES` | what a length from 1 to 4096 comes to, byte by byte |
 use crate::names::Names;
-use crate::said::Said;
 use crate::words::{bytes_of, number_of, split_word};
+use ots_row_words::Said;
 use ots_varint::{
     LengthStep, Step, VarbytesState, VaruintRead, VaruintState, put_varuint, read_varuint,
     varuint_length,

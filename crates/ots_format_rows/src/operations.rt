@@ -15,12 +15,12 @@
 use crate::names::Names;
 use crate::ops::{op_of, ops_of, say_error, say_length, say_op, say_ops};
 use crate::orders::say_order;
-use crate::said::Said;
 use crate::words::{bytes_of, split_number, split_word};
 use ots_ops::{
     Arg, ArgError, ArgRef, MAX_SPELLED_OP, Message, Op, OpError, OpRef, Ops, apply, apply_in_place,
     result_length, spell_op,
 };
+use ots_row_words::Said;
 use std::alloc::Global;
 
 /// The longest message.

@@ -1,8 +1,8 @@
 // How a script spells operations, and a transcript says them.
 use crate::names::Names;
-use crate::said::Said;
 use crate::words::{bytes_of, split_times};
 use ots_ops::{Arg, Op, OpError};
+use ots_row_words::Said;
 
 /// The operation of a word. One whose argument is refused is none.
 pub fn op_of(names: &Names, word: &str) -> Option<Op> {

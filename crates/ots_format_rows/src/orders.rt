@@ -1,5 +1,5 @@
 // How values compare.
-use crate::said::Said;
+use ots_row_words::Said;
 use std::cmp::Ordering;
 
 /// Says how each of these values compares with each of them: for each a row of `<`, `=` and `>`, or `?` where

@@ -9,11 +9,11 @@
 use crate::attestations::say_uri;
 use crate::canons::file_of;
 use crate::names::Names;
-use crate::said::Said;
 use crate::tokens::say_tree;
 use crate::trees::read;
 use crate::words::{split_bar, split_word};
 use ots_pending::{Pairs, are_sound_for, completed, has_bitcoin, pending_pairs};
+use ots_row_words::Said;
 use ots_tree::{Detached, Tree};
 
 /// Answers a question about pairs.

@@ -22,11 +22,11 @@ use crate::attestations::say_attestation;
 use crate::names::Names;
 use crate::ops::say_op;
 use crate::runs::Runs;
-use crate::said::Said;
 use crate::tokens::push_spelled;
 use crate::trees::{BELOW_DIGEST, shape_of, spelled};
 use crate::words::{bytes_of, split_number, split_word};
 use ots_reader::{Fault, Fed, Next, ReadError, TokenReader, TreeReader, read_token, read_tree};
+use ots_row_words::Said;
 use ots_tree::{Shape, Token, TokenRef, Tree};
 use std::alloc::Global;
 

@@ -1,5 +1,5 @@
 // Answers that come one after the other, of which many are the same.
-use crate::said::Said;
+use ots_row_words::Said;
 use std::alloc::Global;
 
 /// The last answer, and how often it came.

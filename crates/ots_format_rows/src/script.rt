@@ -1,10 +1,10 @@
 // What a script has said so far.
 use crate::names::Names;
-use crate::said::Said;
 use crate::words::{bytes_of, numbered, split_number, split_word};
 use crate::{
     attestations, canons, files, hashes, numbers, operations, pairs, readers, trees, verdicts,
 };
+use ots_row_words::Said;
 use std::alloc::Global;
 
 /// The bytes that have names.

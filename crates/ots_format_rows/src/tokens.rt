@@ -1,9 +1,9 @@
 // The bytes of tokens.
 use crate::names::Names;
-use crate::said::Said;
 use crate::trees::spelled;
 use ots_attest::{MAX_SPELLED_ATTESTATION, spell_attestation};
 use ots_ops::{MAX_SPELLED_OP, spell_op};
+use ots_row_words::Said;
 use ots_tree::{Token, Tree, spelled_length};
 
 /// The longest bytes of a tree that are told token by token.

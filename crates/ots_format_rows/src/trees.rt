@@ -16,13 +16,13 @@ use crate::attestations::{kind_of, owned, say_uri};
 use crate::hashes::hash_of;
 use crate::names::Names;
 use crate::ops::ops_of;
-use crate::said::Said;
 use crate::words::{bytes_of, numbers_of, split_bar, split_number, split_word};
 use ots_attest::Attestation;
 use ots_base::OutOfMemory;
 use ots_io::{BytesSink, Sink};
 use ots_ops::{Digest, HashOp};
 use ots_reader::read_tree;
+use ots_row_words::Said;
 use ots_tree::{
     Detached, PendingAt, Shape, Token, Tree, TreeBuilder, beside, is_sound, listed,
     pending_messages, single, spell_to, spelled_length, under,

@@ -19,7 +19,6 @@ use crate::names::Names;
 use crate::ops::{ops_of, say_error};
 use crate::readers::say_fault;
 use crate::runs::Runs;
-use crate::said::Said;
 use crate::words::{bytes_of, counts_of, numbers_of, split_bar, split_number, split_word};
 use ots_eval::{
     Chain, CheckError, Checked, Confirmation, SourceError, VERIFIER_BYTES, Verdict, Verifier,
@@ -28,6 +27,7 @@ use ots_eval::{
 use ots_headers::Headers;
 use ots_io::{BytesSource, Source};
 use ots_ops::Digest;
+use ots_row_words::Said;
 use std::alloc::Global;
 
 /// The longest message.

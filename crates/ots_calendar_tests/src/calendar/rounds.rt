@@ -4,7 +4,7 @@ use crate::calendar_runs::{
     Counts, DIGEST, Memory, NONCE, SECOND, TICKET_TREE, calls_under, close, counts_of, give,
     is_busy, is_given, is_gone, is_waiting, is_written, let_go, new_book, put, withdraw,
 };
-use ots_calendar::{BadKey, Key, Ticket};
+use ots_calendar::Ticket;
 use std::alloc::Global;
 use std::process::Abort;
 use std::test::Fail;
@@ -96,12 +96,4 @@ fn a_ticket_whose_round_is_closed_may_be_withdrawn(rt: HostRuntime) -> Result<()
     let ended = withdraw_settled(&rt, rt.alloc(), &mut book);
     let_go(book);
     ended
-}
-
-#[test]
-fn a_key_has_1_to_64_bytes(rt: HostRuntime) -> Result<(), Fail> {
-    assert!(rt; matches!(Key::new(&[]), Err(BadKey(0))));
-    assert!(rt; matches!(Key::new(&[7; 65]), Err(BadKey(65))));
-    assert!(rt; Key::new(&[7]).is_ok() && Key::new(&[7; 64]).is_ok());
-    Ok(())
 }

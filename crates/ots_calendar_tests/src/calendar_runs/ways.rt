@@ -1,6 +1,6 @@
 // Where the paths of trees lead.
 use crate::calendar_runs::books::{Memory, is_written, uri};
-use ots_calendar::{Answer, Receipt, Taken, Ticket};
+use ots_calendar::{Receipt, Taken, Ticket};
 use ots_io::BytesSink;
 use ots_ops::Op;
 use ots_tree::{Token, Tree, spell_to};
@@ -39,24 +39,6 @@ pub fn is_given(
 ) -> Result<bool, Fail> {
     let (given, _) = taken(alloc, book, ticket)?;
     is_spelled(alloc, &given, tree)
-}
-
-/// Whether the way of a ticket to its commitment, and then that of the commitment to the block of its
-/// anchor, lead from the digest to this root.
-pub fn leads_to(
-    alloc: Global,
-    book: &mut Memory,
-    ticket: &Ticket,
-    root: &str,
-) -> Result<bool, Fail> {
-    let given = give(alloc, book, ticket)?;
-    match book.ask(&given.receipt.commitment)? {
-        Answer::Complete(tree) => {
-            let reached = led_to(alloc, &tree, &given.receipt.commitment)?;
-            is_written(alloc, &reached, root)
-        }
-        _ => Ok(false),
-    }
 }
 
 /// Whether a tree is spelled by these bytes, in hexadecimal.

@@ -1,15 +1,14 @@
 //! A run of a server in memory, and what is left of it.
 ghost use Rattle.std.specs.Prelude.{◌≡◌, ◌<◌, ◌≤◌, [], true, IfOk};
+ghost use Rattle.ots_workers.specs.Returned.{NoneReturned};
 
+use crate::books::{AMPLE, book_on, new_disk, service};
 use crate::serving::forms::{CountedLink, Reads, WaitingDisk, add_links};
-use ots_attest::Uri;
-use ots_calendar::{Book, Key};
+use ots_calendar::Book;
 use ots_connection::Service;
-use ots_disk::{DiskRoom, MemoryDisk};
-use ots_io::{ListAccepter, ListNonces};
-use ots_journal::Journal;
-use ots_outside::FixedClock;
-use ots_store::Store;
+use ots_disk::Disk;
+use ots_io::{Accepter, ListAccepter, ListNonces};
+use ots_outside::{Clock, FixedClock, Nonces};
 use ots_workers::{Ended, Front, ServeEnd, serve_links};
 use std::alloc::Global;
 use std::collections::VecDeque;
@@ -19,13 +18,11 @@ use std::test::Fail;
 use std::thread::Threads;
 
 /// What is served: so many links that hand in a digest, and after them so many that ask for an
-/// unknown commitment. The accepter's call of the number `failing` fails, none for 0. A sync waits for
-/// so many turns.
+/// unknown commitment. A sync waits for so many turns.
 #[derive(Clone, Copy)]
 pub struct Plan {
     pub digests: u32,
     pub queries: u32,
-    pub failing: u64,
     pub turns: u64,
 }
 
@@ -43,56 +40,106 @@ pub struct Left {
     pub met: bool,
 }
 
-const ROOM: DiskRoom = DiskRoom {
-    calls: 600,
-    write: 64,
-    file: 8000,
-};
+/// What serving left of the book and of the front.
+#[derive(Drop)]
+struct Over<D, A> {
+    ending: ServeEnd,
+    count: u64,
+    waiting: u64,
+    disk: D,
+    accepter: A,
+}
 
-/// A new journal.
-fn new_journal(
+/// Serves over any objects. What its clauses say is left here.
+fn serve_over<
+    D: Disk + Send + Drop,
+    A: Accepter + Send + Drop,
+    C: Clock + Send + Drop,
+    N: Nonces + Send + Drop,
+    R: Threads + Wait + Sync,
+>(
+    rt: &R,
     alloc: Global,
+    service: &Service,
+    front: Front<A, C, N>,
+    book: Book<D>,
+    workers: u32,
+) -> Over<D, A>
+    requires { (0 < workers) × (workers ≤ 64) }
+{
+    let Ended {
+        ending,
+        count,
+        front,
+        book,
+    } = serve_links(rt, alloc, service, front, book, workers, None);
+    let Front {
+        accepter,
+        clock: _,
+        nonces: _,
+        failed: _,
+        short: _,
+    } = front;
+    Over {
+        ending,
+        count,
+        waiting: book.waiting(),
+        disk: book.into_disk(),
+        accepter,
+    }
+}
+
+/// The same at second 1700000000, with nonces of 16 bytes 7.
+fn serve_drawing<D: Disk + Send + Drop, A: Accepter + Send + Drop, R: Threads + Wait + Sync>(
+    rt: &R,
+    alloc: Global,
+    accepter: A,
+    disk: D,
+    workers: u32,
+) -> Result<Over<D, A>, Fail>
+    requires none_returned { NoneReturned (A.returned accepter) }
+    requires workers { (0 < workers) × (workers ≤ 64) }
+{
+    let service = service(alloc)?;
+    let book = book_on(alloc, disk, AMPLE)?;
+    let clock = FixedClock {
+        second: 1_700_000_000,
+    };
+    let nonces = ListNonces::new(alloc, &[7; 320], &[])?;
+    let front = Front::new(accepter, clock, nonces);
+    Ok(serve_over(rt, alloc, &service, front, book, workers))
+}
+
+/// The same on a new disk whose syncs wait: what is left, where the links are not counted yet, and the
+/// accepter.
+fn serve_waiting<A: Accepter + Send + Drop, R: Threads + Wait + Sync>(
+    rt: &R,
+    alloc: Global,
+    accepter: A,
     reads: Reads,
     turns: u64,
-) -> Result<Journal<WaitingDisk<MemoryDisk>>, Fail>
-    ensures { IfOk result (λ j. j.is_sure ≡ true) }
+    workers: u32,
+) -> Result<(Left, A), Fail>
+    requires none_returned { NoneReturned (A.returned accepter) }
+    requires workers { (0 < workers) × (workers ≤ 64) }
 {
     let disk = WaitingDisk {
-        disk: MemoryDisk::new(alloc, &[], ROOM, &[])?,
+        disk: new_disk(alloc)?,
         reads,
         turns,
         met: false,
     };
-    match Journal::open(alloc, disk, 8000) {
-        Ok(journal) => Ok(journal),
-        Err(_) => Err(Fail::from("no journal")),
-    }
-}
-
-/// A new store.
-fn new_store(
-    alloc: Global,
-    reads: Reads,
-    turns: u64,
-) -> Result<Store<WaitingDisk<MemoryDisk>>, Fail>
-    ensures { IfOk result (λ s. s.journal.is_sure ≡ true) }
-{
-    match Store::open(alloc, new_journal(alloc, reads, turns)?) {
-        Ok(store) => Ok(store),
-        Err(_) => Err(Fail::from("no store")),
-    }
-}
-
-/// A new book.
-fn new_book(
-    alloc: Global,
-    reads: Reads,
-    turns: u64,
-) -> Result<Book<WaitingDisk<MemoryDisk>>, Fail> {
-    match Book::open(alloc, new_store(alloc, reads, turns)?) {
-        Ok(book) => Ok(book),
-        Err(_) => Err(Fail::from("no book")),
-    }
+    let over = serve_drawing(rt, alloc, accepter, disk, workers)?;
+    let left = Left {
+        ending: over.ending,
+        count: over.count,
+        coming: 0,
+        stamped: 0,
+        unknown: 0,
+        waiting: over.waiting,
+        met: over.disk.met,
+    };
+    Ok((left, over.accepter))
 }
 
 /// The links of a plan.
@@ -107,7 +154,7 @@ fn new_accepter(alloc: Global, reads: &Reads, plan: Plan) -> Result<ListAccepter
     let links = add_links(alloc, reads, &digest, plan.digests, VecDeque::new(alloc))?;
     let query = b"GET /timestamp/00 HTTP/1.1\r\n\r\n";
     let links = add_links(alloc, reads, query, plan.queries, links)?;
-    Ok(ListAccepter::new(alloc, links, &[plan.failing])?)
+    Ok(ListAccepter::new(alloc, links, &[])?)
 }
 
 /// How many links took a reply that begins so.
@@ -127,54 +174,17 @@ pub fn run<R: Threads + Wait + Sync>(
     alloc: Global,
     plan: Plan,
     workers: u32,
-    most: Option<u64>,
 ) -> Result<Left, Fail>
     requires { (0 < workers) × (workers ≤ 64) }
 {
     let reads = Arc::new(alloc, AtomicU64::new(0))?;
     let accepter = new_accepter(alloc, &reads, plan)?;
-    let nonces = ListNonces::new(alloc, &[7; 320], &[])?;
-    let service = Service {
-        key: Key::new(&[1; 32])?,
-        uri: Uri::new(alloc, "http://127.0.0.1:14788")?,
-    };
-    let book = new_book(alloc, reads, plan.turns)?;
-    let front = Front::new(
-        accepter,
-        FixedClock {
-            second: 1_700_000_000,
-        },
-        nonces,
-    );
-    let ended = serve_links(rt, alloc, &service, front, book, workers, most);
-    Ok(take_apart(ended))
-}
-
-/// What is left.
-fn take_apart(
-    ended: Ended<WaitingDisk<MemoryDisk>, ListAccepter<CountedLink>, FixedClock, ListNonces>,
-) -> Left {
-    let Ended {
-        ending,
-        count,
-        front,
-        book,
-    } = ended;
-    let Front {
-        accepter,
-        clock: _,
-        nonces: _,
-        failed: _,
-        short: _,
-    } = front;
+    let (left, accepter) = serve_waiting(rt, alloc, accepter, reads, plan.turns, workers)?;
     let returned = accepter.returned();
-    Left {
-        ending,
-        count,
+    Ok(Left {
         coming: accepter.coming(),
         stamped: count_replies(returned, b"HTTP/1.1 200 OK\r\n"),
         unknown: count_replies(returned, b"HTTP/1.1 404 Not Found\r\n"),
-        waiting: book.waiting(),
-        met: book.into_disk().met,
-    }
+        ..left
+    })
 }

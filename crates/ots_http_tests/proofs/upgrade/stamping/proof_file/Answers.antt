@@ -1,9 +1,0 @@
-use Rattle.std.proofs.Common.{subst, sym}
-use Rattle.ots_upgrade.specs.Stamped.{IsGatheredBelow}
-use Rattle.ots_http_tests.proofs.upgrade.stamping.proof_file.Goals as goal
-
--- What was gathered is sound below the root.
-pub proof-requires-clause-sound : goal.proof-requires-clause-sound
-proof-requires-clause-sound c =
-    subst (IsGatheredBelow c.args.batch.now) c.in-Some.is
-    (c.in_ok-good.ensures.below c.args.batch.now c.requires.sound)
