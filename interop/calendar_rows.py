@@ -16,8 +16,8 @@ import struct
 import sys
 
 from calendar_model import (ANCHOR, COMMIT, TIP, Anchor, Book, Calls, Failed, FileDisk, Journal, MemoryDisk, Reader,
-                            Refused, anchored_in, bad_record, bitcoin, levels, merkle_path, open_records, pending,
-                            read_version_1, sha256, spelled)
+                            Refused, anchored_in, applied, bad_record, bitcoin, levels, merkle_path, open_records,
+                            pending, read_version_1, sha256, spelled)
 
 TOP = os.path.dirname(os.path.dirname(os.path.abspath(__file__)))
 
@@ -164,15 +164,16 @@ REASONS = {200: 'OK', 400: 'Bad Request', 404: 'Not Found', 405: 'Method Not All
 
 
 def reply(status, body):
-    """A reply: in words, or with a tree."""
+    """The pieces in which a reply is written: one in words, or a head and a tree."""
     kind = 'application/octet-stream' if status == 200 else 'text/plain'
     body = body if status == 200 else body.encode() + b'\n'
     head = f'HTTP/1.1 {status} {REASONS[status]}\r\nContent-Type: {kind}\r\nContent-Length: {len(body)}\r\n'
-    return (head + 'Connection: close\r\n\r\n').encode() + body
+    head = (head + 'Connection: close\r\n\r\n').encode()
+    return [head, body] if status == 200 else [head + body]
 
 
 class Link:
-    """A connection: a read gives all that is left, and a reply is one write."""
+    """A connection: a read gives all that is left, and each piece of a reply is one write."""
 
     def __init__(self, data):
         self.data, self.failing, self.taken = data, [], b''
@@ -186,8 +187,9 @@ class Link:
             if not end:
                 calls.call()
             said = self.said(head.decode().split('\r\n'), body, calls, answer) if end else reply(400, 'bad request')
-            calls.call()
-            self.taken = said
+            for piece in said:
+                calls.call()
+                self.taken += piece
 
     @staticmethod
     def said(head, body, calls, answer):
@@ -208,6 +210,11 @@ class Link:
             if not 0 < int(length) <= len(body):
                 return reply(400, 'bad request')
             return answer.stamp(body[:int(length)])
+        if target.startswith('/records/'):
+            if method != 'GET':
+                return reply(405, 'method not allowed')
+            digits = target[len('/records/'):]
+            return answer.page(int(digits)) if is_number(digits, 0, 2 ** 63 - 1) else reply(400, 'bad request')
         if not target.startswith('/timestamp/'):
             return reply(404, 'not found')
         if method != 'GET':
@@ -237,7 +244,7 @@ class Answers:
         except Failed:
             return reply(503, 'disk')
         self.stored.append(commitment)
-        return reply(200, tree(self.nonce, [], commitment, self.uri))
+        return reply(200, tree(digest, self.nonce, [], commitment, self.uri))
 
     def ask(self, commitment):
         answer = self.book.ask(commitment)
@@ -246,10 +253,24 @@ class Answers:
         steps, height = answer
         return reply(200, spelled(steps) + bitcoin(height))
 
+    def page(self, number):
+        """The records from a number on: as many as fit whole into 10,000 bytes with that number, and at most 128."""
+        entries = self.book.journal.entries
+        if number > len(entries):
+            return reply(404, 'not found')
+        page = struct.pack('>Q', number)
+        for kind, payload in entries[number:number + 128]:
+            entry = struct.pack('>BI', kind, len(payload)) + payload
+            if len(page + entry) > 10000:
+                break
+            page += entry
+        return reply(200, page)
 
-def tree(nonce, path, commitment, uri):
+
+def tree(digest, nonce, path, commitment, uri):
     """From a digest to the commitment of its round."""
     steps = [(0xf0, nonce), (0x08, None)] + path + [(0xf1, commitment[:4]), (0xf0, commitment[36:])]
+    assert applied(steps, digest) == commitment
     return spelled(steps) + pending(uri)
 
 
@@ -363,7 +384,8 @@ class Run:
         index, commitment = self.storing(book.close, second, key, leaves)
         self.stored.append(commitment)
         rising = list(levels(leaves))
-        trees = (tree(nonce, merkle_path(rising, i), commitment, uri) for i, nonce in enumerate(nonces))
+        trees = (tree(digest, nonce, merkle_path(rising, i), commitment, uri)
+                 for i, (digest, nonce) in enumerate(zip(digests, nonces)))
         self.sink.put(''.join(f'{index} {one.hex()}\n' for one in trees).encode())
         return 0
 

@@ -19,7 +19,7 @@ const DISK_ROOM: DiskRoom = DiskRoom {
 };
 
 /// How many bytes a link takes, and a name has, at most.
-const LINK_ROOM: usize = 2000;
+const LINK_ROOM: usize = 16_384;
 
 const NAME_LENGTH: usize = 16;
 

@@ -4,7 +4,7 @@ use Rattle.std.specs.Prelude.{Option, None, Some, Result, Ok, Err}
 use Rattle.ots_base.specs.declared.out_of_memory.OutOfMemory.{OutOfMemory}
 use Rattle.ots_http.specs.RequestRead.{IsRequestAnswer}
 use Rattle.ots_http.specs.declared.request.Request.{Request}
-use Rattle.ots_http.specs.declared.request.Request.TheVariants.{Digest, Timestamp, Refused}
+use Rattle.ots_http.specs.declared.request.Request.TheVariants.{Digest, Timestamp, Records, Refused}
 use Rattle.ots_http.specs.ReplyText.{reply_bytes}
 use Rattle.ots_http.specs.RequestTable.{IsRequest}
 use Rattle.ots_http.specs.declared.request.RequestError.{RequestError}
@@ -45,6 +45,7 @@ module _ (leaf uri : List ℕ) (limit : ℕ) (seen : List Record) (due : Due) wh
 done : (uri : List ℕ) (limit : ℕ) (request : Request) (old new : SourcesTold) (seen : List Record) (rows : List Row) (due : Due) → Does uri limit request old new seen rows (Ok due) → IsDueFor request due
 done uri limit (Digest leaf) old new seen rows due does = comes_of leaf uri limit seen due does.nonce does.second rows does.comes
 done uri limit (Timestamp commitment) old new seen rows due does = (seen, does.2)
+done uri limit (Records number) old new seen rows due does = (seen, does.2)
 done uri limit (Refused status) old new seen rows due does = let is = does.2 in cc
 
 -- ---- the link

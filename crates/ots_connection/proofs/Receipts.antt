@@ -6,7 +6,7 @@ use Rattle.ots_calendar.specs.Answer.{answer}
 use Rattle.ots_calendar.specs.declared.answer.Answer.{Answer}
 use Rattle.ots_calendar.specs.declared.answer.Answer.TheVariants as told
 use Rattle.ots_http.specs.declared.request.Request.{Request}
-use Rattle.ots_http.specs.declared.request.Request.TheVariants.{Digest, Timestamp, Refused}
+use Rattle.ots_http.specs.declared.request.Request.TheVariants.{Digest, Timestamp, Records, Refused}
 use Rattle.ots_http.specs.declared.request.RequestError.{RequestError}
 use Rattle.ots_http.specs.declared.request.RequestError.TheVariants as unread
 use Rattle.ots_http.specs.declared.word.Word.{Word}
@@ -14,9 +14,10 @@ use Rattle.ots_http.specs.declared.word.Word.TheVariants.{Nonce, Clock, Busy, Di
 use Rattle.ots_round.specs.declared.ticket.Receipt.{Receipt}
 use Rattle.ots_shared.specs.Records.{StandsAt}
 use Rattle.ots_shared.specs.declared.row.Row.{Row}
+use Rattle.ots_store.specs.Page.{page_of}
 use Rattle.ots_store.specs.Records.{Record}
 use Rattle.ots_connection.specs.Connection.{Seen, Serves, Ends, EndsWith, Does, IfStamped}
-use Rattle.ots_connection.specs.Replies.{in_words, refusal, answered, stamp}
+use Rattle.ots_connection.specs.Replies.{in_words, refusal, answered, paged, stamp}
 use Rattle.ots_connection.specs.Sending.{whole, cut}
 use Rattle.ots_connection.specs.Stamping as stamping
 use Rattle.ots_connection.specs.Stamping.{SourcesTold, Settles, Comes, ComesOf}
@@ -32,6 +33,10 @@ module _ (receipt : Receipt) (d : Due) (is : served.Stamped receipt ≡ d.served
   not_answered (told.Complete tree) e = let f = ap (λ (x : Due). x.served) e in cc
   not_answered told.Pending e = let f = ap (λ (x : Due). x.served) e in cc
   not_answered told.Unknown e = let f = ap (λ (x : Due). x.served) e in cc
+
+  not_paged : (page : Option (List ℕ)) → d ≡ paged page → ⊥
+  not_paged None e = let f = ap (λ (x : Due). x.served) e in cc
+  not_paged (Some page) e = let f = ap (λ (x : Due). x.served) e in cc
 
   module _ (leaf uri : List ℕ) (limit : ℕ) (seen : List Record) where
     settled : (nonce : List ℕ) (row : Row) → Settles leaf nonce uri limit seen row (Ok d) → StandsAt seen receipt.index receipt.commitment
@@ -57,6 +62,7 @@ module _ (receipt : Receipt) (d : Due) (is : served.Stamped receipt ≡ d.served
   done : (uri : List ℕ) (limit : ℕ) (request : Request) (old new : SourcesTold) (seen : List Record) (rows : List Row) → Does uri limit request old new seen rows (Ok d) → StandsAt seen receipt.index receipt.commitment
   done uri limit (Digest leaf) old new seen rows does = comes_of leaf uri limit seen does.nonce does.second rows does.comes
   done uri limit (Timestamp commitment) old new seen rows does = absurd (not_answered (answer seen commitment) does.2)
+  done uri limit (Records number) old new seen rows does = absurd (not_paged (page_of seen number) does.2)
   done uri limit (Refused status) old new seen rows does = absurd (not_words (refusal status) (Ok d) refl does.2)
 
 stands_at : (uri : List ℕ) (limit : ℕ) (old new : Seen) (receipt : Receipt) (request : Result Request RequestError) → Ends uri limit request old new (served.Stamped receipt) → StandsAt new.pass.seen receipt.index receipt.commitment

@@ -5,16 +5,17 @@ use Rattle.ots_calendar.specs.Answer.{answer}
 use Rattle.ots_http.specs.ReplyText.{reply_bytes}
 use Rattle.ots_http.specs.RequestTable.{IsRequest}
 use Rattle.ots_http.specs.declared.request.Request.{Request}
-use Rattle.ots_http.specs.declared.request.Request.TheVariants.{Digest, Timestamp, Refused}
+use Rattle.ots_http.specs.declared.request.Request.TheVariants.{Digest, Timestamp, Records, Refused}
 use Rattle.ots_http.specs.declared.word.Word.TheVariants.{Nonce, Clock, Busy, Disk, JournalFull}
 use Rattle.ots_outside.specs.Link.{LinkTold, whole_input}
 use Rattle.ots_round.specs.declared.ticket.Receipt.{Receipt}
+use Rattle.ots_store.specs.Page.{page_of}
 use Rattle.ots_store.specs.Records.{Record}
 use Rattle.ots_tree.specs.declared.token.Token.{Token}
 use Rattle.ots_connection.specs.declared.due.Due.{Due}
 use Rattle.ots_connection.specs.declared.served.Served.{Served}
 use Rattle.ots_connection.specs.declared.served.Served.TheVariants.{Stamped, Replied, Closed, LinkFault, OutOfMemory}
-use Rattle.ots_connection.specs.Replies.{in_words, refusal, answered, stamp}
+use Rattle.ots_connection.specs.Replies.{in_words, refusal, answered, paged, stamp}
 use Rattle.ots_connection.specs.Stamping.{Stamps}
 
 -- Memory did not run out.
@@ -40,6 +41,7 @@ pub data IsDigestReply (leaf : List ℕ) (due : Due) : Type 0 where
 abbrev pub IsDueFor : Request → Due → Type 0
 IsDueFor (Digest leaf) due = IsDigestReply leaf due
 IsDueFor (Timestamp commitment) due = (records : List Record) × (due ≡ answered (answer records commitment))
+IsDueFor (Records number) due = (records : List Record) × (due ≡ paged (page_of records number))
 IsDueFor (Refused status) due = due ≡ in_words (refusal status)
 
 -- These bytes are one whole reply for this input.

@@ -6,19 +6,20 @@ use Rattle.ots_base.specs.declared.out_of_memory.OutOfMemory.{OutOfMemory}
 use Rattle.ots_calendar.specs.Answer.{answer}
 use Rattle.ots_http.specs.RequestRead.{IsRequestAnswer}
 use Rattle.ots_http.specs.declared.request.Request.{Request}
-use Rattle.ots_http.specs.declared.request.Request.TheVariants.{Digest, Timestamp, Refused}
+use Rattle.ots_http.specs.declared.request.Request.TheVariants.{Digest, Timestamp, Records, Refused}
 use Rattle.ots_http.specs.declared.request.RequestError.{RequestError}
 use Rattle.ots_http.specs.declared.request.RequestError.TheVariants as unread
 use Rattle.ots_round.specs.declared.ticket.Receipt.{Receipt}
 use Rattle.ots_shared.specs.Told.{PassTold}
 use Rattle.ots_shared.specs.declared.row.Row.{Row}
+use Rattle.ots_store.specs.Page.{page_of}
 use Rattle.ots_store.specs.Records.{Record}
 use Rattle.ots_connection.specs.declared.due.Due.{Due}
 use Rattle.ots_connection.specs.declared.served.Served.{Served}
 use Rattle.ots_connection.specs.declared.served.Served.TheVariants.{Stamped, Replied, Closed, LinkFault}
 use Rattle.ots_connection.specs.declared.served.Served.TheVariants.{OutOfMemory as ran_out}
 use Rattle.ots_connection.specs.Holds.{Holds}
-use Rattle.ots_connection.specs.Replies.{in_words, refusal, answered}
+use Rattle.ots_connection.specs.Replies.{in_words, refusal, answered, paged}
 use Rattle.ots_connection.specs.Sending.{LinkSeen, Sends, Takes}
 use Rattle.ots_connection.specs.Stamping.{SourcesTold, Stamping}
 
@@ -29,13 +30,15 @@ pub record Seen : Type 0 where
   pub sources : SourcesTold
 
 -- What comes of a request, where the calendar's URI and its journal's limit are these, and the call leaves these
--- records seen and made holds with these rows. Nothing is drawn but for a digest, and for a commitment the book is held
--- once.
+-- records seen and made holds with these rows. Nothing is drawn but for a digest, and for a commitment or a page the book
+-- is held once.
 abbrev pub Does : List ℕ → ℕ → Request → SourcesTold → SourcesTold → List Record → List Row → Result Due OutOfMemory
     → Type 0
 Does uri limit (Digest leaf) old new seen rows due = Stamping leaf uri limit old new seen rows due
 Does uri limit (Timestamp commitment) old new seen rows due = (new ≡ old) × ((row : Row) × (rows ≡ row ∷ []))
     × IfOk due (λ d. d ≡ answered (answer seen commitment))
+Does uri limit (Records number) old new seen rows due = (new ≡ old) × ((row : Row) × (rows ≡ row ∷ []))
+    × IfOk due (λ d. d ≡ paged (page_of seen number))
 Does uri limit (Refused status) old new seen rows due = (new ≡ old) × (rows ≡ [])
     × (due ≡ Ok (in_words (refusal status)))
 

@@ -1,6 +1,6 @@
 -- The reply that is due for a request, and how the connection ended once it is written, by the table of this project's
 -- HTTP profile.
-use Rattle.std.specs.Prelude.{ℕ, List, nat_eq, if◌then◌else◌}
+use Rattle.std.specs.Prelude.{ℕ, List, nat_eq, if◌then◌else◌, Option, None, Some}
 use Rattle.ots_calendar.specs.declared.answer.Answer.{Answer}
 use Rattle.ots_calendar.specs.declared.answer.Answer.TheVariants as answer
 use Rattle.ots_http.specs.ReplyText.{status_of}
@@ -35,6 +35,11 @@ abbrev pub answered : Answer → Due
 answered (answer.Complete tree) = with_tree tree
 answered answer.Pending = in_words Pending
 answered answer.Unknown = in_words NotFound
+
+-- A page of the calendar's records, or that there is none for a number over their count.
+abbrev pub paged : Option (List ℕ) → Due
+paged None = in_words NotFound
+paged (Some page) = record { reply = reply.Page page; served = Replied 200 }
 
 -- The tree of a digest, whose commitment is stored as the receipt says.
 abbrev pub stamp : List Token → Receipt → Due

@@ -1,13 +1,14 @@
-//! What a calendar answers of a commitment.
+//! What a calendar answers of a commitment, and of its records.
 ghost use Rattle.std.specs.Prelude.{◌≡◌, false, [], ◌∷◌, IfOk};
 ghost use Rattle.ots_http.specs.ReplyText.{IsReply};
 ghost use Rattle.ots_shared.specs.Told.{IsPassOf};
 ghost use Rattle.ots_shared.specs.declared.row.Row.{Row};
 ghost use Rattle.ots_calendar.specs.Answer.{answer};
+ghost use Rattle.ots_store.specs.Page.{page_of};
 ghost use Rattle.ots_connection.specs.Holds.{Holds};
-ghost use Rattle.ots_connection.specs.Replies.{answered};
+ghost use Rattle.ots_connection.specs.Replies.{answered, paged};
 
-use crate::due::{Due, in_words, with_tree};
+use crate::due::{Due, in_words, with_page, with_tree};
 use ots_base::OutOfMemory;
 use ots_calendar::{Answer, Book};
 use ots_disk::Disk;
@@ -48,5 +49,35 @@ fn ask<D: Disk>(book: &Book<D>, wanted: Wanted) -> Result<Due, OutOfMemory>
         Ok(Answer::Pending) => Ok(in_words(404, Word::Pending)),
         Ok(Answer::Unknown) => Ok(in_words(404, Word::NotFound)),
         Err(OutOfMemory) => Err(OutOfMemory),
+    }
+}
+
+/// Asks the shared book for a page of its records, in one hold.
+pub(crate) fn page_at<D: Disk, R: Wait>(
+    rt: &R,
+    shared: &Shared<D>,
+    pass: &mut Pass,
+    number: u64,
+) -> Result<Due, OutOfMemory>
+    requires own { IsPassOf shared.now pass.old }
+    requires free { pass.old.holding ≡ false }
+    ensures holds { (row : Row) × Holds pass.old pass.new (row ∷ []) }
+    ensures due { IfOk result (λ due. due ≡ paged (page_of pass.new.seen number)) }
+    ensures reply { IfOk result (λ due. IsReply due.reply) }
+{
+    let mut held = shared.hold(rt, pass);
+    let due = copy_page(held.book(), number);
+    shared.release(pass, held);
+    due
+}
+
+/// Copies a page of a book's records.
+fn copy_page<D: Disk>(book: &Book<D>, number: u64) -> Result<Due, OutOfMemory>
+    ensures due { IfOk result (λ due. due ≡ paged (page_of book.now.store.records number)) }
+    ensures reply { IfOk result (λ due. IsReply due.reply) }
+{
+    match book.store().page(number)? {
+        Some(page) => Ok(with_page(page)),
+        None => Ok(in_words(404, Word::NotFound)),
     }
 }

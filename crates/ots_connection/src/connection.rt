@@ -7,7 +7,7 @@ ghost use Rattle.ots_shared.specs.Told.{IsPassOf};
 ghost use Rattle.ots_connection.specs.Answered.{IsAnswered, is_answer};
 ghost use Rattle.ots_connection.specs.Connection.{Handles, IfStamped, Serves};
 
-use crate::asking::answer_of;
+use crate::asking::{answer_of, page_at};
 use crate::due::{Due, refusal};
 use crate::sending::send;
 use crate::stamping::stamp_digest;
@@ -25,7 +25,8 @@ use std::sync::Wait;
 ///
 /// For a digest it draws a nonce and reads the clock, puts the digest in one hold of the book, and in a
 /// second takes its tree, where another caller has closed the round, or closes it first for all that
-/// wait. Where it gives no tree, its ticket is withdrawn. For a commitment it holds the book once.
+/// wait. Where it gives no tree, its ticket is withdrawn. For a commitment it holds the book once, and
+/// so for a page of records, which is written when the book is free again.
 #[expect(clippy::too_many_arguments)]
 pub fn serve_connection<L: Link, D: Disk, C: Clock, N: Nonces, R: Wait>(
     rt: &R,
@@ -93,6 +94,7 @@ fn handle<D: Disk, C: Clock, N: Nonces, R: Wait>(
     match request {
         Request::Refused(status) => Ok(refusal(status)),
         Request::Timestamp(wanted) => answer_of(rt, shared, pass, wanted),
+        Request::Records(number) => page_at(rt, shared, pass, number),
         Request::Digest(leaf) => stamp_digest(rt, shared, pass, service, leaf, clock, nonces),
     }
 }

@@ -1,13 +1,14 @@
 //! What is due for a request.
-ghost use Rattle.std.specs.Prelude.{◌≡◌, ◌≤◌, length};
-ghost use Rattle.ots_base.specs.declared.limits.TheConstants.{MAX_PROOF_FILE};
+ghost use Rattle.std.specs.Prelude.{◌≡◌, ◌≤◌, length, Some};
+ghost use Rattle.ots_base.specs.declared.limits.TheConstants.{MAX_PROOF_FILE, MAX_REPLY_BODY};
 ghost use Rattle.ots_http.specs.ReplyText.{IsReply, status_of};
 ghost use Rattle.ots_tree.specs.Wire.{spelled};
-ghost use Rattle.ots_connection.specs.Replies.{in_words, refusal, with_tree, stamp};
+ghost use Rattle.ots_connection.specs.Replies.{in_words, refusal, with_tree, paged, stamp};
 
 use crate::Served;
 use ots_calendar::Receipt;
 use ots_http::{Reply, Word};
+use ots_outside::Bytes;
 use ots_tree::Tree;
 
 /// The most tokens of a tree that is sent. A stamp has at most 37, and the tree of a commitment that is
@@ -56,6 +57,18 @@ pub(crate) fn with_tree(tree: Tree) -> Due
     fits(&tree);
     Due {
         reply: Reply::Tree(tree),
+        served: Served::Replied(200),
+    }
+}
+
+/// The reply with a page of records.
+pub(crate) fn with_page(page: Bytes) -> Due
+    requires { length page ≤ MAX_REPLY_BODY }
+    ensures due { result ≡ paged (Some page) }
+    ensures reply { IsReply result.reply }
+{
+    Due {
+        reply: Reply::Page(page),
         served: Served::Replied(200),
     }
 }

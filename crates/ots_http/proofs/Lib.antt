@@ -1,8 +1,8 @@
 pub mod AnswerLemmas
 pub mod BufferLemmas
-pub mod FieldLemmas
 pub mod HeadLemmas
 pub mod LinkLemmas
+pub mod NumberLemmas
 pub mod OneAnswer
 pub mod ReplyHeadLemmas
 pub mod ReplyLemmas

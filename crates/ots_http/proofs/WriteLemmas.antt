@@ -1,5 +1,5 @@
 -- Two texts that are written one after the other.
-use Rattle.std.proofs.Common.{◌≡◌, ◌+◌, ◌^◌, ◌<◌, ◌-◌, min, ℕ, List, ◌++◌, length, take, subst, sym, ap, ◌∙◌, arith, append_assoc, length-append, Option, Result, Ok, Err}
+use Rattle.std.proofs.Common.{◌≡◌, ◌+◌, ◌^◌, ◌<◌, ◌-◌, min, ℕ, List, ◌++◌, length, take, subst, refl, sym, ap, ◌∙◌, arith, append_assoc, length-append, Option, Result, Ok, Err}
 use Rattle.std.proofs.Math.Seq.{take-append-add}
 use Rattle.std.proofs.lemmas.List.{take-append-le}
 use Rattle.ots_base.specs.Told.{BothTold, BothTold-trans}
@@ -52,3 +52,7 @@ first_cut a b text first second failed error is p = record {
 -- a length that is not cut
 pub whole_length : (n size : ℕ) → size ≡ min n (2 ^ 64 - 1) → n < 2 ^ 64 → size ≡ n
 whole_length n size is fits = omega (arith, is, fits)
+
+-- three pieces that were added one after the other
+pub three_more : (before a b c x y z : List ℕ) → x ≡ before ++ a → y ≡ x ++ b → z ≡ y ++ c → z ≡ before ++ (a ++ (b ++ c))
+three_more before a b c x y z first second third = rw (third, second, first, append_assoc (before ++ a) b c, append_assoc before a (b ++ c)) refl

@@ -1,10 +1,10 @@
 -- The bytes of a reply that a calendar writes. Source: RFC 9112, sections 2.1 and 4, with the statuses, fields and
 -- words of this project's HTTP profile.
 use Rattle.std.specs.Prelude.{◌≡◌, ◌≤◌, ℕ, ◌+◌, List, ◌++◌, length, codes, decimal}
-use Rattle.ots_base.specs.declared.limits.TheConstants.{MAX_PROOF_FILE}
+use Rattle.ots_base.specs.declared.limits.TheConstants.{MAX_PROOF_FILE, MAX_REPLY_BODY}
 use Rattle.ots_tree.specs.Wire.{spelled}
 use Rattle.ots_http.specs.declared.replying.Reply.{Reply}
-use Rattle.ots_http.specs.declared.replying.Reply.TheVariants.{Tree, Text}
+use Rattle.ots_http.specs.declared.replying.Reply.TheVariants.{Tree, Page, Text}
 use Rattle.ots_http.specs.declared.word.Word.{Word}
 use Rattle.ots_http.specs.declared.word.Word.TheVariants.{BadRequest, NotFound, Pending, MethodNotAllowed}
 use Rattle.ots_http.specs.declared.word.Word.TheVariants.{LengthRequired, TooLarge, Clock, Busy, Disk, Nonce}
@@ -63,15 +63,18 @@ abbrev pub text_reply : ℕ → Word → List ℕ
 text_reply status word = reply_head status (phrase_of word) (codes "text/plain") (length (words_of word) + 1)
     ++ words_of word ++ codes "\n"
 
--- The reply with a tree that is spelled so.
-abbrev pub tree_reply : List ℕ → List ℕ
-tree_reply spelling = reply_head 200 (codes "OK") (codes "application/octet-stream") (length spelling) ++ spelling
+-- The reply with these bytes, of a tree or of a page.
+abbrev pub octets_reply : List ℕ → List ℕ
+octets_reply bytes = reply_head 200 (codes "OK") (codes "application/octet-stream") (length bytes) ++ bytes
 
 abbrev pub reply_bytes : Reply → List ℕ
-reply_bytes (Tree tokens) = tree_reply (spelled tokens)
+reply_bytes (Tree tokens) = octets_reply (spelled tokens)
+reply_bytes (Page bytes) = octets_reply bytes
 reply_bytes (Text status word) = text_reply status word
 
--- The status and the words stand in one line of the table, and a tree has at most as many bytes as a proof file.
+-- The status and the words stand in one line of the table, a tree has at most as many bytes as a proof file, and a page
+-- at most as many as a client takes.
 abbrev pub IsReply : Reply → Type 0
 IsReply (Tree tokens) = length (spelled tokens) ≤ MAX_PROOF_FILE
+IsReply (Page bytes) = length bytes ≤ MAX_REPLY_BODY
 IsReply (Text status word) = status ≡ status_of word

@@ -1,7 +1,7 @@
 //! Requests that a client writes.
 ghost use Rattle.std.specs.Prelude.{◌≡◌, ◌≤◌, ◌+◌, ◌++◌, length};
 ghost use Rattle.ots_base.specs.Cause.{HasCause};
-ghost use Rattle.ots_http.specs.RequestText.{request_bytes, post_text, get_text, host_text};
+ghost use Rattle.ots_http.specs.RequestText.{request_bytes, post_text, get_text, get_end, records_text, host_text};
 ghost use Rattle.ots_http.specs.Written.{WritesAll};
 
 use crate::draft::{Draft, ROOM};
@@ -18,6 +18,8 @@ pub enum Asked {
     Post(Digest),
     /// For the timestamp of this message.
     Get(Message),
+    /// For the records from this number on.
+    Records(u64),
 }
 
 /// Writes a request to the calendar at this address, in one piece.
@@ -36,6 +38,7 @@ pub fn write_request<L: Link>(
     let draft = match asked {
         Asked::Post(digest) => draft_post(address, digest.bytes()),
         Asked::Get(message) => draft_get(address, message.bytes()),
+        Asked::Records(number) => draft_records(address, *number),
     };
     write_bytes(link, draft.text())
 }
@@ -65,10 +68,29 @@ fn draft_get(address: &Address, message: &[u8]) -> Draft
     let mut draft = Draft::new();
     draft.add(b"GET /timestamp/");
     draft.add_hex(message);
-    draft.add(b" HTTP/1.1\r\nHost: ");
-    add_host(&mut draft, address);
-    draft.add(b"\r\nAccept: application/vnd.opentimestamps.v1\r\nConnection: close\r\n\r\n");
+    add_get_end(&mut draft, address);
     draft
+}
+
+/// The request that asks for the records from this number on.
+fn draft_records(address: &Address, number: u64) -> Draft
+    ensures { result ≡ records_text (host_text address.now.host address.now.port) number }
+{
+    let mut draft = Draft::new();
+    draft.add(b"GET /records/");
+    draft.add_number(number);
+    add_get_end(&mut draft, address);
+    draft
+}
+
+/// Adds what stands after the target of a request that asks for something.
+fn add_get_end(draft: &mut Draft, address: &Address)
+    requires { length draft.old + (MAX_HOST + 21 + 100) ≤ ROOM }
+    ensures { draft.new ≡ draft.old ++ get_end (host_text address.now.host address.now.port) }
+{
+    draft.add(b" HTTP/1.1\r\nHost: ");
+    add_host(draft, address);
+    draft.add(b"\r\nAccept: application/vnd.opentimestamps.v1\r\nConnection: close\r\n\r\n");
 }
 
 /// Adds the host, and the port where it is not the default.

@@ -1,11 +1,11 @@
 //! The fields of a head that say how long the body is.
-ghost use Rattle.std.specs.Char.{is_ascii_digit, digit_value};
-ghost use Rattle.std.specs.Prelude.{◌≡◌, ◌+◌, ◌*◌, ◌<◌, ◌≤◌, ℕ, List, IsTrue, codes, min, length, map, All};
+ghost use Rattle.std.specs.Prelude.{◌≡◌, ◌<◌, ◌≤◌, ℕ, List, codes, length, map, All};
 ghost use Rattle.std.specs.Str.{str_eq_ignore_ascii_case};
 ghost use Rattle.httparse.specs.Spans.{IsHeaderWithin, header_bytes, span_bytes};
 ghost use Rattle.ots_http.specs.Fields.{body_length, is_named, values_of, stated, stated_by, StatesAtMost};
 ghost use Rattle.ots_http.specs.FieldValues.{AreValues, with_another};
 
+use crate::numbers::read_number;
 use httparse::spans::{HeaderSpan, Span};
 use ots_base::MAX_REPLY_BODY;
 
@@ -103,28 +103,13 @@ fn read_length(value: &[u8], most: usize) -> StatedLength
     ensures stated { result ≡ stated_by most value.now }
     ensures limit { StatesAtMost most result }
 {
-    if value.is_empty() {
-        return StatedLength::Malformed;
-    }
-    let mut number = 0;
-    for byte in value {
-        if !byte.is_ascii_digit() {
-            return StatedLength::Malformed;
+    match read_number(value, most as u64) {
+        None => StatedLength::Malformed,
+        Some(number) => {
+            if number > most as u64 {
+                return StatedLength::TooGreat;
+            }
+            StatedLength::Length(number as usize)
         }
-        number = with_digit(number, *byte, most);
     }
-    if number > most {
-        return StatedLength::TooGreat;
-    }
-    StatedLength::Length(number)
-}
-
-/// The number with one digit more, or `most + 1` where it is greater than that.
-fn with_digit(number: usize, digit: u8, most: usize) -> usize
-    requires small { most ≤ MAX_REPLY_BODY }
-    requires so_far { number ≤ most + 1 }
-    requires digit { IsTrue (is_ascii_digit digit) }
-    ensures { result ≡ min (number * 10 + digit_value digit) (most + 1) }
-{
-    (number * 10 + usize::from(digit - b'0')).min(most + 1)
 }

@@ -12,6 +12,7 @@ mod heads;
 mod laws;
 mod limits;
 mod line_ends;
+mod numbers;
 mod reading;
 mod reply;
 mod reply_head;

@@ -1,15 +1,15 @@
 //! Replies that a calendar writes.
-ghost use Rattle.std.specs.Prelude.{◌≡◌, ◌≤◌, ◌^◌, ◌<◌, length};
+ghost use Rattle.std.specs.Prelude.{◌≡◌, ◌≤◌, length, codes};
 ghost use Rattle.ots_base.specs.Cause.{HasCause};
 ghost use Rattle.ots_tree.specs.Wire.{spelled};
-ghost use Rattle.ots_http.specs.ReplyText.{IsReply, reply_bytes, reply_head, text_reply, tree_reply, status_of};
+ghost use Rattle.ots_http.specs.ReplyText.{IsReply, reply_bytes, reply_head, text_reply, octets_reply, status_of};
 ghost use Rattle.ots_http.specs.Written.{WritesAll};
 
 use crate::draft::Draft;
 use crate::word::Word;
 use crate::writing::{LinkFault, write_bytes};
 use ots_base::MAX_PROOF_FILE;
-use ots_outside::{Link, LinkSink};
+use ots_outside::{Bytes, Link, LinkSink};
 use ots_tree::{Tree, spell_to, spelled_length};
 
 /// A reply of a calendar.
@@ -17,12 +17,14 @@ use ots_tree::{Tree, spell_to, spelled_length};
 pub enum Reply {
     /// Status 200 and this tree, whose spelling has at most `MAX_PROOF_FILE` bytes.
     Tree(Tree),
+    /// Status 200 and these bytes, a page of records of at most `MAX_REPLY_BODY` bytes.
+    Page(Bytes),
     /// A status and the words that stand with it.
     Text(u16, Word),
 }
 
-/// Writes a reply: one without a tree in one piece, and a tree after its head as `spell_to` spells
-/// it.
+/// Writes a reply: words in one piece, a page after its head, and a tree after its head as `spell_to`
+/// spells it.
 ///
 /// `LinkFault` comes only where the link's count of faults rose, and the link has then taken a prefix
 /// of the reply. It takes no memory.
@@ -34,6 +36,7 @@ pub fn write_reply<L: Link>(link: &mut L, reply: &Reply) -> Result<(), LinkFault
 {
     match reply {
         Reply::Tree(tree) => write_tree(link, tree),
+        Reply::Page(page) => write_page(link, page.items()),
         Reply::Text(status, word) => write_text(link, *status, *word),
     }
 }
@@ -54,13 +57,26 @@ fn write_text<L: Link>(link: &mut L, status: u16, word: Word) -> Result<(), Link
 /// Writes the reply with this tree.
 fn write_tree<L: Link>(link: &mut L, tree: &Tree) -> Result<(), LinkFault>
     requires { length (spelled tree.now) ≤ MAX_PROOF_FILE }
-    ensures written { WritesAll (tree_reply (spelled tree.now)) (L.told link.old) (L.told link.new) result }
+    ensures written { WritesAll (octets_reply (spelled tree.now)) (L.told link.old) (L.told link.new) result }
     ensures cause { HasCause (L.faults link.old) (L.faults link.new) result }
     ensures same { L.same link.old link.new }
 {
-    let head = draft_head(200, "OK", "application/octet-stream", spelled_length(tree));
+    let head = draft_octets(spelled_length(tree));
     match write_bytes(link, head.text()) {
         Ok(()) => write_spelling(link, tree),
+        Err(_) => Err(LinkFault),
+    }
+}
+
+/// Writes the reply with this page.
+fn write_page<L: Link>(link: &mut L, page: &[u8]) -> Result<(), LinkFault>
+    ensures written { WritesAll (octets_reply page.now) (L.told link.old) (L.told link.new) result }
+    ensures cause { HasCause (L.faults link.old) (L.faults link.new) result }
+    ensures same { L.same link.old link.new }
+{
+    let head = draft_octets(page.len() as u64);
+    match write_bytes(link, head.text()) {
+        Ok(()) => write_bytes(link, page),
         Err(_) => Err(LinkFault),
     }
 }
@@ -75,6 +91,13 @@ fn write_spelling<L: Link>(link: &mut L, tree: &Tree) -> Result<(), LinkFault>
         Ok(()) => Ok(()),
         Err(_) => Err(LinkFault),
     }
+}
+
+/// The head of a reply with as many bytes, of a tree or of a page.
+fn draft_octets(size: u64) -> Draft
+    ensures head { result ≡ reply_head 200 (codes "OK") (codes "application/octet-stream") size }
+{
+    draft_head(200, "OK", "application/octet-stream", size)
 }
 
 /// The head of a reply.

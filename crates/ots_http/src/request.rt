@@ -4,13 +4,14 @@ ghost use Rattle.ots_base.specs.Cause.{HasCauseWhere};
 ghost use Rattle.ots_base.specs.Told.{IfTold};
 ghost use Rattle.httparse.specs.Spans.{IsWithin, IsHeaderWithin, span_bytes, header_bytes};
 ghost use Rattle.ots_http.specs.Given.{GivesAtMost};
-ghost use Rattle.ots_http.specs.RequestTable.{get_request};
+ghost use Rattle.ots_http.specs.RequestTable.{asked_by, get_request, if_get, records_by, records_request};
 ghost use Rattle.ots_http.specs.RequestRead.{IsRequestAnswer, DecidesHead, DecidesPost, digest_of};
 ghost use Rattle.ots_http.specs.declared.request.RequestError.TheVariants.{LinkFault};
 
 use crate::fields::{StatedLength, body_length};
 use crate::heads::{HeadRead, read_head};
-use crate::limits::{MAX_FIELDS, MAX_HEAD};
+use crate::limits::{MAX_FIELDS, MAX_HEAD, MAX_RECORD};
+use crate::numbers::read_number;
 use crate::reading::read_on;
 use httparse::spans::{EMPTY_HEADER_SPAN, HeaderSpan, RequestSpans};
 use ots_outside::{Failed, Leaf, Link, MAX_DIGEST, Wanted};
@@ -22,6 +23,8 @@ pub enum Request {
     Digest(Leaf),
     /// For the timestamp of this commitment.
     Timestamp(Wanted),
+    /// For the records from this number on, of at most `MAX_RECORD`.
+    Records(u64),
     /// Nothing that a calendar does: the status of the reply.
     Refused(u16),
 }
@@ -88,15 +91,37 @@ fn decide_head(buffer: &[u8], fields: &[HeaderSpan], head: RequestSpans) -> Resu
         }
         return decide_post(buffer, fields);
     }
+    Err(decide_asked(method, target))
+}
+
+/// The request of a target that asks for something.
+fn decide_asked(method: &[u8], target: &[u8]) -> Request
+    ensures { result ≡ asked_by method.now target.now }
+{
     match target.strip_prefix(b"/timestamp/".as_slice()) {
-        None => Err(Request::Refused(404)),
-        Some(digits) => {
-            if method != b"GET".as_slice() {
-                return Err(Request::Refused(405));
-            }
-            Err(read_digits(digits))
-        }
+        Some(digits) => if_get(method, read_digits(digits)),
+        None => decide_records(method, target),
     }
+}
+
+/// The request of a target that asks for records, or for nothing.
+fn decide_records(method: &[u8], target: &[u8]) -> Request
+    ensures { result ≡ records_by method.now target.now }
+{
+    match target.strip_prefix(b"/records/".as_slice()) {
+        Some(digits) => if_get(method, read_first(digits)),
+        None => Request::Refused(404),
+    }
+}
+
+/// The request where the method is GET, and else that the method is refused.
+fn if_get(method: &[u8], request: Request) -> Request
+    ensures { result ≡ if_get method.now request }
+{
+    if method != b"GET".as_slice() {
+        return Request::Refused(405);
+    }
+    request
 }
 
 /// What the fields of a POST decide.
@@ -128,6 +153,19 @@ fn read_digits(digits: &[u8]) -> Request
     match Wanted::new(room) {
         Some(wanted) => Request::Timestamp(wanted),
         None => Request::Refused(400),
+    }
+}
+
+/// The request for the records from the number of these digits on.
+fn read_first(digits: &[u8]) -> Request
+    ensures { result ≡ records_request digits.now }
+{
+    if digits.len() > 1 && digits[0] == b'0' {
+        return Request::Refused(400);
+    }
+    match read_number(digits, MAX_RECORD) {
+        Some(number) if number <= MAX_RECORD => Request::Records(number),
+        _ => Request::Refused(400),
     }
 }
 

@@ -7,6 +7,7 @@ pub mod Merged
 pub mod Numbers
 pub mod Opened
 pub mod Ordered
+pub mod Paged
 pub mod Placed
 pub mod Ranged
 pub mod Recorded

@@ -4,6 +4,7 @@ pub mod Index
 pub mod Marked
 pub mod Opening
 pub mod Order
+pub mod Page
 pub mod Places
 pub mod Progress
 pub mod Ranges

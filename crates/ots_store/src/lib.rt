@@ -12,6 +12,7 @@
 //! | [`Store::reserve`] | memory for one commitment or tip, taken before the disk is called |
 //! | [`Store::refresh`] | after a fault: whether the records in flight are kept |
 //! | [`Store::index_of`], [`Store::anchor_of`] | by the index and the ranges, with no walk |
+//! | [`Store::page`] | some records from a number on, for whoever keeps a copy |
 //!
 //! The records in flight lie in memory after the acknowledged ones, and the index has room for
 //! them, so that a refresh takes no memory. Beside the entries themselves each commitment is held
@@ -27,6 +28,7 @@ mod laws;
 mod lists;
 mod marked;
 mod opening;
+mod page;
 mod progress;
 mod ranges;
 mod reading;
@@ -38,5 +40,6 @@ mod tips;
 pub use anchor::Anchor;
 pub use errors::{RefusedStore, StoreError};
 pub use laws::{one_first_bad, one_record, ranges_rise, records_are_not_bad, records_are_spelled};
+pub use page::MAX_PAGE_ENTRIES;
 pub use store::Store;
 pub use tip::Tip;

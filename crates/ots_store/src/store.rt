@@ -1,5 +1,5 @@
 ghost use Rattle.std.specs.Prelude.{◌≡◌, ◌≢◌, ◌≤◌, ◌<◌, ◌+◌, ◌^◌, ◌++◌, ◌∷◌, [], ℕ, List, length, true, false, find};
-ghost use Rattle.std.specs.Prelude.{slice_get, Some, Err, IfOk, IfErr, OnOk, OnErr, MatchOption, IsErrOf};
+ghost use Rattle.std.specs.Prelude.{slice_get, Some, Err, IfOk, IfErr, IfSome, OnOk, OnErr, MatchOption, IsErrOf};
 ghost use Rattle.std.specs.Option.{option_copied};
 ghost use Rattle.std.specs.List.{AllByRecursion};
 ghost use Rattle.ots_base.specs.Cause.{HasCause, HasCauseWhere};
@@ -12,19 +12,22 @@ ghost use Rattle.ots_store.specs.Records.{FitsLimits, IsRecord};
 ghost use Rattle.ots_store.specs.Order.{commits_of, tips_of, anchors_of, covers, covered_of, Follows, AreRecords};
 ghost use Rattle.ots_store.specs.Order.{FirstBad, records_of};
 ghost use Rattle.ots_store.specs.Index.{least};
+ghost use Rattle.ots_store.specs.Page.{page_of};
 ghost use Rattle.ots_store.specs.Opening.{IfBad};
 ghost use Rattle.ots_store.specs.Store.{InRecords, StandsForRecords, StoreStands, MakesRoom, Added, Adds, Settles};
 
 use crate::form::{ANCHOR, COMMIT, Span, TIP, TIP_PAYLOAD};
 use crate::held::Held;
 use crate::opening::{first_bad, hold_records, stage_entries};
+use crate::page::add_entries;
 use crate::progress::Progress;
 use crate::spelling::{fits_limits, spell_anchor, spell_tip};
 use crate::tips::{has_tip, reaches_past};
 use crate::{Anchor, RefusedStore, StoreError, Tip};
-use ots_base::OutOfMemory;
+use ots_base::{MAX_REPLY_BODY, OutOfMemory};
 use ots_disk::Disk;
 use ots_journal::{AppendError, DiskFault, Entry, Journal};
+use ots_outside::Bytes;
 use std::alloc::Global;
 use std::marker::Model;
 
@@ -153,6 +156,24 @@ impl<D: Disk> Store<D> {
         ensures { slice_get self.now.journal.entries i ≡ Some (record { kind = result.0; payload = result.1.now }) }
     {
         self.journal.entry(i)
+    }
+
+    /// The page of the records from a number on: that number as 8 big-endian bytes, and as many of
+    /// their entries as fit whole into `MAX_REPLY_BODY` bytes in all, 10,000, and at most
+    /// [`MAX_PAGE_ENTRIES`](crate::MAX_PAGE_ENTRIES). `None` exactly where the number is over
+    /// [`entries`](Store::entries). It looks at no other record.
+    pub fn page(&self, from: u64) -> Result<Option<Bytes>, OutOfMemory>
+        ensures page { IfOk result (λ page. page ≡ page_of self.now.records from) }
+        ensures short { IfOk result (λ page. IfSome page (λ bytes. length bytes ≤ MAX_REPLY_BODY)) }
+    {
+        self.stands();
+        if from > self.entries() {
+            return Ok(None);
+        }
+        let mut page = Vec::with_capacity(self.alloc, MAX_REPLY_BODY)?;
+        page.extend_from_slice(&from.to_be_bytes())?;
+        add_entries(&mut page, self, from)?;
+        Ok(Some(Bytes::from_vec(page)))
     }
 
     /// Whether it is known that nothing is in flight.

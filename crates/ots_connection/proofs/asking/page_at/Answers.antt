@@ -1,0 +1,5 @@
+use Rattle.ots_shared.proofs.Begins.{starts_self}
+use Rattle.ots_connection.proofs.asking.page_at.Goals as goal
+
+pub release-requires-clause-records : goal.release-requires-clause-records
+release-requires-clause-records g c = rw (c.book.ensures.value, c.hold-held.ensures.found) (starts_self c.hold-held.result.book.store.records)
