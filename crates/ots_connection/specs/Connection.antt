@@ -30,8 +30,8 @@ pub record Seen : Type 0 where
   pub sources : SourcesTold
 
 -- What comes of a request, where the calendar's URI and its journal's limit are these, and the call leaves these
--- records seen and made holds with these rows. Nothing is drawn but for a digest, and for a commitment or a page the book
--- is held once.
+-- records seen and made holds with these rows. Nothing is drawn but for a digest, and for a commitment or a page the
+-- book is held once.
 abbrev pub Does : List ℕ → ℕ → Request → SourcesTold → SourcesTold → List Record → List Row → Result Due OutOfMemory
     → Type 0
 Does uri limit (Digest leaf) old new seen rows due = Stamping leaf uri limit old new seen rows due

@@ -1,8 +1,8 @@
 -- What the bytes of a request ask of a calendar. Source: the table of this project's HTTP profile, over the paths of
 -- the reference calendar (opentimestamps-server, `otsserver/rpc.py`: `POST /digest`, `GET /timestamp/HEX`); `GET
 -- /records/N` is this project's own. Its first line that fits decides.
-use Rattle.std.specs.Prelude.{◌≡◌, ℕ, ◌*◌, Bool, ◌==◌, nat_eq, nat_le, nat_lt, not, ◌&&◌, ◌||◌, List, length, take, drop}
-use Rattle.std.specs.Prelude.{slice_index, bytes_eq, codes}
+use Rattle.std.specs.Prelude.{◌≡◌, ℕ, ◌*◌, Bool, ◌==◌, nat_eq, nat_le, nat_lt, not, ◌&&◌, ◌||◌, List, length, take}
+use Rattle.std.specs.Prelude.{drop, slice_index, bytes_eq, codes}
 use Rattle.std.specs.Str.Parse.{digits_value}
 use Rattle.std.specs.Prelude.{if◌then◌else◌, Result, Ok, Err}
 use Rattle.httparse.specs.Grammar.{RequestHead}

@@ -24,7 +24,7 @@ mod writing;
 
 pub use asking::{Asked, write_request};
 pub use laws::{one_reply_outcome, one_request_answer};
-pub use limits::{MAX_FIELDS, MAX_HEAD};
+pub use limits::{MAX_FIELDS, MAX_HEAD, MAX_RECORD};
 pub use ots_address::{Address, AddressError, read_addresses};
 pub use ots_base::MAX_REPLY_BODY;
 pub use reply::{HttpReply, ReplyError, read_reply};

@@ -1,5 +1,5 @@
--- What a growing tree keeps: the leaves after the last whole run, the roots of the whole runs, and above them levels, each
--- with the roots of the whole groups of the level below.
+-- What a growing tree keeps: the leaves after the last whole run, the roots of the whole runs, and above them levels,
+-- each with the roots of the whole groups of the level below.
 use Rattle.std.specs.Prelude.{◌≡◌, ℕ, ◌+◌, ◌*◌, ◌^◌, ◌/◌, ◌<◌, ◌≤◌, List, [], ◌∷◌, length, drop, Vec, vec_capacity}
 use Rattle.std.specs.declared.alloc.Global.{Global}
 use Rattle.ots_merkle.specs.Runs.{whole_roots}

@@ -1,5 +1,6 @@
 //! A calendar's tree that grows, and the paths of its leaves.
-ghost use Rattle.std.specs.Prelude.{◌≡◌, ◌≤◌, ◌<◌, ◌+◌, ◌-◌, ◌*◌, ◌/◌, ◌^◌, ◌++◌, ◌∷◌, ℕ, List, [], length, take, drop, vec_capacity};
+ghost use Rattle.std.specs.Prelude.{◌≡◌, ◌≤◌, ◌<◌, ◌+◌, ◌-◌, ◌*◌, ◌/◌, ◌^◌, ◌++◌, ◌∷◌, ℕ, List, []};
+ghost use Rattle.std.specs.Prelude.{length, take, drop, vec_capacity};
 ghost use Rattle.std.specs.Prelude.{OnOk, IfOk, is_ok, IsOk, option_to_list, nat_lt, if◌then◌else◌};
 ghost use Rattle.std.specs.List.{All};
 ghost use Rattle.ots_merkle.specs.CalendarTree.{path, root_if_any};
@@ -47,7 +48,8 @@ impl Parts {
 
     /// Adds a leaf, where there is room for it.
     fn push(&mut self, leaf: [u8; 32])
-        requires { (leaves : List (List ℕ)) × (total : ℕ) × IsOf leaves total self.old × (length leaves < total) }
+        requires { (leaves : List (List ℕ)) × (total : ℕ) × IsOf leaves total self.old
+            × (length leaves < total) }
         ensures { (leaves : List (List ℕ)) (total : ℕ) → IsOf leaves total self.old → length leaves < total
             → IsOf (leaves ++ leaf ∷ []) total self.new }
     {
@@ -63,7 +65,8 @@ impl Parts {
     fn reserve(&mut self, total: usize) -> Result<(), OutOfMemory>
         requires total { total < 2 ^ 32 }
         requires levels { length self.old.above.items ≡ LEVELS }
-        ensures kept { (leaves : List (List ℕ)) (before : ℕ) → IsOf leaves before self.old → IsOf leaves before self.new }
+        ensures kept { (leaves : List (List ℕ)) (before : ℕ) → IsOf leaves before self.old
+            → IsOf leaves before self.new }
         ensures room { OnOk result ((leaves : List (List ℕ)) (before : ℕ) → IsOf leaves before self.old
             → length leaves ≤ total → IsOf leaves total self.new) }
     {
@@ -284,7 +287,8 @@ impl GrowingTree {
     /// leaves are as before. It takes memory only where no spare push is left.
     pub fn push(&mut self, leaf: [u8; 32]) -> Result<(), OutOfMemory>
         requires { length self.old.leaves + 1 < 2 ^ 32 }
-        ensures leaves { self.new.leaves ≡ (if is_ok result then self.old.leaves ++ leaf ∷ [] else self.old.leaves) }
+        ensures leaves { self.new.leaves ≡ (if is_ok result then self.old.leaves ++ leaf ∷ []
+            else self.old.leaves) }
         ensures spare { self.old.spare ≤ (if is_ok result then self.new.spare + 1 else self.new.spare) }
         ensures not_refused { 0 < self.old.spare → IsOk result }
     {
