@@ -41,10 +41,14 @@ class Disk:
         self.calls = []
         self.faults = 0
 
+    def is_past(self, place, piece):
+        """Whether a call goes past the room."""
+        return (len(self.calls) == self.room[0] or len(piece) > self.room[1]
+                or place + len(piece) > max(self.room[2], len(self.data)))
+
     def call(self, kind, place=0, piece=b''):
         """Whether the call is done."""
-        if len(self.calls) == self.room[0] or len(piece) > self.room[1] or place + len(piece) > max(
-                self.room[2], len(self.data)):
+        if self.is_past(place, piece):
             raise ValueError('the script gives too little room')
         failed = len(self.calls) + 1 in self.failing
         self.calls.append((kind, place, piece, failed))
@@ -410,6 +414,28 @@ def numbers(text, count):
 
 # ---- the calls
 
+def disk_answer(disk, word, rest):
+    """A call of the disk itself. One past the room fails, and is not noted."""
+    if word == 'faults':
+        return str(disk.faults)
+    place, _, words = rest.partition(' ')
+    place, piece = int(place or 0), bytes_of(words) if word == 'write' else b''
+    if word == 'write' and place > len(disk.data):
+        return 'past the end'
+    if disk.is_past(place, piece) if word == 'write' else disk.is_past(0, b''):
+        disk.faults += 1
+        return 'disk fault'
+    if not disk.call(word, place, piece):
+        return 'disk fault'
+    if word == 'length':
+        return str(len(disk.data))
+    if word == 'read':
+        return spelled(disk.data[place:place + int(words)])
+    if word not in ('write', 'sync'):
+        raise ValueError(word)
+    return 'ok'
+
+
 def done(call, *arguments):
     try:
         result = call(*arguments)
@@ -554,12 +580,17 @@ class Scene:
             return [call_text(number, call) for number, call in enumerate(disk.calls, 1) if number >= int(rest)]
         form, first, last, *choices = rest.split(' ')
         assert int(last) - 1 <= len(disk.calls) + 1
-        return ['%d: ' % moment + ', '.join(
-            after_crash(form, Disk(disk.image(moment, choice), set(), self.room), self.limit) for choice in choices)
-            for moment in range(int(first), int(last))]
+        return ['%d: ' % moment + ', '.join(self.image_text(form, disk.image(moment, choice)) for choice in choices)
+                for moment in range(int(first), int(last))]
+
+    def image_text(self, form, image):
+        """What is told of an image."""
+        if form == 'bytes':
+            return spelled(image)
+        return after_crash(form, Disk(image, set(), self.room), self.limit)
 
     def set(self, word, rest):
-        assert self.disk is None or word == 'let', 'the disk was opened already'
+        assert self.disk is None or word == 'let', 'the disk was called already'
         if word == 'let':
             name, _, words = rest.partition(' ')
             self.names['$' + name] = words
@@ -591,6 +622,9 @@ class Scene:
         if word == 'version1':
             data = bytes_of(rest)
             return ['%d bytes: ' % len(data) + done(lambda: spelled_entries(read_version1(data)))]
+        if word in ('write', 'read', 'length', 'sync', 'faults'):
+            assert self.opened is None and not self.asked, 'the disk was opened already'
+            return [disk_answer(self.made(), word, rest)]
         assert self.opened, 'nothing is open'
         return [(journal_answer if self.form == 'journal' else store_answer)(self.opened, word, rest)]
 

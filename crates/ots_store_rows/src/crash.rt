@@ -1,7 +1,7 @@
 // The images that a crash leaves, opened anew.
 use crate::lines::{Form, split_word};
 use crate::open::{open_journal, open_store};
-use crate::spelling::{choice_of, split_number};
+use crate::spelling::{choice_of, spelled, split_number};
 use crate::start::Start;
 use crate::told;
 use crate::transcript::Transcript;
@@ -14,10 +14,10 @@ const ENTRY: u8 = 9;
 
 const COMMITMENT: u8 = 77;
 
-/// Which images, and what they are opened as.
+/// Which images, and what they are opened as; without a form their bytes are told.
 #[derive(Drop)]
 struct Wanted {
-    form: Form,
+    form: Option<Form>,
     from: u64,
     to: u64,
     choices: Vec<Choice>,
@@ -32,8 +32,9 @@ fn wanted_of(alloc: Global, text: &str) -> Result<Wanted, OutOfMemory> {
         choices.push(choice_of(choice))?;
     }
     let form = match word {
-        "store" => Form::Store,
-        _ => Form::Journal,
+        "store" => Some(Form::Store),
+        "journal" => Some(Form::Journal),
+        _ => None,
     };
     Ok(Wanted {
         form,
@@ -76,7 +77,10 @@ fn at_moment(
             text.push_str(", ")?;
         }
         let image = made.image(moment, *choice)?;
-        text.push_str(&opened(alloc, image.items(), start, wanted.form)?)?;
+        text.push_str(&match wanted.form {
+            Some(form) => opened(alloc, image.items(), start, form)?,
+            None => spelled(alloc, image.items())?,
+        })?;
     }
     Ok(text)
 }

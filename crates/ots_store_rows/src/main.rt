@@ -11,9 +11,12 @@
 //! | `let NAME WORDS` | from here on `$NAME` stands for these words |
 //! | `disk BYTES`, `fails N..` | what the disk holds, and which of its calls fail |
 //! | `limit N`, `room CALLS WRITE FILE` | how long the journal may be, and how much the disk can do |
+//! | `write PLACE BYTES`, `read PLACE COUNT`, `length`, `sync` | a call of the disk itself, before it is opened |
+//! | `faults` | how often the disk has failed, before it is opened |
 //! | `journal`, `store` | opens the disk as one; again, where one was open on it |
 //! | `left BYTES`, `calls N` | asks whether the disk holds these bytes; its calls from this one on |
 //! | `images journal FROM TO CHOICE..`, or `store` | the images of a crash in these calls but the last, as told below |
+//! | `images bytes FROM TO CHOICE..` | the bytes of these images |
 //! | `version1 BYTES` | the entries of a journal of version 1 |
 //!
 //! | line after `journal` | what is asked |
@@ -39,6 +42,7 @@
 //! with one more when it is opened once more.
 #![tactic(auto)]
 
+mod bare;
 mod crash;
 mod journal;
 mod lines;

@@ -1,4 +1,5 @@
 // A disk in memory, what is done on it, and what is asked of it afterwards.
+use crate::bare::call_each;
 use crate::crash::images;
 use crate::lines::{Line, Opening, split_word};
 use crate::run::run;
@@ -9,32 +10,52 @@ use ots_base::OutOfMemory;
 use ots_disk::{DiskCall, MadeCall, MemoryDisk};
 use std::alloc::Global;
 
-/// Makes the disk, opens it as the openings say, and answers the questions.
+/// Makes the disk, makes calls of it, opens it as the openings say, and answers the questions.
 pub fn run_on(
     alloc: Global,
     start: &Start,
+    calls: &[Line],
     openings: &[Opening],
     questions: &[Line],
 ) -> Result<Transcript, OutOfMemory> {
     let mut transcript = Transcript::new(alloc);
-    let disk = MemoryDisk::new(alloc, &start.bytes, start.room, &start.failing)?;
+    let mut disk = MemoryDisk::new(alloc, &start.bytes, start.room, &start.failing)?;
+    call_each(alloc, &mut disk, calls, &mut transcript)?;
     let made = run(alloc, disk, start.limit, openings, &mut transcript)?;
+    answer_each(alloc, &made, start, questions, &mut transcript)?;
+    Ok(transcript)
+}
+
+/// Answers each question.
+fn answer_each(
+    alloc: Global,
+    made: &MemoryDisk,
+    start: &Start,
+    questions: &[Line],
+    transcript: &mut Transcript,
+) -> Result<(), OutOfMemory> {
     for question in questions {
         transcript.repeat(question)?;
-        let (word, rest) = split_word(question.meant.as_str());
-        match word {
-            "left" => compare(
-                alloc,
-                made.bytes(),
-                &bytes_of(alloc, rest)?,
-                &mut transcript,
-            )?,
-            "calls" => list(alloc, made.calls(), number_of(rest), &mut transcript)?,
-            "images" => images(alloc, &made, start, rest, &mut transcript)?,
-            _ => (),
-        }
+        answer(alloc, made, start, question.meant.as_str(), transcript)?;
     }
-    Ok(transcript)
+    Ok(())
+}
+
+/// Answers a question.
+fn answer(
+    alloc: Global,
+    made: &MemoryDisk,
+    start: &Start,
+    question: &str,
+    transcript: &mut Transcript,
+) -> Result<(), OutOfMemory> {
+    let (word, rest) = split_word(question);
+    match word {
+        "left" => compare(alloc, made.bytes(), &bytes_of(alloc, rest)?, transcript),
+        "calls" => list(alloc, made.calls(), number_of(rest), transcript),
+        "images" => images(alloc, made, start, rest, transcript),
+        _ => Ok(()),
+    }
 }
 
 /// Tells whether the disk holds these bytes, and what it holds if not.

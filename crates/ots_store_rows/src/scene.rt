@@ -8,12 +8,13 @@ use crate::told;
 use ots_base::OutOfMemory;
 use std::alloc::Global;
 
-/// The words that have names, what the disk begins as, its openings with the calls after each, and
-/// what is asked of it at the end.
+/// The words that have names, what the disk begins as, the calls of it before it is opened, its
+/// openings with the calls after each, and what is asked of it at the end.
 #[derive(Drop)]
 pub struct Scene {
     names: Names,
     start: Start,
+    calls: Vec<Line>,
     openings: Vec<Opening>,
     questions: Vec<Line>,
 }
@@ -24,6 +25,7 @@ impl Scene {
         Scene {
             names: Names::new(alloc),
             start: Start::new(alloc),
+            calls: Vec::new(alloc),
             openings: Vec::new(alloc),
             questions: Vec::new(alloc),
         }
@@ -78,10 +80,11 @@ impl Scene {
             "left" | "calls" | "images" => self.questions.push(line)?,
             _ => match self.openings.last_mut() {
                 Some(opening) => opening.calls.push(line)?,
-                None => {
+                None if line.is_comment() && self.calls.is_empty() => {
                     let text = line.text.as_str();
                     return Ok(format!(in alloc; "{text}\n")?);
                 }
+                None => self.calls.push(line)?,
             },
         }
         Ok(String::new(alloc))
@@ -89,10 +92,12 @@ impl Scene {
 
     /// Does all that was said of the disk, and gives what is to be printed. The next disk is a new one.
     pub fn end(&mut self, alloc: Global) -> Result<String, OutOfMemory> {
+        let calls = self.calls.as_slice();
         let openings = self.openings.as_slice();
         let questions = self.questions.as_slice();
-        let transcript = run_on(alloc, &self.start, openings, questions)?;
+        let transcript = run_on(alloc, &self.start, calls, openings, questions)?;
         self.start = Start::new(alloc);
+        self.calls = Vec::new(alloc);
         self.openings = Vec::new(alloc);
         self.questions = Vec::new(alloc);
         Ok(transcript.text)

@@ -16,6 +16,11 @@ pub fn whether(alloc: Global, is_so: bool) -> Result<String, OutOfMemory> {
     words(alloc, if is_so { "so it is" } else { "no" })
 }
 
+/// That a call of a disk was done, or not.
+pub fn done(alloc: Global, is_done: bool) -> Result<String, OutOfMemory> {
+    words(alloc, if is_done { "ok" } else { "disk fault" })
+}
+
 /// A number, or that there is none.
 pub fn number(alloc: Global, found: Option<u64>) -> Result<String, OutOfMemory> {
     match found {
