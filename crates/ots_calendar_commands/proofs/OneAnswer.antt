@@ -4,6 +4,9 @@ use Rattle.std.specs.FinMap as map
 use Rattle.ots_outside.specs.Shelf.{Names}
 use Rattle.ots_journal.specs.declared.entry.Entry.{Entry}
 use Rattle.ots_journal.specs.declared.limits.TheConstants.{MAX_JOURNAL}
+use Rattle.ots_opening.specs.declared.errors.OpenError.{OpenError}
+use Rattle.ots_opening.specs.Opening.{HasRecords, RefusesStore}
+use Rattle.ots_opening.proofs.Unique.{one_gate, one_records, one_store_refusal, store_or_not}
 use Rattle.ots_calendar_text.specs.declared.status.DaemonStatus.{DaemonStatus}
 use Rattle.ots_calendar_words.specs.Words.{BatchAsked, ServingAsked, DaemonCommand, serve, batch, tip, anchor, list, migrate}
 use Rattle.ots_calendar_inputs.specs.Block.{GivesBlock, RefusesBlock}
@@ -15,12 +18,12 @@ use Rattle.ots_calendar_commands.specs.Anchor.{AnchorAnswers}
 use Rattle.ots_calendar_commands.specs.Answer.{Answers, IsAlone, WithFiles, WithInput, is_given, no_file, refuses, WithJournal, is_opened, is_refused, WithRound, WithUri, is_uri, no_uri, WithBook, WithStore}
 use Rattle.ots_calendar_commands.specs.Batch.{Happens, RoundAnswers}
 use Rattle.ots_calendar_commands.specs.RunEnd.{RunEnd, refused}
-use Rattle.ots_calendar_commands.specs.Found.{HasBook, HasRecords, RefusesBook, RefusesStore}
+use Rattle.ots_calendar_commands.specs.Found.{HasBook, RefusesBook, open_status}
 use Rattle.ots_calendar_commands.specs.Migrate.{MigrateAnswers}
 use Rattle.ots_calendar_commands.specs.Tip.{TipAnswers}
 use Rattle.ots_calendar_commands.proofs.OneRound.{one_batch}
 use Rattle.ots_calendar_commands.proofs.OneAnchor.{one_anchor}
-use Rattle.ots_calendar_commands.proofs.OneBook.{one_gate, one_records, one_book, one_store_refusal, one_book_refusal, store_or_not, book_or_not}
+use Rattle.ots_calendar_commands.proofs.OneBook.{one_book, one_book_refusal, book_or_not}
 use Rattle.ots_calendar_commands.proofs.OneEnding.{one_migration, one_tip}
 
 -- the bytes under a name are the only ones
@@ -51,19 +54,19 @@ module _ {A : Type 0} (names : Names) (name : List ℕ) (Gives : List ℕ → A 
   one_input P d e one (refuses s (b, at, bad) f) (refuses t (c, too, other) g) =
       f ∙ ap (refused name) (one_refused b s t bad (subst (λ (z : List ℕ). Refuses z t) (one_under names name c b too at) other)) ∙ sym g
 
--- A journal is opened in one way, where its bytes have one list of entries and one gate, or are refused with one status.
-module _ (bytes : List ℕ) (Has : Option (List ℕ) → List Entry → Type 0) (Refuses : Option (List ℕ) → DaemonStatus → Type 0)
-    (one_list : (es fs : List Entry) → Has (Some bytes) es → Has (Some bytes) fs → es ≡ fs) (one_refused : (s t : DaemonStatus) → Refuses (Some bytes) s → Refuses (Some bytes) t → s ≡ t)
-    (not_both : (es : List Entry) (s : DaemonStatus) → Has (Some bytes) es → Refuses (Some bytes) s → ⊥) where
+-- A journal is opened in one way, where its bytes have one list of entries and one gate, or are refused with one error.
+module _ (bytes : List ℕ) (Has : Option (List ℕ) → List Entry → Type 0) (Refuses : Option (List ℕ) → OpenError → Type 0)
+    (one_list : (es fs : List Entry) → Has (Some bytes) es → Has (Some bytes) fs → es ≡ fs) (one_refused : (v w : OpenError) → Refuses (Some bytes) v → Refuses (Some bytes) w → v ≡ w)
+    (not_both : (es : List Entry) (w : OpenError) → Has (Some bytes) es → Refuses (Some bytes) w → ⊥) where
   one_journal : (P : ℕ → List Entry → RunEnd → Type 0) (d e : RunEnd) → ((gate : ℕ) (entries : List Entry) → Has (Some bytes) entries → P gate entries d → P gate entries e → d ≡ e)
       → WithJournal Has Refuses (Some bytes) P d → WithJournal Has Refuses (Some bytes) P e → d ≡ e
   one_journal P d e one (is_opened g es has at h) (is_opened g' fs has' at' k) =
       let gates : g ≡ g' = one_gate bytes g g' at at' in
       let lists : es ≡ fs = one_list es fs has has' in
       one g' fs has' (subst (λ (z : List Entry). P g' z d) lists (subst (λ (z : ℕ). P z es d) gates h)) k
-  one_journal P d e one (is_opened g es has at h) (is_refused t bad k) = absurd (not_both es t has bad)
-  one_journal P d e one (is_refused s bad f) (is_opened g' fs has' at' k) = absurd (not_both fs s has' bad)
-  one_journal P d e one (is_refused s bad f) (is_refused t other k) = f ∙ ap (refused []) (one_refused s t bad other) ∙ sym k
+  one_journal P d e one (is_opened g es has at h) (is_refused w bad k) = absurd (not_both es w has bad)
+  one_journal P d e one (is_refused v bad f) (is_opened g' fs has' at' k) = absurd (not_both fs v has' bad)
+  one_journal P d e one (is_refused v bad f) (is_refused w other k) = f ∙ ap (λ (z : OpenError). refused [] (open_status z)) (one_refused v w bad other) ∙ sym k
 
 with_book : (bytes : List ℕ) (P : ℕ → List Entry → RunEnd → Type 0) (d e : RunEnd) → ((gate : ℕ) (entries : List Entry) → HasBook (Some bytes) entries → P gate entries d → P gate entries e → d ≡ e)
     → WithBook (Some bytes) P d → WithBook (Some bytes) P e → d ≡ e

@@ -14,6 +14,8 @@ use Rattle.ots_calendar_text.specs.declared.status.DaemonStatus.{DaemonStatus}
 use Rattle.ots_calendar_text.specs.declared.status.DaemonStatus.TheVariants.{Done, Usage, OutOfMemory}
 use Rattle.ots_calendar_words.specs.Words.{DaemonCommand, ServingAsked}
 use Rattle.ots_store.specs.Order.{records_of}
+use Rattle.ots_opening.specs.declared.errors.OpenError.{OpenError}
+use Rattle.ots_opening.specs.Opening.{AreEntries, Closes, MayClose, is_refused, disk_failed as failed, no_memory as no_room, Opens}
 use Rattle.ots_calendar_commands.specs.declared.task.Task.{Task}
 use Rattle.ots_calendar_commands.specs.List.{list_text}
 use Rattle.ots_calendar_commands.specs.Task.{TaskAdds, TaskAnswers}
@@ -24,8 +26,10 @@ use Rattle.ots_calendar_commands.specs.RunEnd.{Comes, as_defined, not_read, disk
 use Rattle.ots_outside.specs.Shelf.{Names, ShelfFaults, ShelfTold}
 use Rattle.ots_calendar_commands.specs.Anchor.{AnchorAnswers}
 use Rattle.ots_calendar_commands.specs.Files.{ReadsShelf, names_read}
-use Rattle.ots_calendar_commands.specs.Found.{AreEntries, Closes, MayClose, is_refused, disk_failed as failed, no_memory as no_room, HasBook, Opens, OpensBook, RefusesBook}
-use Rattle.ots_calendar_commands.specs.Moments.{IsOnlyImage, KeepsFound, OpenedOrRan, StandsAfter, StandsWith}
+use Rattle.ots_calendar_commands.specs.Found.{HasBook, IsStatusOf, OpensBook, RefusesBook, open_status}
+use Rattle.ots_calendar_commands.specs.Moments.{KeepsFound, OpenedOrRan, StandsWith}
+use Rattle.ots_opening.specs.Images.{IsOnlyImage, StandsAfter}
+use Rattle.ots_opening.proofs.Images.{found_once, opened_stands}
 use Rattle.ots_calendar_commands.specs.Printed.{PrintsLast}
 use Rattle.ots_inputs.specs.Opened.{StopsAt, not_opened, opened_last}
 
@@ -42,7 +46,7 @@ comes_as e p rose (no_memory is) = no_memory is
 -- ---- what is done on a journal that was opened
 
 module _ {D : Type 0} (bytes : D → Option (List ℕ)) (faults clock : D → ℕ) (images : D → List ℕ → Type 0) (images_since : D → ℕ → List ℕ → Type 0) where
-  module _ (Has : Option (List ℕ) → List Entry → Type 0) (Refuses : Option (List ℕ) → DaemonStatus → Type 0) (answers : ℕ → List Entry → RunEnd → Type 0) (printing : Type 0) (taken now : Option (List ℕ)) (r : DaemonStatus) where
+  module _ (Has : Option (List ℕ) → List Entry → Type 0) (Refuses : Option (List ℕ) → OpenError → Type 0) (answers : ℕ → List Entry → RunEnd → Type 0) (printing : Type 0) (taken now : Option (List ℕ)) (r : DaemonStatus) where
     pub journal_ends : (disk : D) (j : JournalTold D) (last new : D) → new ≡ last → Opens bytes faults clock images images_since disk j → Has (bytes disk) j.entries
         → Ends (Comes (answers j.gate j.entries) nowhere (Rose (faults j.disk) (faults last))) (images last) printing taken now r
         → Ends (Comes (WithJournal Has Refuses (bytes disk) answers) nowhere (Rose (faults disk) (faults new))) (images new) printing taken now r
@@ -54,15 +58,15 @@ module _ {D : Type 0} (bytes : D → Option (List ℕ)) (faults clock : D → �
           printed = h.printed;
         })
 
-    pub no_journal : (disk new : D) (s : DaemonStatus) → Closes bytes faults clock images images_since Refuses disk new s
+    pub no_journal : (disk new : D) (s : DaemonStatus) → IsStatusOf (Closes bytes faults clock images images_since Refuses disk new) s
         → PrintsLast printing s (refusal_text [] s) taken now r
         → Ends (Comes (WithJournal Has Refuses (bytes disk) answers) nowhere (Rose (faults disk) (faults new))) (images new) printing taken now r
-    no_journal disk new s closes printed = record { ending = refused [] s; comes = by closes.why; stand = tt; printed = printed }
+    no_journal disk new s closes printed = record { ending = refused [] s; comes = by closes.such.why; stand = tt; printed = printed }
       where
-        by : MayClose (Refuses (bytes disk)) (Rose (faults disk) (faults new)) s → Comes (WithJournal Has Refuses (bytes disk) answers) nowhere (Rose (faults disk) (faults new)) (refused [] s)
-        by (is_refused h) = as_defined (not_opened s h refl)
-        by (failed rose is) = disk_failed rose (ap (refused []) is)
-        by (no_room is) = no_memory (ap (refused []) is)
+        by : MayClose (Refuses (bytes disk)) (Rose (faults disk) (faults new)) closes.error → Comes (WithJournal Has Refuses (bytes disk) answers) nowhere (Rose (faults disk) (faults new)) (refused [] s)
+        by (is_refused h) = as_defined (not_opened closes.error h (ap (refused []) closes.status))
+        by (failed rose fault) = disk_failed rose (ap (refused []) (closes.status ∙ ap open_status fault))
+        by (no_room none) = no_memory (ap (refused []) (closes.status ∙ ap open_status none))
 
   module _ (answers : ℕ → List Entry → RunEnd → Type 0) (printing : Type 0) (taken now : Option (List ℕ)) (r : DaemonStatus) where
     pub opened_ends : (disk : D) (j : JournalTold D) (last new : D) → new ≡ last → OpensBook bytes faults clock images images_since disk j
@@ -71,7 +75,7 @@ module _ {D : Type 0} (bytes : D → Option (List ℕ)) (faults clock : D → �
     opened_ends disk j last new same opens h =
         journal_ends HasBook RefusesBook answers printing taken now r disk j last new same opens.store (record { store = opens.store.has; are_true = opens.are_true }) h
 
-    pub closed_ends : (disk new : D) (s : DaemonStatus) → Closes bytes faults clock images images_since RefusesBook disk new s
+    pub closed_ends : (disk new : D) (s : DaemonStatus) → IsStatusOf (Closes bytes faults clock images images_since RefusesBook disk new) s
         → PrintsLast printing s (refusal_text [] s) taken now r
         → Ends (Comes (WithBook (bytes disk) answers) nowhere (Rose (faults disk) (faults new))) (images new) printing taken now r
     closed_ends disk new s closes printed = no_journal HasBook RefusesBook answers printing taken now r disk new s closes printed
@@ -174,18 +178,10 @@ refused_as printing taken now s t r is printed = subst (λ (z : DaemonStatus). P
 
 -- ---- a crash, where there was one image
 
-stands_short : (b c : List ℕ) (entries : List Entry) → length b ≤ 9 → length c ≤ 9 → Stands b entries → Stands c entries
-stands_short b c entries short shorter (inl (le, none)) = inl (shorter, none)
-stands_short b c entries short shorter (inr long) = absurd (let l = long.long in omega arith)
-
 pub crash_leaves : (told : Option (List ℕ)) (images : List ℕ → Type 0) (adds : List Entry → List Entry → Type 0) (entries : List Entry) → IsOnlyImage told images entries
     → (c : List ℕ) → OpenedOrRan told images adds c → StandsWith (adds entries) entries c
-crash_leaves told images adds entries one c (inl (inl image)) = inl (subst (λ (z : List ℕ). Stands z entries) (sym (one.only c image)) one.stand)
-crash_leaves told images adds entries one c (inl (inr (short, (d, image, also)))) =
-    inl (stands_short one.bytes c entries (subst (λ (z : List ℕ). length z ≤ 9) (one.only d image) also) short one.stand)
-crash_leaves told images adds entries one c (inr (found, are, stands)) =
-    let stand : Stands one.bytes found = subst (λ (z : Option (List ℕ)). AreEntries z found) one.is_told are in
-    subst (λ (z : List Entry). StandsWith (adds z) z c) (stands_once one.bytes found entries stand one.stand) stands
+crash_leaves told images adds entries one c (inl opened) = inl (opened_stands told images entries one c opened)
+crash_leaves told images adds entries one c (inr (found, are, stands)) = subst (λ (z : List Entry). StandsWith (adds z) z c) (found_once told images entries one found are) stands
 
 -- an image stands for entries after those found
 following : (adds : List Entry → Type 0) (entries : List Entry) (c : List ℕ) → StandsWith adds entries c → StandsAfter entries c
@@ -204,9 +200,7 @@ module _ {D : Type 0} (clock : D → ℕ) (images : D → List ℕ → Type 0) (
   pub still_kept : LeavesOnly clock images_since old new (OpenedOrRan told (images old) adds) ⊎ (serves × KeepsFound told (images new)) → (c : List ℕ) → images new c → StandsAfter entries c
   still_kept (inl moments) c image =
       following (adds entries) entries c (crash_leaves told (images old) adds entries one c (moments.each c (counts_now new (clock old) c moments.later image)))
-  still_kept (inr (asked, (found, are, each))) c image =
-      let stand : Stands one.bytes found = subst (λ (z : Option (List ℕ)). AreEntries z found) one.is_told are in
-      subst (λ (z : List Entry). StandsAfter z c) (stands_once one.bytes found entries stand one.stand) (each c image)
+  still_kept (inr (asked, (found, are, each))) c image = subst (λ (z : List Entry). StandsAfter z c) (found_once told (images old) entries one found are) (each c image)
 
 -- ---- a round, by the journal's limit
 

@@ -24,7 +24,7 @@ use Rattle.ots_calendar_text.specs.declared.status.DaemonStatus.{DaemonStatus}
 use Rattle.ots_calendar_text.specs.declared.status.DaemonStatus.TheVariants.{WriteFault, AcceptFault}
 use Rattle.ots_calendar_commands.specs.Answer.{WithInput, is_given, no_file, refuses, WithService, is_uri, no_uri}
 use Rattle.ots_calendar_commands.specs.RunEnd.{Comes, as_defined, no_memory, RunEnd, Ends, declined, nowhere, refused, status_of}
-use Rattle.ots_calendar_commands.specs.Moments.{StandsAfter}
+use Rattle.ots_opening.specs.Images.{StandsAfter}
 use Rattle.ots_calendar_commands.specs.Printed.{PrintsLast}
 use Rattle.ots_workers.specs.declared.serving.ServeEnd.{ServeEnd as Served}
 use Rattle.ots_workers.specs.declared.serving.ServeEnd.TheVariants as ended

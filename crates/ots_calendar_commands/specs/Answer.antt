@@ -5,6 +5,8 @@ use Rattle.ots_outside.specs.Shelf.{Names}
 use Rattle.ots_journal.specs.declared.entry.Entry.{Entry}
 use Rattle.ots_journal.specs.declared.limits.TheConstants.{MAX_JOURNAL}
 use Rattle.ots_store.specs.Order.{records_of}
+use Rattle.ots_opening.specs.declared.errors.OpenError.{OpenError}
+use Rattle.ots_opening.specs.Opening.{HasGate, HasRecords, RefusesStore}
 use Rattle.ots_calendar_text.specs.declared.status.DaemonStatus.{DaemonStatus}
 use Rattle.ots_calendar_text.specs.declared.status.DaemonStatus.TheVariants.{NoFile, Usage}
 use Rattle.ots_calendar_words.specs.Words.{AnchoringAsked, BatchAsked, ServingAsked, DaemonCommand, serve, batch, tip}
@@ -17,7 +19,7 @@ use Rattle.ots_calendar_inputs.specs.Old.{GivesOld, RefusesOld}
 use Rattle.ots_calendar_commands.specs.Anchor.{AddsAnchor, AnchorAnswers}
 use Rattle.ots_calendar_commands.specs.Batch.{AddsRound, DrawsFor, Outside, RoundAnswers}
 use Rattle.ots_calendar_commands.specs.RunEnd.{RunEnd, done, refused}
-use Rattle.ots_calendar_commands.specs.Found.{HasBook, HasGate, HasRecords, HasSomeBook, RefusesBook, RefusesStore}
+use Rattle.ots_calendar_commands.specs.Found.{HasBook, HasSomeBook, RefusesBook, open_status}
 use Rattle.ots_calendar_commands.specs.List.{list_text}
 use Rattle.ots_calendar_commands.specs.Migrate.{AddsPrefix, MigrateAnswers}
 use Rattle.ots_calendar_commands.specs.Tip.{AddsTip, TipAnswers}
@@ -25,12 +27,13 @@ use Rattle.ots_inputs.specs.Under.{HasUnder, IsUnder}
 
 -- The journal is opened, as what is asked of its entries: it is refused, or the command goes on with them and the place
 -- of its closed gate.
-pub data WithJournal (Has : Option (List ℕ) → List Entry → Type 0) (Refuses : Option (List ℕ) → DaemonStatus → Type 0)
+pub data WithJournal (Has : Option (List ℕ) → List Entry → Type 0) (Refuses : Option (List ℕ) → OpenError → Type 0)
     (told : Option (List ℕ))
     (goes_on : ℕ → List Entry → RunEnd → Type 0) (e : RunEnd) : Type 0 where
   is_opened : (gate : ℕ) (entries : List Entry) → Has told entries → HasGate told gate → goes_on gate entries e
       → WithJournal Has Refuses told goes_on e
-  is_refused : (s : DaemonStatus) → Refuses told s → e ≡ refused [] s → WithJournal Has Refuses told goes_on e
+  is_refused : (why : OpenError) → Refuses told why → e ≡ refused [] (open_status why)
+      → WithJournal Has Refuses told goes_on e
 
 -- as a book
 abbrev pub WithBook : Option (List ℕ) → (ℕ → List Entry → RunEnd → Type 0) → RunEnd → Type 0

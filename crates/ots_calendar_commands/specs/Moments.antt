@@ -1,9 +1,10 @@
 -- What a crash may leave at a moment of a run.
-use Rattle.std.specs.Prelude.{◌≡◌, ◌⊎◌, ℕ, List, ◌++◌, Option, Some}
+use Rattle.std.specs.Prelude.{◌⊎◌, ℕ, List, ◌++◌, Option}
 use Rattle.ots_journal.specs.declared.entry.Entry.{Entry}
 use Rattle.ots_journal.specs.Image.{Stands}
 use Rattle.ots_journal.specs.Opening.{OpenedFrom}
-use Rattle.ots_calendar_commands.specs.Found.{AreEntries}
+use Rattle.ots_opening.specs.Images.{StandsAfter}
+use Rattle.ots_opening.specs.Opening.{AreEntries}
 
 -- An image stands for these entries, or for these and what may be added.
 abbrev pub StandsWith : (List Entry → Type 0) → List Entry → List ℕ → Type 0
@@ -14,18 +15,7 @@ abbrev pub OpenedOrRan : Option (List ℕ) → (List ℕ → Type 0) → (List E
 OpenedOrRan told images may_add c = OpenedFrom images c ⊎ ((entries : List Entry) × AreEntries told entries
     × StandsWith (may_add entries) entries c)
 
--- An image stands for entries that begin with these.
-abbrev pub StandsAfter : List Entry → List ℕ → Type 0
-StandsAfter entries c = (later : List Entry) × Stands c (entries ++ later)
-
 -- Each image stands for entries that begin with those found.
 abbrev pub KeepsFound : Option (List ℕ) → (List ℕ → Type 0) → Type 0
 KeepsFound told images = (entries : List Entry) × AreEntries told entries
     × ((c : List ℕ) → images c → StandsAfter entries c)
-
--- What is read stands for these entries, and a crash now leaves nothing else.
-pub record IsOnlyImage (told : Option (List ℕ)) (images : List ℕ → Type 0) (entries : List Entry) : Type 0 where
-  pub bytes : List ℕ
-  pub is_told : told ≡ Some bytes
-  pub stand : Stands bytes entries
-  pub only : (c : List ℕ) → images c → c ≡ bytes

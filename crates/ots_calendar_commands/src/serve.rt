@@ -10,7 +10,8 @@ ghost use Rattle.ots_calendar_words.specs.Words.{read_serving};
 ghost use Rattle.ots_calendar_commands.specs.Answer.{WithBook};
 ghost use Rattle.ots_calendar_commands.specs.RunEnd.{Comes, Ends, nowhere};
 ghost use Rattle.ots_calendar_commands.specs.Found.{HasSomeBook};
-ghost use Rattle.ots_calendar_commands.specs.Moments.{KeepsFound, StandsAfter};
+ghost use Rattle.ots_calendar_commands.specs.Moments.{KeepsFound};
+ghost use Rattle.ots_opening.specs.Images.{StandsAfter};
 ghost use Rattle.ots_calendar_commands.specs.Serve.{Listens, ServeAnswers, Tells, serving_status};
 ghost use Rattle.ots_outputs.specs.Printed.{SinkStays};
 

@@ -5,16 +5,15 @@
 
 use ots_file::{FileDisk, SystemFile};
 use ots_io::{DirShelf, RngNonces, StdSink, SystemClock, TcpAccepter};
+use ots_program_words::{first_word, read_words};
 use ots_server::{DaemonStatus, run_calendar};
 use ots_standard_streams::StandardStreams;
 use rand::rngs::SysRng;
 use std::alloc::{AllocError, Global};
-use std::io::ErrorKind;
+use std::io;
 use std::process::ExitCode;
-use std::rt::Env;
 use std::sync::Wait;
 use std::thread::Threads;
-use std::{env, io};
 
 /// Runs the calendar on the words after the program's name, and answers the number of its status as
 /// an exit code. Connections are served in threads of `threads`, which is the same runtime as `main`
@@ -49,7 +48,7 @@ fn run(
     alloc: Global,
     words: &[String],
 ) -> Result<DaemonStatus, AllocError> {
-    let disk = FileDisk::new(SystemFile::new(rt, journal_name(alloc, words)?));
+    let disk = FileDisk::new(SystemFile::new(rt, first_word(alloc, words)?));
     let mut shelf = DirShelf::new(rt, alloc);
     let mut out = StdSink::new(io::writer(rt));
     let (status, _returned) = run_calendar(
@@ -64,22 +63,4 @@ fn run(
         RngNonces::new(SysRng::new(rt)),
     );
     Ok(status)
-}
-
-/// The name of the journal's file: the first word, or the empty name.
-fn journal_name(alloc: Global, words: &[String]) -> Result<String, AllocError> {
-    match words.first() {
-        Some(word) => String::from_str(alloc, word),
-        None => Ok(String::new(alloc)),
-    }
-}
-
-/// The words after the program's name. Where one of them is not UTF-8 there are none, which is a
-/// faulty command line too.
-fn read_words(rt: &(impl Env + AllocGlobal), alloc: Global) -> Result<Vec<String>, AllocError> {
-    match env::args(rt) {
-        Ok(words) => words.skip(1).collect(alloc),
-        Err(error) if error.kind() == ErrorKind::OutOfMemory => Err(AllocError),
-        Err(_) => Ok(Vec::new(alloc)),
-    }
 }

@@ -23,7 +23,7 @@ use Rattle.ots_outside.specs.Dialer.{DialerTold}
 use Rattle.ots_outside.specs.Shelf.{Names}
 use Rattle.ots_tree.specs.declared.detached.Detached.{Detached}
 use Rattle.ots_address.specs.Address.{AddressParts}
-use Rattle.ots_upgrade.specs.Conversation.{Converse, ConverseUpTo, KeepsTold, Question}
+use Rattle.ots_upgrade.specs.Conversation.{Converse, ConverseUpTo, Question}
 use Rattle.ots_upgrade.specs.Upgrading.{UpgradesProof, UpgradesUpTo, outcomes, questions}
 use Rattle.ots_upgrade.specs.declared.outcome.Outcome.{Outcome}
 use Rattle.ots_upgrade.specs.declared.upgrading.Upgraded.{Upgraded}
@@ -36,7 +36,7 @@ use Rattle.ots_cli.specs.declared.inputs.Inputs.TheVariants as inputs
 use Rattle.ots_client_words.specs.Words.{ClientCommand, Stamping, Upgrading, info, canon, merge, prune, verify, stamp, upgrade, sample, chain}
 
 module _ {D : Type 0} (told : D → DialerTold) (faults : D → ℕ) where
-  same_told : (old new : D) → new ≡ old → KeepsTold told faults old new
+  same_told : (old new : D) → new ≡ old → ConverseUpTo told faults [] old new
   same_told old new is = record {
     sent = ap (λ d. (told d).sent) is;
     replies = ap (λ d. (told d).replies) is;

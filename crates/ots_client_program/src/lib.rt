@@ -5,13 +5,12 @@
 
 use ots_cli::{Status, run_client};
 use ots_io::{DirShelf, RngNonces, StdSink, TcpDialer};
+use ots_program_words::read_words;
 use ots_standard_streams::StandardStreams;
 use rand::rngs::SysRng;
 use std::alloc::{AllocError, Global};
-use std::io::ErrorKind;
+use std::io;
 use std::process::ExitCode;
-use std::rt::Env;
-use std::{env, io};
 
 /// Runs the client on the words after the program's name, and answers the number of its status as an
 /// exit code.
@@ -40,14 +39,4 @@ fn run(rt: &HostRuntime, alloc: Global, words: &[String]) -> Status {
     let mut dialer = TcpDialer::new(rt, alloc);
     let mut nonces = RngNonces::new(SysRng::new(rt));
     run_client(alloc, words, &mut shelf, &mut out, &mut dialer, &mut nonces)
-}
-
-/// The words after the program's name. Where one of them is not UTF-8 there are none, which is a
-/// faulty command line too.
-fn read_words(rt: &(impl Env + AllocGlobal), alloc: Global) -> Result<Vec<String>, AllocError> {
-    match env::args(rt) {
-        Ok(words) => words.skip(1).collect(alloc),
-        Err(error) if error.kind() == ErrorKind::OutOfMemory => Err(AllocError),
-        Err(_) => Ok(Vec::new(alloc)),
-    }
 }

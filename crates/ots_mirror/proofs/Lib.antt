@@ -1,3 +1,7 @@
-pub mod Honest
-pub mod Offering
-pub mod Reading
+pub mod Asked
+pub mod Empty
+pub mod Ending
+pub mod Grouping
+pub mod Honestly
+pub mod Making
+pub mod Running

@@ -1,2 +1,7 @@
-pub mod Page
+pub mod Asking
+pub mod Group
+pub mod Honest
+pub mod Printed
 pub mod Round
+pub mod Rounds
+pub mod Run

@@ -1,22 +1,25 @@
-//! A mirror of a calendar's records: the pages that a calendar hands out, as they are read, and what a mirror takes of
-//! them.
+//! A mirror of a calendar's records: what `otsmirror` does with its words, the disk, the sink and
+//! the dialer, proved, so that the program only makes the real objects and calls it.
+//!
+//! [`run_mirror`] reads the words, then the address, then opens the journal and its store, and then
+//! makes rounds. Each asks the calendar for the page at the mirror's own count of records, and adds
+//! its entries as one group.
 //!
 //! | name | what it is |
 //! |---|---|
-//! | [`read_page`] | the number and the entries that a page has, or that bytes are no page |
-//! | [`Page`], [`Entries`] | these |
-//! | [`offer_of`] | what the body of a reply offers to a mirror that has the records of a store |
-//! | [`Offer`] | entries that may follow, none, or nothing that is taken |
+//! | [`run_mirror`], [`MirrorStatus`] | a run, and how it ended |
+//! | [`calendars_replies_are_honest`], [`other_replies_are_honest`] | the laws that the premise of a crash is met |
+//! | [`read_page`], [`Page`], [`Entries`], [`PageError`] | the page that bytes are |
 #![tactic(auto)]
 
-mod entries;
 mod laws;
-mod offer;
 mod page;
+mod printing;
+mod round;
+mod rounds;
+mod run;
 
-pub use entries::Entries;
-pub use laws::{
-    calendars_are_honest, honest_pages_are_followed, one_page, pages_are_read, pages_go_on,
-};
-pub use offer::{Offer, offer_of};
-pub use page::{Page, PageError, read_page};
+pub use laws::{calendars_replies_are_honest, other_replies_are_honest};
+pub use ots_mirror_pages::{Entries, Page, PageError, read_page};
+pub use ots_mirror_words::MirrorStatus;
+pub use run::run_mirror;

@@ -1,123 +1,109 @@
-//! A page of a calendar's records, as it is read.
-ghost use Rattle.std.specs.Prelude.{◌≡◌, ◌<◌, ◌^◌, ◌++◌, ℕ, List, Err, IfOk, IfNone, IfSome};
-ghost use Rattle.std.specs.Int.{w64, to_be_bytes};
-ghost use Rattle.ots_journal.specs.declared.entry.Entry.{Entry as AnyEntry};
-ghost use Rattle.ots_mirror.specs.Page.{AreEntries, BeginsWith, IsPage};
-ghost use Rattle.ots_mirror.specs.declared.page.PageError.TheVariants.{OutOfMemory};
+//! What a round takes of a reply.
+ghost use Rattle.std.specs.Prelude.{◌≡◌, ◌≤◌, ℕ, List, true, length, MatchResult};
+ghost use Rattle.ots_base.specs.Cause.{Rose};
+ghost use Rattle.ots_journal.specs.Image.{FitsGroup, Stands};
+ghost use Rattle.ots_store.specs.Order.{AreRecords, records_of};
+ghost use Rattle.ots_mirror_pages.specs.Round.{Takes};
+ghost use Rattle.ots_mirror.specs.Group.{Adds, AddsGroup, Stops, append_status};
+ghost use Rattle.ots_mirror.specs.Round.{TakesBody, TakesGroup, TakesReply, without_reply};
 
-use crate::Entries;
-use ots_journal::Entry;
-use ots_outside::Bytes;
-use ots_store::MAX_PAGE_ENTRIES;
-use std::alloc::{AllocError, Global};
+use ots_base::OutOfMemory;
+use ots_disk::Disk;
+use ots_http::{HttpReply, ReplyError};
+use ots_journal::{AppendError, Entry};
+use ots_mirror_pages::{Offer, offer_of};
+use ots_mirror_words::{MirrorStatus, RoundOutcome};
+use ots_store::Store;
+use std::alloc::Global;
 
-/// A page of a calendar's records.
-#[derive(Debug, Drop)]
-pub struct Page {
-    /// The number of the first record, counted from 0.
-    pub first: u64,
-    /// The entries of the records from that number on: at most
-    /// [`MAX_PAGE_ENTRIES`](ots_store::MAX_PAGE_ENTRIES), 128.
-    pub entries: Entries,
-}
-
-/// Why no page was read.
-#[derive(Clone, Copy, Debug, PartialEq, Eq)]
-pub enum PageError {
-    /// The bytes are no page.
-    BadPage,
-    /// Memory ran out.
-    OutOfMemory,
-}
-
-impl From<AllocError> for PageError {
-    ghost from_gives = { λ _ e. e ≡ OutOfMemory };
-
-    fn from(_: AllocError) -> Self {
-        PageError::OutOfMemory
+/// Takes the page that a reply has into a sure store, and answers what came of the round, or why the
+/// run stops.
+pub fn take_reply<D: Disk>(
+    alloc: Global,
+    read: Result<HttpReply, ReplyError>,
+    store: &mut Store<D>,
+) -> Result<RoundOutcome, MirrorStatus>
+    requires known { store.old.records ≡ records_of store.old.journal.entries }
+    requires sure { store.old.journal.is_sure ≡ true }
+    requires stands { (c : List ℕ) → D.images store.old.journal.disk c → Stands c store.old.journal.entries }
+    ensures taken { MatchResult result
+        (λ outcome. AddsGroup D.clock D.images D.images_since (TakesReply store.old.records read outcome)
+        store.old.journal store.new.journal)
+        (Stops D.clock D.images_since (Rose (D.faults store.old.journal.disk) (D.faults store.new.journal.disk))
+        (TakesGroup (TakesReply store.old.records read)) store.old.journal store.new.journal) }
+    ensures known { store.new.records ≡ records_of store.new.journal.entries }
+    ensures later { D.faults store.old.journal.disk ≤ D.faults store.new.journal.disk }
+{
+    match read {
+        Ok(HttpReply::Good(body)) => take_body(alloc, body.items(), store),
+        Ok(HttpReply::Status(code)) => Ok(RoundOutcome::Status(code)),
+        Err(why) => without_reply(why),
     }
 }
 
-impl From<ots_base::OutOfMemory> for PageError {
-    ghost from_gives = { λ _ e. e ≡ OutOfMemory };
-
-    fn from(_: ots_base::OutOfMemory) -> Self {
-        PageError::OutOfMemory
+/// What came of a round in which no reply was read. Want of memory stops the run.
+fn without_reply(why: ReplyError) -> Result<RoundOutcome, MirrorStatus>
+    ensures { result ≡ without_reply why }
+{
+    match why {
+        ReplyError::TooLong => Ok(RoundOutcome::TooLong),
+        ReplyError::BadHttp => Ok(RoundOutcome::BadHttp),
+        ReplyError::LinkFault => Ok(RoundOutcome::Unreachable),
+        ReplyError::OutOfMemory => Err(MirrorStatus::OutOfMemory),
     }
 }
 
-/// The page that bytes are: the number of its first record in 8 big-endian bytes, and then 0 to 128
-/// entries, each its kind in one byte, the length of its payload in 4 big-endian bytes, and the
-/// payload. What an entry spells is not looked at.
-///
-/// `BadPage` exactly where the bytes are no page for any number.
-pub fn read_page(alloc: Global, bytes: &[u8]) -> Result<Page, PageError>
-    ensures page { IfOk result (λ page. IsPage bytes.now page.first page.entries) }
-    ensures bad { result ≡ Err PageError.BadPage → (first : ℕ) (entries : List AnyEntry)
-        → IsPage bytes.now first entries → ⊥ }
+/// Takes the page that a body is.
+fn take_body<D: Disk>(
+    alloc: Global,
+    body: &[u8],
+    store: &mut Store<D>,
+) -> Result<RoundOutcome, MirrorStatus>
+    requires known { store.old.records ≡ records_of store.old.journal.entries }
+    requires sure { store.old.journal.is_sure ≡ true }
+    requires stands { (c : List ℕ) → D.images store.old.journal.disk c → Stands c store.old.journal.entries }
+    ensures taken { MatchResult result
+        (λ outcome. AddsGroup D.clock D.images D.images_since (TakesBody store.old.records body.now outcome)
+        store.old.journal store.new.journal)
+        (Stops D.clock D.images_since (Rose (D.faults store.old.journal.disk) (D.faults store.new.journal.disk))
+        (TakesGroup (TakesBody store.old.records body.now)) store.old.journal store.new.journal) }
+    ensures known { store.new.records ≡ records_of store.new.journal.entries }
+    ensures later { D.faults store.old.journal.disk ≤ D.faults store.new.journal.disk }
 {
-    match split_number(bytes) {
-        None => Err(PageError::BadPage),
-        Some((first, rest)) => Ok(Page {
-            first,
-            entries: read_entries(alloc, rest)?,
-        }),
+    match offer_of(alloc, body, store) {
+        Ok(Offer::New(entries)) => add_page(entries.items(), store),
+        Ok(Offer::Current) => Ok(RoundOutcome::Current),
+        Ok(Offer::BadPage) => Ok(RoundOutcome::BadPage),
+        Err(OutOfMemory) => Err(MirrorStatus::OutOfMemory),
     }
 }
 
-/// The number that bytes begin with, and the bytes after it.
-fn split_number(bytes: &[u8]) -> Option<(u64, &[u8])>
-    ensures some { IfSome result (λ r. bytes.now ≡ to_be_bytes w64 r.0 ++ r.1.now) }
-    ensures none { IfNone result ((number : ℕ) (rest : List ℕ) → bytes.now ≡ to_be_bytes w64 number ++ rest → ⊥) }
+/// Adds the entries of a page as one group.
+fn add_page<D: Disk>(entries: &[Entry], store: &mut Store<D>) -> Result<RoundOutcome, MirrorStatus>
+    requires sure { store.old.journal.is_sure ≡ true }
+    requires fits { FitsGroup entries.now }
+    requires follow { AreRecords store.old.records entries.now }
+    ensures taken { (body : List ℕ) → Takes store.old.records body entries.now → MatchResult result
+        (λ outcome. AddsGroup D.clock D.images D.images_since (TakesBody store.old.records body outcome)
+        store.old.journal store.new.journal)
+        (Stops D.clock D.images_since (Rose (D.faults store.old.journal.disk) (D.faults store.new.journal.disk))
+        (TakesGroup (TakesBody store.old.records body)) store.old.journal store.new.journal) }
+    ensures known { store.new.records ≡ records_of store.new.journal.entries }
+    ensures later { D.faults store.old.journal.disk ≤ D.faults store.new.journal.disk }
 {
-    let [a, b, c, d, e, f, g, h, rest @ ..] = bytes else {
-        return None;
-    };
-    Some((u64::from_be_bytes([*a, *b, *c, *d, *e, *f, *g, *h]), rest))
-}
-
-/// The entries that bytes are.
-fn read_entries(alloc: Global, bytes: &[u8]) -> Result<Entries, PageError>
-    ensures entries { IfOk result (AreEntries bytes.now) }
-    ensures bad { result ≡ Err PageError.BadPage → (entries : List AnyEntry) → AreEntries bytes.now entries → ⊥ }
-{
-    let mut entries = Entries::new(alloc);
-    let mut left = bytes;
-    while !left.is_empty() {
-        if entries.items().len() as u64 == MAX_PAGE_ENTRIES {
-            return Err(PageError::BadPage);
-        }
-        let Some((kind, payload, rest)) = split_entry(left) else {
-            return Err(PageError::BadPage);
-        };
-        entries.push(copy_of(alloc, kind, payload)?)?;
-        left = rest;
+    match store.add_group(entries) {
+        Ok(()) => Ok(RoundOutcome::Took(entries.len() as u64)),
+        Err(why) => Err(append_status(why)),
     }
-    Ok(entries)
 }
 
-/// The entry that bytes begin with, and the bytes after it.
-fn split_entry(bytes: &[u8]) -> Option<(u8, &[u8], &[u8])>
-    ensures some { IfSome result (λ r. BeginsWith (record { kind = r.0; payload = r.1.now }) r.2.now bytes.now) }
-    ensures none { IfNone result ((entry : AnyEntry) (rest : List ℕ) → BeginsWith entry rest bytes.now → ⊥) }
+/// The status of a group that was not added.
+fn append_status(why: AppendError) -> MirrorStatus
+    ensures { result ≡ append_status why }
 {
-    let [kind, a, b, c, d, rest @ ..] = bytes else {
-        return None;
-    };
-    let size = u32::from_be_bytes([*a, *b, *c, *d]) as usize;
-    if size > rest.len() {
-        return None;
+    match why {
+        AppendError::DiskFault => MirrorStatus::DiskFault,
+        AppendError::Full { need, limit } => MirrorStatus::Full { need, limit },
+        AppendError::OutOfMemory => MirrorStatus::OutOfMemory,
     }
-    Some((*kind, &rest[..size], &rest[size..]))
-}
-
-/// A copy of an entry.
-fn copy_of(alloc: Global, kind: u8, payload: &[u8]) -> Result<Entry, PageError>
-    ensures entry { IfOk result (λ entry. entry ≡ record { kind = kind; payload = payload.now }) }
-    ensures memory { result ≡ Err PageError.BadPage → ⊥ }
-{
-    Ok(Entry {
-        kind,
-        payload: Bytes::from_vec(Vec::from_slice(alloc, payload)?),
-    })
 }

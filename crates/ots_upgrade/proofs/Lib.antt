@@ -1,6 +1,5 @@
 pub mod Batches
 pub mod Conversing
-pub mod Exchanging
 pub mod Founded
 pub mod Gathered
 pub mod OneList

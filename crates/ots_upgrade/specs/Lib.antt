@@ -1,6 +1,5 @@
 pub mod Batch
 pub mod Conversation
-pub mod Exchanged
 pub mod Outcome
 pub mod Stamped
 pub mod Stamping

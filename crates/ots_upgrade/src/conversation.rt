@@ -1,17 +1,13 @@
-//! One conversation with a calendar.
-ghost use Rattle.std.specs.Prelude.{◌≡◌, ◌≤◌, IfOk, OnErr};
-ghost use Rattle.ots_base.specs.Cause.{Rose};
+//! One conversation with a calendar, and what comes of it.
+ghost use Rattle.std.specs.Prelude.{◌≤◌, ◌∷◌, [], IfOk, OnErr};
 ghost use Rattle.ots_base.specs.declared.limits.TheConstants.{MAX_MESSAGE, MAX_OPERATIONS};
-ghost use Rattle.ots_http.specs.RequestText.{request_bytes};
 ghost use Rattle.ots_upgrade.specs.Conversation.{Converses, ConverseUpTo};
-ghost use Rattle.ots_upgrade.specs.Exchanged.{Exchanges};
 ghost use Rattle.ots_upgrade.specs.Outcome.{IsSoundOutcome};
-ghost use Rattle.std.specs.Prelude.{[], ◌∷◌};
 
 use crate::outcome::{Outcome, outcome_of};
 use ots_base::OutOfMemory;
-use ots_http::{Address, Asked, HttpReply, ReplyError, read_reply, write_request};
-use ots_outside::{DialError, DialedLink, Dialer, Link};
+use ots_http::{Address, Asked};
+use ots_outside::Dialer;
 use ots_tree::Shape;
 use std::alloc::Global;
 
@@ -39,29 +35,6 @@ pub fn converse<D: Dialer>(
         dialer.old dialer.new) }
     ensures sound { IfOk result (IsSoundOutcome shape.length shape.depth) }
 {
-    let slot = match dialer.connect(address.host(), address.port()) {
-        Ok(slot) => slot,
-        Err(DialError::Failed) => return Ok(Outcome::Unreachable),
-        Err(DialError::OutOfMemory) => return Err(OutOfMemory),
-    };
-    let read = exchange(alloc, &mut DialedLink::new(dialer, slot), address, asked);
-    dialer.close(slot);
+    let read = ots_conversation::converse(alloc, dialer, address, asked);
     outcome_of(alloc, read, shape)
-}
-
-/// Writes the request, and reads its reply.
-fn exchange<L: Link>(
-    alloc: Global,
-    link: &mut L,
-    address: &Address,
-    asked: &Asked,
-) -> Result<HttpReply, ReplyError>
-    ensures exchanged { Exchanges (request_bytes address.now asked.now) (L.told link.old) (L.told link.new)
-        (L.faults link.old) (L.faults link.new) result }
-    ensures same { L.same link.old link.new }
-{
-    if write_request(link, address, asked).is_err() {
-        return Err(ReplyError::LinkFault);
-    }
-    read_reply(alloc, link)
 }

@@ -1,5 +1,5 @@
 //! What came of asking a calendar.
-ghost use Rattle.std.specs.Prelude.{◌≡◌, ◌≤◌, ℕ, List, IfOk};
+ghost use Rattle.std.specs.Prelude.{◌≡◌, ◌≢◌, ◌≤◌, ℕ, List, IfOk};
 ghost use Rattle.ots_base.specs.declared.limits.TheConstants.{MAX_MESSAGE, MAX_OPERATIONS};
 ghost use Rattle.ots_http.specs.ReplyTable.{IsReplyAnswer};
 ghost use Rattle.ots_upgrade.specs.Outcome.{IsOutcomeOf, IsOutcomeOfBody, IsSoundOutcome, IsUnreachableAs};
@@ -39,6 +39,7 @@ pub fn outcome_of(
     ensures outcome { (reply : List ℕ) → IsReplyAnswer reply read
         → IfOk result (IsOutcomeOf shape.length shape.depth reply) }
     ensures unreachable { IfOk result (IsUnreachableAs read) }
+    ensures memory { IfOk result (λ outcome. read ≢ Err ReplyError.OutOfMemory) }
     ensures sound { IfOk result (IsSoundOutcome shape.length shape.depth) }
 {
     match read {

@@ -19,10 +19,10 @@ pub returns-in-Ok-clause-stays : goal.returns-in-Ok-clause-stays
 returns-in-Ok-clause-stays g c = inr (c.in-Ok.book.store.journal.entries, record { store = c.in-Ok.ensures.ok.store.has; are_true = c.in-Ok.ensures.ok.are_true })
 
 pub returns-in-Err-clause-stays : goal.returns-in-Err-clause-stays
-returns-in-Err-clause-stays g c = inl (refl, refl, c.in-Err.ensures.err.later)
+returns-in-Err-clause-stays g c = inl (refl, refl, c.in-Err.ensures.err.such.later)
 
 pub returns-in-Err-clause-moments : goal.returns-in-Err-clause-moments
-returns-in-Err-clause-moments g c = inl c.in-Err.ensures.err.moments
+returns-in-Err-clause-moments g c = inl c.in-Err.ensures.err.such.moments
 
 pub returns-in-Ok-clause-ends : goal.returns-in-Ok-clause-ends
 returns-in-Ok-clause-ends g c =

@@ -1,5 +1,5 @@
 use Rattle.ots_journal.specs.declared.limits.TheConstants.{MAX_JOURNAL}
-use Rattle.ots_calendar_commands.specs.Found.{HasRecords, RefusesStore}
+use Rattle.ots_opening.specs.Opening.{HasRecords, RefusesStore}
 use Rattle.ots_calendar_commands.specs.Migrate.{AddsPrefix, MigrateAnswers}
 use Rattle.ots_calendar_commands.proofs.Migrating.{carry_within}
 use Rattle.ots_calendar_commands.proofs.Running.{journal_ends, journal_moments, no_journal}

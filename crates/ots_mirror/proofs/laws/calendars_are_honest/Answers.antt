@@ -1,5 +1,0 @@
-use Rattle.ots_mirror.proofs.Honest.{honest}
-use Rattle.ots_mirror.proofs.laws.calendars_are_honest.Goals as goal
-
-pub returns : goal.returns
-returns c = honest

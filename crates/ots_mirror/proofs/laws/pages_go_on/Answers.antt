@@ -1,5 +1,0 @@
-use Rattle.ots_mirror.proofs.Honest.{goes_on}
-use Rattle.ots_mirror.proofs.laws.pages_go_on.Goals as goal
-
-pub returns : goal.returns
-returns c = goes_on

@@ -1,0 +1,3 @@
+pub mod Honest
+pub mod Offering
+pub mod Reading

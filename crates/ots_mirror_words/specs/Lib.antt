@@ -1,0 +1,4 @@
+pub mod Lines
+pub mod Refusal
+pub mod Status
+pub mod Words
