@@ -335,7 +335,8 @@ def about_reading(reader, how, data, sizes):
 PHRASES = {400: 'Bad Request', 404: 'Not Found', 405: 'Method Not Allowed', 411: 'Length Required',
            413: 'Content Too Large', 500: 'Internal Server Error', 503: 'Service Unavailable', 507: 'Insufficient Storage'}
 STATUSES = {'bad request': 400, 'not found': 404, 'pending': 404, 'method not allowed': 405, 'length required': 411,
-            'too large': 413, 'clock': 500, 'busy': 503, 'disk': 503, 'nonce': 503, 'journal full': 507}
+            'too large': 413, 'clock': 500, 'busy': 503, 'disk': 503, 'nonce': 503,
+            'upstream': 503, 'journal full': 507}
 
 
 def reply_head(status, phrase, kind, length):

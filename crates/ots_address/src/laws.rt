@@ -1,7 +1,8 @@
 //! Laws of calendar addresses and their lists.
 ghost use Rattle.std.specs.Prelude.{◌≡◌, ℕ, List, Bool};
-ghost use Rattle.ots_address.specs.Address.{IsAddress};
+ghost use Rattle.ots_address.specs.Address.{AddressParts, IsAddress};
 ghost use Rattle.ots_address.specs.AddressList.{AreAddresses, IsBadAddress, pieces_of};
+ghost use Rattle.ots_address.specs.OneAddress.{IsNotOneAddress, IsOneAddress};
 
 /// A text is the address of one host and one port.
 pub fn one_host_and_port()
@@ -18,4 +19,14 @@ pub fn one_list_answer()
         → (place ≡ other) × (https ≡ another) }
     ensures none { (list : List ℕ) (place : ℕ) (https : Bool) → IsBadAddress list place https
         → AreAddresses (pieces_of list) → ⊥ }
+{}
+
+/// A word is one address at most, is refused in one way at most, and never both.
+pub fn one_address_answer()
+    ensures given { (word : List ℕ) (first second : AddressParts) → IsOneAddress word first → IsOneAddress word second
+        → first.text ≡ second.text }
+    ensures refused { (word : List ℕ) (place other : ℕ) (https another : Bool) → IsNotOneAddress word place https
+        → IsNotOneAddress word other another → (place ≡ other) × (https ≡ another) }
+    ensures never_both { (word : List ℕ) (address : AddressParts) (place : ℕ) (https : Bool)
+        → IsOneAddress word address → IsNotOneAddress word place https → ⊥ }
 {}

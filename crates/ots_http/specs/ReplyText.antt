@@ -8,7 +8,7 @@ use Rattle.ots_http.specs.declared.replying.Reply.TheVariants.{Tree, Page, Text}
 use Rattle.ots_http.specs.declared.word.Word.{Word}
 use Rattle.ots_http.specs.declared.word.Word.TheVariants.{BadRequest, NotFound, Pending, MethodNotAllowed}
 use Rattle.ots_http.specs.declared.word.Word.TheVariants.{LengthRequired, TooLarge, Clock, Busy, Disk, Nonce}
-use Rattle.ots_http.specs.declared.word.Word.TheVariants.{JournalFull}
+use Rattle.ots_http.specs.declared.word.Word.TheVariants.{Upstream, JournalFull}
 
 -- The status of the line in which the words stand.
 abbrev pub status_of : Word → ℕ
@@ -22,6 +22,7 @@ status_of Clock = 500
 status_of Busy = 503
 status_of Disk = 503
 status_of Nonce = 503
+status_of Upstream = 503
 status_of JournalFull = 507
 
 -- The phrase of that status (RFC 9110, section 15; RFC 4918, section 11.5, for 507).
@@ -36,6 +37,7 @@ phrase_of Clock = codes "Internal Server Error"
 phrase_of Busy = codes "Service Unavailable"
 phrase_of Disk = codes "Service Unavailable"
 phrase_of Nonce = codes "Service Unavailable"
+phrase_of Upstream = codes "Service Unavailable"
 phrase_of JournalFull = codes "Insufficient Storage"
 
 abbrev pub words_of : Word → List ℕ
@@ -49,6 +51,7 @@ words_of Clock = codes "clock"
 words_of Busy = codes "busy"
 words_of Disk = codes "disk"
 words_of Nonce = codes "nonce"
+words_of Upstream = codes "upstream"
 words_of JournalFull = codes "journal full"
 
 -- The head of a reply: its status and phrase, the type and the length of its body.

@@ -25,6 +25,8 @@ pub enum Word {
     Disk,
     /// 503 `nonce`.
     Nonce,
+    /// 503 `upstream`.
+    Upstream,
     /// 507 `journal full`.
     JournalFull,
 }
@@ -46,6 +48,7 @@ impl Word {
             Word::Busy => "Service Unavailable",
             Word::Disk => "Service Unavailable",
             Word::Nonce => "Service Unavailable",
+            Word::Upstream => "Service Unavailable",
             Word::JournalFull => "Insufficient Storage",
         }
     }
@@ -66,6 +69,7 @@ impl Word {
             Word::Busy => "busy",
             Word::Disk => "disk",
             Word::Nonce => "nonce",
+            Word::Upstream => "upstream",
             Word::JournalFull => "journal full",
         }
     }

@@ -37,6 +37,7 @@ fn word_of(words: &str) -> Option<Word> {
         "busy" => Some(Word::Busy),
         "disk" => Some(Word::Disk),
         "nonce" => Some(Word::Nonce),
+        "upstream" => Some(Word::Upstream),
         "journal full" => Some(Word::JournalFull),
         _ => None,
     }
@@ -53,7 +54,7 @@ fn status_of(word: Word) -> u16
         Word::LengthRequired => 411,
         Word::TooLarge => 413,
         Word::Clock => 500,
-        Word::Busy | Word::Disk | Word::Nonce => 503,
+        Word::Busy | Word::Disk | Word::Nonce | Word::Upstream => 503,
         Word::JournalFull => 507,
     }
 }
