@@ -56,9 +56,10 @@ pub refused_once : (word : List ℕ) (place other : ℕ) (https another : Bool) 
 refused_once word p q h k (bad f) (bad g) = one_bad word p q h k f g
 refused_once word p q h k (bad f) (several a b rest list at is) = absurd (none_bad word p h f list.good)
 refused_once word p q h k (several a b rest list at is) (bad g) = absurd (none_bad word q k g list.good)
-refused_once word p q h k (several a b rest list at is) (several c d more other there also) =
-    (at ∙ ap (λ (z : List ℕ). length z + 1) (first_text a c (b ∷ rest) (d ∷ more) (sym list.texts ∙ other.texts)) ∙ sym there,
-    is ∙ sym also)
+refused_once word p q h k (several a b rest list at is) (several c d more other there also) = (
+  at ∙ ap (λ (z : List ℕ). length z + 1) (first_text a c (b ∷ rest) (d ∷ more) (sym list.texts ∙ other.texts)) ∙ sym there,
+  is ∙ sym also,
+)
 
 pub never_both : (word : List ℕ) (a : AddressParts) (place : ℕ) (https : Bool) → IsOneAddress word a
     → IsNotOneAddress word place https → ⊥
