@@ -11,7 +11,8 @@ use Rattle.ots_upgrade.specs.Upgrading.{UpgradesUpTo}
 use Rattle.ots_upgrade.specs.declared.outcome.Outcome.{Outcome}
 use Rattle.ots_merkle.specs.CalendarTree.{root}
 use Rattle.ots_upgrade.specs.declared.target.Target.{Target}
-use Rattle.ots_upgrade.specs.Stamped.{IsDepth, leaves}
+use Rattle.ots_upgrade.specs.Stamped.{leaves}
+use Rattle.ots_upgrade.specs.Ways.{IsDepth}
 use Rattle.ots_upgrade.specs.Stamping.{to_stamp}
 use Rattle.ots_cli.specs.Drawing.{Draws, DrawsOrFails, DrawsSome}
 use Rattle.ots_cli.specs.Found.{AreHashed}

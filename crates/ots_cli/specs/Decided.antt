@@ -13,7 +13,8 @@ use Rattle.ots_info.specs.Listing.{IsInfoText}
 use Rattle.ots_merkle.specs.CalendarTree.{root}
 use Rattle.ots_outside.specs.Dialer.{DialerTold}
 use Rattle.ots_upgrade.specs.Conversation.{Converse}
-use Rattle.ots_upgrade.specs.Stamped.{IsDepth, good_trees, leaves}
+use Rattle.ots_upgrade.specs.Stamped.{good_trees, leaves}
+use Rattle.ots_upgrade.specs.Ways.{IsDepth}
 use Rattle.ots_upgrade.specs.Stamping.{to_stamp}
 use Rattle.ots_upgrade.specs.declared.outcome.Outcome.{Outcome}
 use Rattle.ots_upgrade.specs.declared.target.Target.{Target}

@@ -8,7 +8,8 @@ use Rattle.ots_upgrade.specs.Upgrading.{UpgradesUpTo}
 use Rattle.ots_merkle.specs.CalendarTree.{root}
 use Rattle.ots_upgrade.specs.Conversation.{ConverseUpTo}
 use Rattle.ots_upgrade.specs.declared.target.Target.{Target}
-use Rattle.ots_upgrade.specs.Stamped.{IsDepth, leaves}
+use Rattle.ots_upgrade.specs.Stamped.{leaves}
+use Rattle.ots_upgrade.specs.Ways.{IsDepth}
 use Rattle.ots_upgrade.specs.Stamping.{to_stamp}
 use Rattle.ots_arguments.specs.Values.{texts}
 use Rattle.ots_client_words.specs.Words.{ClientCommand, Stamping, Upgrading, info, canon, merge, prune, verify, stamp}

@@ -11,7 +11,8 @@ use Rattle.ots_tree.specs.declared.detached.Detached.{Detached}
 use Rattle.ots_tree.specs.declared.token.Token.{Token}
 use Rattle.ots_upgrade.specs.declared.outcome.Outcome.{Outcome}
 use Rattle.ots_upgrade.specs.declared.target.Target.{Target}
-use Rattle.ots_upgrade.specs.Stamped.{Gathers, IsDepth, IsSoundBelow, IsStampOf, good_trees, leaves}
+use Rattle.ots_upgrade.specs.Stamped.{Gathers, IsSoundBelow, IsStampOf, good_trees, leaves}
+use Rattle.ots_upgrade.specs.Ways.{IsDepth}
 use Rattle.ots_upgrade.specs.Stamping.{to_stamp}
 use Rattle.ots_cli.specs.Asking.{Outside}
 use Rattle.ots_cli.specs.Ending.{Act, Ending, makes_stamp, prints, refused}

@@ -16,7 +16,8 @@ use Rattle.ots_store.specs.Records.{Record}
 use Rattle.ots_connection.specs.Answered as reply
 use Rattle.ots_connection.specs.Answered.{IsAnswered, IsDigestReply, IsDueFor, IsReplyTo, is_answer}
 use Rattle.ots_connection.specs.Connection.{Seen, Serves, Ends, EndsWith, Handles, Does}
-use Rattle.ots_connection.specs.Sending.{LinkSeen, Sends, Took, Takes, whole, cut}
+use Rattle.ots_http.specs.Seen.{LinkSeen, Took, Takes}
+use Rattle.ots_connection.specs.Sending.{Sends, whole, cut}
 use Rattle.ots_connection.specs.Stamping as stamping
 use Rattle.ots_connection.specs.Stamping.{SourcesTold, Settles, IsBusy, Comes, ComesOf}
 use Rattle.ots_connection.specs.declared.due.Due.{Due}

@@ -17,7 +17,8 @@ use Rattle.ots_shared.specs.declared.row.Row.{Row}
 use Rattle.ots_store.specs.Page.{page_of}
 use Rattle.ots_store.specs.Records.{Record}
 use Rattle.ots_connection.specs.Connection.{Seen, Serves, Ends, EndsWith, Does, IfStamped}
-use Rattle.ots_connection.specs.Replies.{in_words, refusal, answered, paged, stamp}
+use Rattle.ots_http.specs.ReplyText.{refusal}
+use Rattle.ots_connection.specs.Replies.{in_words, answered, paged, stamp}
 use Rattle.ots_connection.specs.Sending.{whole, cut}
 use Rattle.ots_connection.specs.Stamping as stamping
 use Rattle.ots_connection.specs.Stamping.{SourcesTold, Settles, Comes, ComesOf}

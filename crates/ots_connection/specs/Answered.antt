@@ -15,7 +15,8 @@ use Rattle.ots_tree.specs.declared.token.Token.{Token}
 use Rattle.ots_connection.specs.declared.due.Due.{Due}
 use Rattle.ots_connection.specs.declared.served.Served.{Served}
 use Rattle.ots_connection.specs.declared.served.Served.TheVariants.{Stamped, Replied, Closed, LinkFault, OutOfMemory}
-use Rattle.ots_connection.specs.Replies.{in_words, refusal, answered, paged, stamp}
+use Rattle.ots_http.specs.ReplyText.{refusal}
+use Rattle.ots_connection.specs.Replies.{in_words, answered, paged, stamp}
 use Rattle.ots_connection.specs.Stamping.{Stamps}
 
 -- Memory did not run out.

@@ -19,8 +19,10 @@ use Rattle.ots_connection.specs.declared.served.Served.{Served}
 use Rattle.ots_connection.specs.declared.served.Served.TheVariants.{Stamped, Replied, Closed, LinkFault}
 use Rattle.ots_connection.specs.declared.served.Served.TheVariants.{OutOfMemory as ran_out}
 use Rattle.ots_connection.specs.Holds.{Holds}
-use Rattle.ots_connection.specs.Replies.{in_words, refusal, answered, paged}
-use Rattle.ots_connection.specs.Sending.{LinkSeen, Sends, Takes}
+use Rattle.ots_http.specs.ReplyText.{refusal}
+use Rattle.ots_connection.specs.Replies.{in_words, answered, paged}
+use Rattle.ots_http.specs.Seen.{LinkSeen, Takes}
+use Rattle.ots_connection.specs.Sending.{Sends}
 use Rattle.ots_connection.specs.Stamping.{SourcesTold, Stamping}
 
 -- What contracts see of all that a call is handed, at one moment.

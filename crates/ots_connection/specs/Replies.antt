@@ -1,13 +1,12 @@
 -- The reply that is due for a request, and how the connection ended once it is written, by the table of this project's
 -- HTTP profile.
-use Rattle.std.specs.Prelude.{ℕ, List, nat_eq, if◌then◌else◌, Option, None, Some}
+use Rattle.std.specs.Prelude.{ℕ, List, Option, None, Some}
 use Rattle.ots_calendar.specs.declared.answer.Answer.{Answer}
 use Rattle.ots_calendar.specs.declared.answer.Answer.TheVariants as answer
 use Rattle.ots_http.specs.ReplyText.{status_of}
 use Rattle.ots_http.specs.declared.replying.Reply.TheVariants as reply
 use Rattle.ots_http.specs.declared.word.Word.{Word}
-use Rattle.ots_http.specs.declared.word.Word.TheVariants.{BadRequest, NotFound, Pending, MethodNotAllowed}
-use Rattle.ots_http.specs.declared.word.Word.TheVariants.{LengthRequired, TooLarge}
+use Rattle.ots_http.specs.declared.word.Word.TheVariants.{NotFound, Pending}
 use Rattle.ots_round.specs.declared.ticket.Receipt.{Receipt}
 use Rattle.ots_tree.specs.declared.token.Token.{Token}
 use Rattle.ots_connection.specs.declared.due.Due.{Due}
@@ -16,15 +15,6 @@ use Rattle.ots_connection.specs.declared.served.Served.TheVariants.{Stamped, Rep
 -- The words, with the status that they stand with.
 abbrev pub in_words : Word → Due
 in_words word = record { reply = reply.Text (status_of word) word; served = Replied (status_of word) }
-
--- The words for a request that is refused with this status. The table of requests has no other status than these five.
-abbrev pub refusal : ℕ → Word
-refusal status =
-    if nat_eq status 400 then BadRequest
-    else (if nat_eq status 405 then MethodNotAllowed
-    else (if nat_eq status 411 then LengthRequired
-    else (if nat_eq status 413 then TooLarge
-    else NotFound)))
 
 -- The tree of a commitment.
 abbrev pub with_tree : List Token → Due

@@ -3,7 +3,8 @@ ghost use Rattle.std.specs.Prelude.{◌≡◌, ◌≤◌, length, Some};
 ghost use Rattle.ots_base.specs.declared.limits.TheConstants.{MAX_PROOF_FILE, MAX_REPLY_BODY};
 ghost use Rattle.ots_http.specs.ReplyText.{IsReply, status_of};
 ghost use Rattle.ots_tree.specs.Wire.{spelled};
-ghost use Rattle.ots_connection.specs.Replies.{in_words, refusal, with_tree, paged, stamp};
+ghost use Rattle.ots_http.specs.ReplyText.{refusal}
+ghost use Rattle.ots_connection.specs.Replies.{in_words, with_tree, paged, stamp};
 
 use crate::Served;
 use ots_calendar::Receipt;
@@ -39,13 +40,8 @@ pub(crate) fn refusal(status: u16) -> Due
     ensures due { result ≡ in_words (refusal status) }
     ensures reply { IsReply result.reply }
 {
-    match status {
-        400 => in_words(400, Word::BadRequest),
-        405 => in_words(405, Word::MethodNotAllowed),
-        411 => in_words(411, Word::LengthRequired),
-        413 => in_words(413, Word::TooLarge),
-        _ => in_words(404, Word::NotFound),
-    }
+    let word = Word::of_refused(status);
+    in_words(word.status(), word)
 }
 
 /// The reply with the tree of a commitment.

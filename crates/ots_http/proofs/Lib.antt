@@ -8,3 +8,4 @@ pub mod ReplyHeadLemmas
 pub mod ReplyLemmas
 pub mod RequestHeadLemmas
 pub mod WriteLemmas
+pub mod Seen

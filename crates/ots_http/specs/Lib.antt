@@ -14,3 +14,4 @@ pub mod RequestRead
 pub mod RequestTable
 pub mod RequestText
 pub mod Written
+pub mod Seen

@@ -1,6 +1,6 @@
 -- The bytes of a reply that a calendar writes. Source: RFC 9112, sections 2.1 and 4, with the statuses, fields and
 -- words of this project's HTTP profile.
-use Rattle.std.specs.Prelude.{◌≡◌, ◌≤◌, ℕ, ◌+◌, List, ◌++◌, length, codes, decimal}
+use Rattle.std.specs.Prelude.{◌≡◌, ◌≤◌, ℕ, ◌+◌, List, ◌++◌, length, codes, decimal, nat_eq, if◌then◌else◌}
 use Rattle.ots_base.specs.declared.limits.TheConstants.{MAX_PROOF_FILE, MAX_REPLY_BODY}
 use Rattle.ots_tree.specs.Wire.{spelled}
 use Rattle.ots_http.specs.declared.replying.Reply.{Reply}
@@ -53,6 +53,15 @@ words_of Disk = codes "disk"
 words_of Nonce = codes "nonce"
 words_of Upstream = codes "upstream"
 words_of JournalFull = codes "journal full"
+
+-- The words for a request that is refused with this status. The table of requests has no other status than these five.
+abbrev pub refusal : ℕ → Word
+refusal status =
+    if nat_eq status 400 then BadRequest
+    else (if nat_eq status 405 then MethodNotAllowed
+    else (if nat_eq status 411 then LengthRequired
+    else (if nat_eq status 413 then TooLarge
+    else NotFound)))
 
 -- The head of a reply: its status and phrase, the type and the length of its body.
 abbrev pub reply_head : ℕ → List ℕ → List ℕ → ℕ → List ℕ

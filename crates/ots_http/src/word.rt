@@ -1,6 +1,6 @@
 //! The words of replies.
 ghost use Rattle.std.specs.Prelude.{◌≡◌, ◌≤◌, length};
-ghost use Rattle.ots_http.specs.ReplyText.{phrase_of, words_of};
+ghost use Rattle.ots_http.specs.ReplyText.{phrase_of, refusal, status_of, words_of};
 
 /// The words of a reply that is no tree. Each stands in one line of the table of statuses.
 #[derive(Clone, Copy, Debug, PartialEq, Eq)]
@@ -32,6 +32,36 @@ pub enum Word {
 }
 
 impl Word {
+    /// The words for a request that is refused with this status: 400, 405, 411, 413, or 404, which stands
+    /// for every other.
+    pub fn of_refused(status: u16) -> Word
+        ensures { result ≡ refusal status }
+    {
+        match status {
+            400 => Word::BadRequest,
+            405 => Word::MethodNotAllowed,
+            411 => Word::LengthRequired,
+            413 => Word::TooLarge,
+            _ => Word::NotFound,
+        }
+    }
+
+    /// The status with which the words stand.
+    pub fn status(self) -> u16
+        ensures { result ≡ status_of self }
+    {
+        match self {
+            Word::BadRequest => 400,
+            Word::NotFound | Word::Pending => 404,
+            Word::MethodNotAllowed => 405,
+            Word::LengthRequired => 411,
+            Word::TooLarge => 413,
+            Word::Clock => 500,
+            Word::Busy | Word::Disk | Word::Nonce | Word::Upstream => 503,
+            Word::JournalFull => 507,
+        }
+    }
+
     /// The phrase of the status with which the words stand.
     pub(crate) fn phrase(self) -> &'static str
         ensures phrase { result.now ≡ phrase_of self }

@@ -1,6 +1,6 @@
 // Replies of a calendar, by their words.
 ghost use Rattle.std.specs.Prelude.{◌≡◌, true};
-ghost use Rattle.ots_http.specs.ReplyText.{IsReply, status_of};
+ghost use Rattle.ots_http.specs.ReplyText.{IsReply};
 
 use ots_base::{MAX_PROOF_FILE, MAX_REPLY_BODY};
 use ots_http::{Reply, Word};
@@ -9,7 +9,7 @@ use ots_tree::spelled_length;
 /// The reply of these words, where there is one.
 pub fn text_reply(words: &str) -> Option<Reply> {
     let word = word_of(words)?;
-    Some(Reply::Text(status_of(word), word))
+    Some(Reply::Text(word.status(), word))
 }
 
 /// Whether a calendar may write this reply: its status is that of its words, its tree is no longer than a proof, or
@@ -20,7 +20,7 @@ pub fn is_reply(reply: &Reply) -> bool
     match reply {
         Reply::Tree(tree) => spelled_length(tree) <= MAX_PROOF_FILE as u64,
         Reply::Page(page) => page.items().len() <= MAX_REPLY_BODY,
-        Reply::Text(status, word) => *status == status_of(*word),
+        Reply::Text(status, word) => *status == word.status(),
     }
 }
 
@@ -40,21 +40,5 @@ fn word_of(words: &str) -> Option<Word> {
         "upstream" => Some(Word::Upstream),
         "journal full" => Some(Word::JournalFull),
         _ => None,
-    }
-}
-
-/// The status with which words stand.
-fn status_of(word: Word) -> u16
-    ensures { result ≡ status_of word }
-{
-    match word {
-        Word::BadRequest => 400,
-        Word::NotFound | Word::Pending => 404,
-        Word::MethodNotAllowed => 405,
-        Word::LengthRequired => 411,
-        Word::TooLarge => 413,
-        Word::Clock => 500,
-        Word::Busy | Word::Disk | Word::Nonce | Word::Upstream => 503,
-        Word::JournalFull => 507,
     }
 }

@@ -18,7 +18,8 @@ use Rattle.ots_tree.specs.Sound.{IsSoundPath, IsSoundPre, length_after}
 use Rattle.ots_tree.specs.Wire.{Node, Path, paths, pre}
 use Rattle.ots_upgrade.specs.declared.target.Target.{Target}
 use Rattle.ots_upgrade.specs.Batch.{IsCanonUnder}
-use Rattle.ots_upgrade.specs.Stamped.{Gathers, IsDepth, leaf, leaves, to_root}
+use Rattle.ots_upgrade.specs.Stamped.{Gathers, leaf, leaves, to_root}
+use Rattle.ots_upgrade.specs.Ways.{IsDepth}
 
 -- ---- how long the results of operations are
 
@@ -79,13 +80,6 @@ sound_after law targets i t good leads less is digest nonce depth deepest sound 
       reached = rw nonce reached;
       sound = less_deep (length (root (leaves targets))) depth _ good (omega arith) sound;
     }
-
--- these are the operations from a file to the root
-pub are_to_root : (targets : List Target) (paths : List (List Op)) (i : ℕ) (t : Target) (way ops : List Op) → length paths ≡ length targets
-    → ((j : ℕ) → j < length targets → get_or paths j [] ≡ path (leaves targets) j) → i < length targets → way ≡ get_or paths i way
-    → ops ≡ Append t.nonce ∷ Sha256 ∷ way → ops ≡ to_root (leaves targets) i t
-are_to_root targets paths i t way ops count are less is made =
-    made ∙ ap (λ (w : List Op). Append t.nonce ∷ Sha256 ∷ w) (is ∙ sym (get_or_default paths i [] way (omega arith)) ∙ are i less)
 
 -- ---- the proof
 

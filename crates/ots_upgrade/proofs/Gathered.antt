@@ -13,7 +13,8 @@ use Rattle.ots_upgrade.specs.Outcome.{AreSound, IsSoundGathered, IsSoundOutcome}
 use Rattle.ots_upgrade.specs.declared.outcome.Outcome.{Outcome}
 use Rattle.ots_upgrade.specs.declared.outcome.Outcome.TheVariants as outcome
 use Rattle.ots_merkle.specs.CalendarTree.{root}
-use Rattle.ots_upgrade.specs.Stamped.{Gathers, GathersAny, IsDepth, IsGatheredBelow, good_trees, leaves}
+use Rattle.ots_upgrade.specs.Stamped.{Gathers, GathersAny, IsGatheredBelow, good_trees, leaves}
+use Rattle.ots_upgrade.specs.Ways.{IsDepth}
 use Rattle.ots_upgrade.specs.declared.target.Target.{Target}
 
 -- a first tree is gathered

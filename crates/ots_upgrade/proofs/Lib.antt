@@ -1,4 +1,3 @@
-pub mod Batches
 pub mod Conversing
 pub mod Founded
 pub mod Gathered
@@ -7,3 +6,4 @@ pub mod OneOutcome
 pub mod Pairwise
 pub mod Provable
 pub mod Questions
+pub mod WayLemmas

@@ -4,3 +4,4 @@ pub mod Outcome
 pub mod Stamped
 pub mod Stamping
 pub mod Upgrading
+pub mod Ways

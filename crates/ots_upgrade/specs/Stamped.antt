@@ -5,7 +5,6 @@ use Rattle.std.specs.Prelude.{◌≡◌, ◌<◌, ◌≤◌, ◌+◌, ℕ, List,
 use Rattle.std.specs.List.{flat_map}
 use Rattle.sha2.specs.Sha256.{sha256}
 use Rattle.ots_ops.specs.declared.op.Op.{Op}
-use Rattle.ots_ops.specs.declared.op.Op.TheVariants.{Append, Sha256}
 use Rattle.ots_ops.specs.declared.hash_op.HashOp.TheVariants as hash
 use Rattle.ots_tree.specs.declared.token.Token.{Token}
 use Rattle.ots_tree.specs.declared.detached.Detached.{Detached}
@@ -13,9 +12,10 @@ use Rattle.ots_tree.specs.Made.{after}
 use Rattle.ots_tree.specs.Sound.{IsSoundPre}
 use Rattle.ots_tree.specs.Wire.{Node, paths, pre}
 use Rattle.ots_canon.specs.Canonical.{IsCanonTree}
-use Rattle.ots_merkle.specs.CalendarTree.{path, root}
+use Rattle.ots_merkle.specs.CalendarTree.{root}
 use Rattle.ots_upgrade.specs.declared.target.Target.{Target}
 use Rattle.ots_upgrade.specs.Outcome.{AreSound}
+use Rattle.ots_upgrade.specs.Ways.{IsDepth, way_from}
 use Rattle.ots_upgrade.specs.declared.outcome.Outcome.{Outcome}
 use Rattle.ots_upgrade.specs.declared.outcome.Outcome.TheVariants as outcome
 
@@ -26,14 +26,9 @@ leaf t = sha256 (t.digest ++ t.nonce)
 abbrev pub leaves : List Target → List (List ℕ)
 leaves targets = map leaf targets
 
--- The number of operations before a calendar's answer: those of the longest path, and two before it.
-pub record IsDepth (leaves : List (List ℕ)) (depth : ℕ) : Type 0 where
-  pub most : (i : ℕ) → i < length leaves → length (path leaves i) + 2 ≤ depth
-  pub longest : (i : ℕ) × (i < length leaves) × (length (path leaves i) + 2 ≡ depth)
-
 -- the operations from a file's digest to the root: its nonce is put after it, that is hashed, and its path follows
 abbrev pub to_root : List (List ℕ) → ℕ → Target → List Op
-to_root leaves i t = Append t.nonce ∷ Sha256 ∷ path leaves i
+to_root leaves i t = way_from leaves i t.nonce
 
 -- the trees that calendars answered, in order
 abbrev pub good_trees : List Outcome → List (List Token)

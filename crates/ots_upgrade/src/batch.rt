@@ -5,19 +5,19 @@ ghost use Rattle.ots_merkle.specs.CalendarTree.{path, root};
 ghost use Rattle.ots_tree.specs.declared.detached.Detached.{Detached as Proof};
 ghost use Rattle.ots_tree.specs.declared.token.Token.{Token};
 ghost use Rattle.ots_upgrade.specs.declared.target.Target.{Target};
-ghost use Rattle.ots_upgrade.specs.Batch.{IsCanonUnder, IsLongest};
+ghost use Rattle.ots_upgrade.specs.Batch.{IsCanonUnder};
 ghost use Rattle.ots_upgrade.specs.Conversation.{Converse, ConverseUpTo};
 ghost use Rattle.ots_upgrade.specs.Stamping.{to_stamp};
-ghost use Rattle.ots_upgrade.specs.Stamped.{AreSoundBelow, Gathers, IsDepth, IsSoundBelow, IsStampOf, leaf, leaves};
+ghost use Rattle.ots_upgrade.specs.Stamped.{AreSoundBelow, Gathers, IsSoundBelow, IsStampOf, leaf, leaves};
+ghost use Rattle.ots_upgrade.specs.Ways.{IsDepth};
 
 use crate::outcome::Outcome;
-use crate::stamping::stamp_with;
 use crate::target::Target;
+use crate::ways::Ways;
 use ots_address::Address;
 use ots_base::OutOfMemory;
 use ots_canon::canon;
-use ots_merkle::{paths, root};
-use ots_ops::{Arg, Digest, HashOp, Op, Ops};
+use ots_ops::{Digest, HashOp, Op};
 use ots_outside::Dialer;
 use ots_tree::{Detached, Tree, under};
 use sha2::{Digest as _, Sha256};
@@ -30,9 +30,7 @@ use std::marker::Model;
 #[derive(Drop)]
 pub struct Batch {
     targets: Vec<Target>,
-    leaves: Vec<[u8; 32]>,
-    paths: Vec<Ops>,
-    depth: u32,
+    ways: Ways,
 }
 
 impl Model for Batch {
@@ -44,7 +42,7 @@ impl Model for Batch {
 
     ghost view = { λ b. b.targets.items };
 
-    ghost invariant = { λ b. KeepsBatch b.targets.items b.leaves.items b.paths.items b.depth };
+    ghost invariant = { λ b. KeepsBatch b.targets.items b.ways };
 }
 
 impl Batch {
@@ -56,21 +54,15 @@ impl Batch {
         ensures { IfOk result (λ batch. batch ≡ targets.items) }
     {
         let leaves = leaves_of(alloc, &targets)?;
-        let paths = paths(alloc, &leaves)?;
-        let depth = depth_of(&paths) as u32;
-        Ok(Batch {
-            targets,
-            leaves,
-            paths,
-            depth,
-        })
+        let ways = Ways::new(alloc, leaves)?;
+        Ok(Batch { targets, ways })
     }
 
     /// The root over the leaves of all files, which calendars are sent.
     pub fn root(&self) -> Digest
         ensures { result ≡ root (leaves self.now) }
     {
-        Digest::new(&root(&self.leaves)).unwrap()
+        self.ways.root()
     }
 
     /// How many operations stand before a calendar's answer on the longest way from a file to it.
@@ -78,10 +70,10 @@ impl Batch {
         ensures depth { IsDepth (leaves self.now) result }
         ensures most { result ≤ 22 }
     {
-        self.depth
+        self.ways.depth()
     }
 
-    /// Sends the root to each calendar in order, as [`stamp_with`] does.
+    /// Sends the root to each calendar in order, as [`stamp_with`](crate::stamp_with) does.
     pub fn ask<D: Dialer>(
         &self,
         alloc: Global,
@@ -96,7 +88,7 @@ impl Batch {
             dialer.new) }
         ensures sound { IfOk result (λ outcomes. AreSoundBelow self.now outcomes.items) }
     {
-        stamp_with(alloc, dialer, calendars, &self.root(), self.depth)
+        self.ways.ask(alloc, dialer, calendars)
     }
 
     /// The files.
@@ -124,7 +116,7 @@ impl Batch {
             → Gathers trees good.now → IsStampOf self.now i t trees proof) }
     {
         let target = &self.targets[i];
-        let ops = ops_to_root(alloc, target, &self.paths[i])?;
+        let ops = self.ways.way(alloc, i, &target.nonce)?;
         let tree = canonical_under(alloc, ops.items(), good)?;
         Ok(Detached {
             hash: HashOp::Sha256,
@@ -153,41 +145,6 @@ fn leaf_of(target: &Target) -> [u8; 32]
     hasher.update(target.digest.bytes());
     hasher.update(&target.nonce);
     hasher.finalize()
-}
-
-/// Two more than the length of the longest of these paths.
-fn depth_of(paths: &[Ops]) -> usize
-    ensures { IsLongest paths.now (length paths.now) result }
-{
-    let mut longest = 0;
-    for ops in paths {
-        longest = longer(longest, ops);
-    }
-    longest
-}
-
-/// The greater of a number and two more than the length of these operations.
-fn longer(longest: usize, ops: &Ops) -> usize
-    ensures above { longest ≤ result }
-    ensures fits { length ops.now + 2 ≤ result }
-    ensures which { (result ≡ longest) ⊎ (result ≡ length ops.now + 2) }
-{
-    let length = ops.items().len() + 2;
-    if longest < length { length } else { longest }
-}
-
-/// The operations from a file's digest to the root, to which these lead from its leaf.
-fn ops_to_root(alloc: Global, target: &Target, path: &Ops) -> Result<Ops, OutOfMemory>
-    ensures { IfOk result (λ ops. ops ≡ Op.Append target.now.nonce ∷ Op.Sha256 ∷ path.now) }
-{
-    let nonce = Arg::copy_of(alloc, &target.nonce)?;
-    let mut ops = Ops::new(alloc);
-    ops.push(Op::Append(nonce))?;
-    ops.push(Op::Sha256)?;
-    for op in path.items() {
-        ops.push(op.copy()?)?;
-    }
-    Ok(ops)
 }
 
 /// The canonical form of a tree after operations.

@@ -4,6 +4,7 @@
 //! |---|---|
 //! | [`stamp_with`] | each calendar is sent a digest, and answers a tree below it |
 //! | [`Outcome`] | what came of asking one |
+//! | [`Ways`] | leaves under one root, which calendars are sent, and the way from each to it |
 //! | [`Batch`] | files that are stamped together: their root, and the proof of each |
 //! | [`gather_good`] | the trees of all calendars in one |
 //! | [`upgrade_with`] | each calendar is asked for what the pending paths of a proof ask it for, and completes it |
@@ -21,6 +22,7 @@ mod outcome;
 mod stamping;
 mod target;
 mod upgrading;
+mod ways;
 
 pub use asking::{AskedAt, AskedList};
 pub use batch::Batch;
@@ -30,3 +32,4 @@ pub use outcome::Outcome;
 pub use stamping::stamp_with;
 pub use target::Target;
 pub use upgrading::{Upgraded, upgrade_with};
+pub use ways::Ways;

@@ -5,7 +5,7 @@ use Rattle.ots_outside.specs.OneNonce.{bytes_of}
 use Rattle.ots_outside.specs.Streams.{Gives}
 use Rattle.ots_connection.specs.Answered.{is_answer}
 use Rattle.ots_connection.specs.Connection.{Serves}
-use Rattle.ots_connection.specs.Sending.{LinkSeen}
+use Rattle.ots_http.specs.Seen.{LinkSeen}
 use Rattle.ots_connection.specs.Stamping.{SourcesTold}
 use Rattle.ots_connection.specs.declared.served.Served.{Served}
 use Rattle.ots_shared.specs.Told.{PassTold}

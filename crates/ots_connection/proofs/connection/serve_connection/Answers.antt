@@ -1,9 +1,10 @@
 use Rattle.std.proofs.Common.{refl}
 use Rattle.std.specs.Prelude.{Ok, Err}
-use Rattle.ots_connection.specs.Sending.{LinkSeen}
+use Rattle.ots_http.specs.Seen.{LinkSeen}
 use Rattle.ots_connection.proofs.Answering.{serves_answered}
 use Rattle.ots_connection.proofs.Receipts.{stands}
-use Rattle.ots_connection.proofs.Sent.{gives, sends_after}
+use Rattle.ots_http.proofs.Seen.{gives}
+use Rattle.ots_connection.proofs.Sent.{sends_after}
 use Rattle.ots_connection.proofs.connection.serve_connection.Goals as goal
 
 pub returns-in-Ok-handle-clause-serves : goal.returns-in-Ok-handle-clause-serves

@@ -1,7 +1,7 @@
 use Rattle.std.proofs.Common.{refl, take}
 use Rattle.ots_http.specs.ReplyText.{reply_bytes}
 use Rattle.ots_connection.specs.Sending.{cut}
-use Rattle.ots_connection.proofs.Sent.{takes}
+use Rattle.ots_http.proofs.Seen.{takes}
 use Rattle.ots_connection.proofs.sending.send.Goals as goal
 
 pub returns-clause-sends : goal.returns-clause-sends

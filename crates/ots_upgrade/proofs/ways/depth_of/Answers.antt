@@ -1,5 +1,5 @@
-use Rattle.ots_upgrade.proofs.Batches.{longest_more}
-use Rattle.ots_upgrade.proofs.batch.depth_of.Goals as goal
+use Rattle.ots_upgrade.proofs.WayLemmas.{longest_more}
+use Rattle.ots_upgrade.proofs.ways.depth_of.Goals as goal
 
 pub loop-ops-preserved : goal.loop-ops-preserved
 loop-ops-preserved c =
