@@ -3,7 +3,7 @@ ghost use Rattle.std.specs.Prelude.{◌≡◌, ◌≤◌, length, Some};
 ghost use Rattle.ots_base.specs.declared.limits.TheConstants.{MAX_PROOF_FILE, MAX_REPLY_BODY};
 ghost use Rattle.ots_http.specs.ReplyText.{IsReply, status_of};
 ghost use Rattle.ots_tree.specs.Wire.{spelled};
-ghost use Rattle.ots_http.specs.ReplyText.{refusal}
+ghost use Rattle.ots_http.specs.ReplyText.{refusal};
 ghost use Rattle.ots_connection.specs.Replies.{in_words, with_tree, paged, stamp};
 
 use crate::Served;
