@@ -22,4 +22,4 @@ pub use laws::{
 };
 pub use peaks::Peaks;
 pub use way::path;
-pub use ways::paths;
+pub use ways::{paths, paths_and_root};

@@ -1,7 +1,7 @@
 //! The paths of all leaves in a calendar's tree.
 ghost use Rattle.std.specs.Prelude.{◌≡◌, ◌+◌, ◌^◌, ◌≤◌, ◌<◌, ℕ, ◌++◌, [], IfOk, OnOk, length, slice_index_or};
 ghost use Rattle.std.specs.Prelude.{replicate};
-ghost use Rattle.ots_merkle.specs.CalendarTree.{root_within, path, path_within};
+ghost use Rattle.ots_merkle.specs.CalendarTree.{root, root_within, path, path_within};
 ghost use Rattle.ots_merkle.specs.Extended.{Extended, step};
 
 use crate::branch::Side;
@@ -22,9 +22,25 @@ pub fn paths(alloc: Global, leaves: &[[u8; 32]]) -> Result<Vec<Ops>, OutOfMemory
     ensures paths { IfOk result (λ all. (i : ℕ) → i < length leaves.now
         → slice_index_or all.items i [] ≡ path leaves.now i) }
 {
-    let mut all = no_steps(alloc, leaves.len())?;
-    let _ = extend_paths(alloc, all.as_mut_slice(), 0, leaves, HEIGHT)?;
+    let (all, _) = paths_and_root(alloc, leaves)?;
     Ok(all)
+}
+
+/// The paths of all leaves, as [`paths`] makes them, and the root to which they lead, by the same hashes.
+pub fn paths_and_root(
+    alloc: Global,
+    leaves: &[[u8; 32]],
+) -> Result<(Vec<Ops>, [u8; 32]), OutOfMemory>
+    requires least { 1 ≤ length leaves.now }
+    requires most { length leaves.now < 2 ^ 32 }
+    ensures count { IfOk result (λ made. length made.0.items ≡ length leaves.now) }
+    ensures paths { IfOk result (λ made. (i : ℕ) → i < length leaves.now
+        → slice_index_or made.0.items i [] ≡ path leaves.now i) }
+    ensures root { IfOk result (λ made. made.1 ≡ root leaves.now) }
+{
+    let mut all = no_steps(alloc, leaves.len())?;
+    let root = extend_paths(alloc, all.as_mut_slice(), 0, leaves, HEIGHT)?;
+    Ok((all, root))
 }
 
 /// So many paths without a step.

@@ -7,7 +7,7 @@ ghost use Rattle.ots_tickets.specs.Ready.{at_index, IsReady};
 
 use crate::Settled;
 use ots_base::OutOfMemory;
-use ots_merkle::{paths, root};
+use ots_merkle::paths_and_root;
 use ots_ops::Ops;
 use ots_round::{Key, Receipt, Ticket, commitment, leaf_hashes};
 use std::alloc::Global;
@@ -21,8 +21,8 @@ pub struct Ready {
     pub settled: Vec<Settled>,
 }
 
-/// The round over these tickets, which is closed at this second. It takes one hash a ticket, as many
-/// again for the tree over them, and the memory of all their paths.
+/// The round over these tickets, which is closed at this second. It takes one hash a ticket, one
+/// an inner node of the tree over them, and the memory of all their paths.
 pub fn round_over(
     alloc: Global,
     tickets: &[Ticket],
@@ -34,8 +34,8 @@ pub fn round_over(
     ensures { IfOk result (λ made. IsReady key.now second tickets.now made.commitment made.settled.items) }
 {
     let leaves = leaf_hashes(alloc, tickets)?;
-    let commitment = commitment(key, second, &root(&leaves));
-    let paths = paths(alloc, &leaves)?;
+    let (paths, root) = paths_and_root(alloc, &leaves)?;
+    let commitment = commitment(key, second, &root);
     let settled = settled_by(alloc, tickets, paths, commitment)?;
     Ok(Ready {
         commitment,

@@ -4,7 +4,7 @@ use Rattle.std.specs.Prelude.{◌⊎◌}
 use Rattle.std.proofs.lemmas.Bool.{cases_lt}
 use Rattle.std.proofs.lemmas.List.{get_or_default}
 use Rattle.ots_ops.specs.declared.op.Op.{Op}
-use Rattle.ots_merkle.specs.CalendarTree.{path}
+use Rattle.ots_merkle.specs.CalendarTree.{path, root}
 use Rattle.ots_upgrade.specs.Ways.{IsDepth, IsLongest, KeepsWays}
 
 -- one more path was looked at
@@ -51,18 +51,19 @@ shallow leaves depth short most deepest =
     omega arith
 
 -- what is kept, from what was made one after the other
-pub keeps_ways : (leaves : List (List ℕ)) (paths : List (List Op)) (depth : ℕ)
+pub keeps_ways : (leaves : List (List ℕ)) (paths : List (List Op)) (top : List ℕ) (depth : ℕ)
     → ((h : ℕ) (ls : List (List ℕ)) (i : ℕ) → length ls ≤ 2 ^ h → length (path ls i) ≤ 2 * h)
     → 1 ≤ length leaves → length leaves ≤ 1024 → length paths ≡ length leaves
     → ((i : ℕ) → i < length leaves → get_or paths i [] ≡ path leaves i)
-    → IsLongest paths (length paths) depth → KeepsWays leaves paths depth
-keeps_ways leaves paths depth short least most count are longest =
+    → top ≡ root leaves → IsLongest paths (length paths) depth → KeepsWays leaves paths top depth
+keeps_ways leaves paths top depth short least most count are is longest =
     let deepest = is_depth leaves paths depth least count are longest in
     record {
       least = least;
       most = most;
       count = count;
       paths_are = are;
+      top_is = is;
       depth_is = deepest;
       shallow = shallow leaves depth short most deepest;
     }

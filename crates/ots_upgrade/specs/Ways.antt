@@ -2,7 +2,7 @@
 use Rattle.std.specs.Prelude.{◌≡◌, ◌≤◌, ◌<◌, ◌+◌, ◌⊎◌, ℕ, List, [], ◌∷◌, length, slice_index_or}
 use Rattle.ots_ops.specs.declared.op.Op.{Op}
 use Rattle.ots_ops.specs.declared.op.Op.TheVariants.{Append, Sha256}
-use Rattle.ots_merkle.specs.CalendarTree.{path}
+use Rattle.ots_merkle.specs.CalendarTree.{path, root}
 
 -- The number of operations before a calendar's answer: those of the longest path, and two before it.
 pub record IsDepth (leaves : List (List ℕ)) (depth : ℕ) : Type 0 where
@@ -17,11 +17,12 @@ way_from leaves i nonce = Append nonce ∷ Sha256 ∷ path leaves i
 -- ---- for the code
 
 -- what is kept of leaves
-pub record KeepsWays (leaves : List (List ℕ)) (paths : List (List Op)) (depth : ℕ) : Type 0 where
+pub record KeepsWays (leaves : List (List ℕ)) (paths : List (List Op)) (top : List ℕ) (depth : ℕ) : Type 0 where
   pub least : 1 ≤ length leaves
   pub most : length leaves ≤ 1024
   pub count : length paths ≡ length leaves
   pub paths_are : (i : ℕ) → i < length leaves → slice_index_or paths i [] ≡ path leaves i
+  pub top_is : top ≡ root leaves
   pub depth_is : IsDepth leaves depth
   pub shallow : depth ≤ 22
 

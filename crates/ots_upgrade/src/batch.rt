@@ -20,7 +20,6 @@ use ots_canon::canon;
 use ots_ops::{Digest, HashOp, Op};
 use ots_outside::Dialer;
 use ots_tree::{Detached, Tree, under};
-use sha2::{Digest as _, Sha256};
 use std::alloc::Global;
 use std::marker::Model;
 
@@ -141,10 +140,7 @@ fn leaves_of(alloc: Global, targets: &[Target]) -> Result<Vec<[u8; 32]>, OutOfMe
 fn leaf_of(target: &Target) -> [u8; 32]
     ensures { result ≡ leaf target.now }
 {
-    let mut hasher = Sha256::new();
-    hasher.update(target.digest.bytes());
-    hasher.update(&target.nonce);
-    hasher.finalize()
+    crate::ways::leaf_of(target.digest.bytes(), &target.nonce)
 }
 
 /// The canonical form of a tree after operations.

@@ -4,6 +4,7 @@
 //! |---|---|
 //! | [`stamp_with`] | each calendar is sent a digest, and answers a tree below it |
 //! | [`Outcome`] | what came of asking one |
+//! | [`leaf_of`] | the leaf of a digest and its nonce |
 //! | [`Ways`] | leaves under one root, which calendars are sent, and the way from each to it |
 //! | [`Batch`] | files that are stamped together: their root, and the proof of each |
 //! | [`gather_good`] | the trees of all calendars in one |
@@ -32,4 +33,4 @@ pub use outcome::Outcome;
 pub use stamping::stamp_with;
 pub use target::Target;
 pub use upgrading::{Upgraded, upgrade_with};
-pub use ways::Ways;
+pub use ways::{Ways, leaf_of};

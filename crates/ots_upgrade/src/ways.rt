@@ -1,5 +1,6 @@
 //! Leaves under one root, and the ways to it.
-ghost use Rattle.std.specs.Prelude.{◌≡◌, ◌≤◌, ◌<◌, ◌+◌, ◌⊎◌, ◌∷◌, ℕ, length, map, slice_index_or, [], IfOk, OnErr};
+ghost use Rattle.std.specs.Prelude.{◌≡◌, ◌≤◌, ◌<◌, ◌+◌, ◌⊎◌, ◌∷◌, ◌++◌, ℕ, length, map, slice_index_or, [], IfOk, OnErr};
+ghost use Rattle.sha2.specs.Sha256.{sha256};
 ghost use Rattle.ots_merkle.specs.CalendarTree.{path, root};
 ghost use Rattle.ots_upgrade.specs.Conversation.{Converse, ConverseUpTo};
 ghost use Rattle.ots_upgrade.specs.Outcome.{AreSound};
@@ -10,9 +11,10 @@ use crate::outcome::Outcome;
 use crate::stamping::stamp_with;
 use ots_address::Address;
 use ots_base::OutOfMemory;
-use ots_merkle::{paths, root};
+use ots_merkle::paths_and_root;
 use ots_ops::{Arg, Digest, Op, Ops};
 use ots_outside::Dialer;
+use sha2::{Digest as _, Sha256};
 use std::alloc::Global;
 use std::marker::Model;
 
@@ -24,6 +26,7 @@ use std::marker::Model;
 pub struct Ways {
     leaves: Vec<[u8; 32]>,
     paths: Vec<Ops>,
+    root: Digest,
     depth: u32,
 }
 
@@ -35,7 +38,7 @@ impl Model for Ways {
 
     ghost view = { λ w. w.leaves.items };
 
-    ghost invariant = { λ w. KeepsWays w.leaves.items w.paths.items w.depth };
+    ghost invariant = { λ w. KeepsWays w.leaves.items w.paths.items w.root w.depth };
 }
 
 impl Ways {
@@ -46,11 +49,12 @@ impl Ways {
         requires most { length leaves.items ≤ 1024 }
         ensures { IfOk result (λ ways. ways ≡ leaves.items) }
     {
-        let paths = paths(alloc, &leaves)?;
+        let (paths, root) = paths_and_root(alloc, &leaves)?;
         let depth = depth_of(&paths) as u32;
         Ok(Ways {
             leaves,
             paths,
+            root: Digest::new(&root).unwrap(),
             depth,
         })
     }
@@ -59,7 +63,7 @@ impl Ways {
     pub fn root(&self) -> Digest
         ensures { result ≡ root self.now }
     {
-        Digest::new(&root(&self.leaves)).unwrap()
+        self.root
     }
 
     /// How many operations the longest way from a digest to the root has.
@@ -68,6 +72,14 @@ impl Ways {
         ensures most { result ≤ 22 }
     {
         self.depth
+    }
+
+    /// The path of a leaf: the operations from it to the root.
+    pub fn path(&self, i: usize) -> &[Op]
+        requires { i < length self.now }
+        ensures { result.now ≡ path self.now i }
+    {
+        self.paths[i].items()
     }
 
     /// The way from the digest of a leaf to the root: the leaf's nonce is put after the digest, that is
@@ -80,7 +92,7 @@ impl Ways {
         let mut ops = Ops::new(alloc);
         ops.push(Op::Append(nonce))?;
         ops.push(Op::Sha256)?;
-        for op in self.paths[i].items() {
+        for op in self.path(i) {
             ops.push(op.copy()?)?;
         }
         Ok(ops)
@@ -102,8 +114,19 @@ impl Ways {
         ensures sound { IfOk result (λ outcomes. (depth : ℕ) × IsDepth self.now depth
             × AreSound (length (root self.now)) depth outcomes.items) }
     {
-        stamp_with(alloc, dialer, calendars, &self.root(), self.depth)
+        stamp_with(alloc, dialer, calendars, &self.root, self.depth)
     }
+}
+
+/// The leaf of a digest and its nonce: SHA-256 (FIPS 180-4) of the digest with the nonce after it.
+pub fn leaf_of(digest: &[u8], nonce: &[u8; 16]) -> [u8; 32]
+    requires { length digest.now ≤ 64 }
+    ensures { result ≡ sha256 (digest.now ++ nonce.now) }
+{
+    let mut hasher = Sha256::new();
+    hasher.update(digest);
+    hasher.update(nonce);
+    hasher.finalize()
 }
 
 /// Two more than the length of the longest of these paths.
