@@ -13,7 +13,7 @@ ghost use Rattle.ots_upgrade.specs.Ways.{IsDepth};
 
 use crate::outcome::Outcome;
 use crate::target::Target;
-use crate::ways::Ways;
+use crate::ways::{Ways, leaf_of};
 use ots_address::Address;
 use ots_base::OutOfMemory;
 use ots_canon::canon;
@@ -131,16 +131,16 @@ fn leaves_of(alloc: Global, targets: &[Target]) -> Result<Vec<[u8; 32]>, OutOfMe
 {
     let mut leaves = Vec::with_capacity(alloc, targets.len())?;
     for target in targets {
-        leaves.push(leaf_of(target))?;
+        leaves.push(target_leaf(target))?;
     }
     Ok(leaves)
 }
 
 /// The leaf of a file: SHA-256 of its digest and then its nonce.
-fn leaf_of(target: &Target) -> [u8; 32]
+fn target_leaf(target: &Target) -> [u8; 32]
     ensures { result ≡ leaf target.now }
 {
-    crate::ways::leaf_of(target.digest.bytes(), &target.nonce)
+    leaf_of(target.digest.bytes(), &target.nonce)
 }
 
 /// The canonical form of a tree after operations.
