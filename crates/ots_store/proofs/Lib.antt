@@ -11,6 +11,7 @@ pub mod Paged
 pub mod Placed
 pub mod Ranged
 pub mod Recorded
+pub mod Rising
 pub mod Spellings
 pub mod Storing
 pub mod Tipped

@@ -13,19 +13,9 @@ use Rattle.ots_store.specs.Progress.{TipEndsBy, Passed}
 use Rattle.ots_store.specs.Records.{Record, record_of, IsRecord}
 use Rattle.ots_store.proofs.Ordered.{order_push, records_push, tips_append, each_push}
 
-passed_more_tips : (tips more : List Tip) (group : List Entry) (p : Progress) → Passed tips group p → Passed (tips ++ more) group p
-passed_more_tips tips more group p passed = record {
-  tips_there = omega (arith, passed.tips_there, length-append tips more);
-  group_there = passed.group_there;
-  tips_end = subst (λ (l : List Tip). AllByRecursion (TipEndsBy p.covered) l) (sym (take-append-le p.tips tips more passed.tips_there)) passed.tips_end;
-  group_ends = passed.group_ends;
-}
-
-pub passed_more : (tips : List Tip) (group more : List Entry) (p : Progress) → Passed tips group p → Passed tips (group ++ more) p
-passed_more tips group more p passed = record {
-  tips_there = passed.tips_there;
+pub passed_more : (group more : List Entry) (p : Progress) → Passed group p → Passed (group ++ more) p
+passed_more group more p passed = record {
   group_there = omega (arith, passed.group_there, length-append group more);
-  tips_end = passed.tips_end;
   group_ends = subst (λ (l : List Entry). AllByRecursion (TipEndsBy p.covered) (tips_of (records_of l))) (sym (take-append-le p.group group more passed.group_there)) passed.group_ends;
 }
 
@@ -47,12 +37,11 @@ follow_more before group e tips old new to is follows commits covered =
     }
 
 pub held_more : (before : List Record) (e : Entry) (old mid new : HeldTold) (p p' : Progress) → HeldTo before old p → IsRecord e → Follows before (record_of e)
-    → p'.commits ≡ length (commits_of (before ++ record_of e ∷ [])) → p'.covered ≡ covered_of (before ++ record_of e ∷ []) → Passed old.tips.kept [] p'
+    → p'.commits ≡ length (commits_of (before ++ record_of e ∷ [])) → p'.covered ≡ covered_of (before ++ record_of e ∷ []) → Passed [] p'
     → ((kept flight : List Record) → Holds kept flight old → Holds kept (flight ++ record_of e ∷ []) mid)
     → ((kept flight : List Record) → Holds kept flight mid → Holds (kept ++ flight) [] new) → HeldNext before e new p'
 held_more before e old mid new p p' to is follows commits covered passed staged kept =
     let holds : Holds (before ++ record_of e ∷ []) [] new = kept before (record_of e ∷ []) (staged before [] to.holds) in
-    let tips : old.tips.kept ++ tips_of (record_of e ∷ []) ≡ new.tips.kept = ap (λ (l : List Tip). l ++ tips_of (record_of e ∷ [])) to.holds.tips ∙ sym (tips_append before (record_of e ∷ [])) ∙ sym holds.tips in
     record {
       is = is;
       follows = follows;
@@ -60,7 +49,7 @@ held_more before e old mid new p p' to is follows commits covered passed staged 
         order = order_push [] before (record_of e) to.order follows;
         holds = holds;
         progress = record { commits = commits; covered = covered; tips_are = sym holds.tips ∙ sym (append-nil new.tips.kept) };
-        passed = subst (λ (l : List Tip). Passed l [] p') tips (passed_more_tips old.tips.kept (tips_of (record_of e ∷ [])) [] p' passed);
+        passed = passed;
       };
     }
 

@@ -7,13 +7,13 @@ use Rattle.ots_journal.specs.declared.entry.Entry.{Entry}
 use Rattle.ots_store.specs.declared.anchor.Anchor.{Anchor}
 use Rattle.ots_store.specs.declared.tip.Tip.{Tip}
 use Rattle.ots_store.specs.Records.{Record, CommitRecord, TipRecord, AnchorRecord, record_of, IsRecord}
-use Rattle.ots_store.specs.Order.{commit_in, tip_in, anchor_in, commits_of, tips_of, anchors_of, anchor_end, covered_by, covered_of, HasSpan, Follows, InOrder, records_of, AreRecords}
+use Rattle.ots_store.specs.Order.{commit_in, tip_in, anchor_in, commits_of, tips_of, anchors_of, anchor_end, covered_by, covered_of, tip_end, HasSpan, Follows, InOrder, records_of, AreRecords}
 use Rattle.ots_store.specs.declared.form.Form.TheVariants as Form
 use Rattle.ots_store.specs.declared.form.Span.{Span}
 use Rattle.ots_store.specs.declared.progress.Progress.{Progress}
 use Rattle.ots_store.specs.Forms.{IsForm}
 use Rattle.ots_store.specs.Progress.{IsProgress}
-use Rattle.ots_store.specs.Ranges.{RisesFrom, reach, IsWithin, Orderly}
+use Rattle.ots_store.specs.Ranges.{RisesFrom, reach, IsWithin, TipsRiseFrom, Orderly}
 
 -- ---- one more
 
@@ -86,6 +86,12 @@ within_push : (covered commits : ℕ) (tips : List Tip) (t : Tip) → AllByRecur
 within_push covered commits [] t all one = (one, tt)
 within_push covered commits (x ∷ tips) t all one = (all.0, within_push covered commits tips t all.1 one)
 
+-- a tip more, which begins and ends no earlier than any within these
+tips_rise_push : (first end covered commits : ℕ) (tips : List Tip) (t : Tip) → first ≤ covered → end ≤ commits → AllByRecursion (IsWithin covered commits) tips → TipsRiseFrom first end tips → t.first ≡ covered → tip_end t ≡ commits
+    → TipsRiseFrom first end (tips ++ t ∷ [])
+tips_rise_push first end covered commits [] t le le' all rise begins ends = (omega arith, omega arith, tt)
+tips_rise_push first end covered commits (x ∷ tips) t le le' all rise begins ends = (rise.0, rise.1, tips_rise_push x.first (tip_end x) covered commits tips t all.0.0 all.0.1 all.1 rise.2 begins ends)
+
 pub span_within : (covered commits first count : ℕ) (tips : List Tip) → AllByRecursion (IsWithin covered commits) tips → HasSpan first count tips → (first ≤ covered) × (first + count ≤ commits)
 span_within covered commits first count [] all has = absurd has
 span_within covered commits first count (t ∷ tips) all (inl has) = (omega (arith, all.0.0, has.0), omega (arith, all.0.1, has.0, has.1))
@@ -93,7 +99,7 @@ span_within covered commits first count (t ∷ tips) all (inr has) = span_within
 
 -- the records so far, and one more that may follow
 pub orderly_none : Orderly []
-orderly_none = record { tips = tt; rises = tt; within = omega arith }
+orderly_none = record { tips = tt; tips_rise = tt; rises = tt; within = omega arith }
 
 orderly_more : (before : List Record) (r : Record) → Orderly before → Follows before r → Orderly (before ++ r ∷ [])
 orderly_more before (CommitRecord c) o follows =
@@ -102,6 +108,7 @@ orderly_more before (CommitRecord c) o follows =
     let anchors : anchors_of (before ++ CommitRecord c ∷ []) ≡ anchors_of before = anchors_append before (CommitRecord c ∷ []) ∙ append-nil (anchors_of before) in
     record {
       tips = rw (tips, anchors) (within_more (covered_of before) (covered_of before) (length (commits_of before)) (length (commits_of (before ++ CommitRecord c ∷ []))) (tips_of before) (omega arith) (omega arith) o.tips);
+      tips_rise = rw tips o.tips_rise;
       rises = rw anchors o.rises;
       within = rw anchors (omega (arith, commits, o.within));
     }
@@ -111,6 +118,7 @@ orderly_more before (TipRecord t) o follows =
     let anchors : anchors_of (before ++ TipRecord t ∷ []) ≡ anchors_of before = anchors_append before (TipRecord t ∷ []) ∙ append-nil (anchors_of before) in
     record {
       tips = rw (tips, anchors, commits) (within_push (covered_of before) (length (commits_of before)) (tips_of before) t o.tips (omega (arith, follows.begins), omega (arith, follows.ends)));
+      tips_rise = rw tips (tips_rise_push 0 0 (covered_of before) (length (commits_of before)) (tips_of before) t (omega arith) (omega arith) o.tips o.tips_rise follows.begins follows.ends);
       rises = rw anchors o.rises;
       within = rw (anchors, commits) o.within;
     }
@@ -123,6 +131,7 @@ orderly_more before (AnchorRecord a) o follows =
     let span = span_within (covered_of before) (length (commits_of before)) a.first a.count (tips_of before) o.tips follows.tip in
     record {
       tips = rw (tips, anchors, commits) (within_more (covered_of before) (covered_by (anchors_of before ++ a ∷ [])) (length (commits_of before)) (length (commits_of before)) (tips_of before) (omega (arith, covered)) (omega arith) o.tips);
+      tips_rise = rw tips o.tips_rise;
       rises = rw anchors (rises_push 0 (anchors_of before) a o.rises (omega (arith, last, span.0)) (omega (arith, last, follows.past)));
       within = rw (anchors, commits) (omega (arith, covered, o.within, span.1));
     }

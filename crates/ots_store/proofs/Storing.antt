@@ -7,10 +7,11 @@ use Rattle.ots_journal.specs.Journal.{JournalTold, StandsNow, Refreshed}
 use Rattle.ots_store.specs.declared.errors.StoreError.{StoreError}
 use Rattle.ots_store.specs.declared.errors.StoreError.TheVariants.{BadRecord, OutOfMemory}
 use Rattle.ots_store.specs.declared.anchor.Anchor.{Anchor}
+use Rattle.ots_store.specs.declared.tip.Tip.{Tip}
 use Rattle.ots_store.specs.Held.{HeldTold, Holds}
 use Rattle.ots_store.specs.Opening.{IfBad}
-use Rattle.ots_store.specs.Order.{commits_of, anchors_of, covered_by, records_of, FirstBad}
-use Rattle.ots_store.specs.Ranges.{RisesFrom}
+use Rattle.ots_store.specs.Order.{commits_of, tips_of, anchors_of, covered_by, records_of, FirstBad}
+use Rattle.ots_store.specs.Ranges.{RisesFrom, TipsRiseFrom}
 use Rattle.ots_store.specs.Records.{Record, CommitRecord, TipRecord, AnchorRecord, record_of}
 use Rattle.ots_store.specs.Store.{InRecords, StandsForRecords, StoreStands, Keeps, MakesRoom, spare_in}
 use Rattle.ots_store.proofs.Bad.{not_bad}
@@ -27,6 +28,9 @@ entries_few entries = omega (arith, commits_few (records_of entries), length-map
 
 pub rises : (entries : List Entry) (anchors : List Anchor) → InRecords entries → anchors ≡ anchors_of (records_of entries) → RisesFrom 0 anchors
 rises entries anchors are is = subst (RisesFrom 0) (sym is) (orderly (records_of entries) are.order).rises
+
+pub tips_rise : (entries : List Entry) (tips : List Tip) → InRecords entries → tips ≡ tips_of (records_of entries) → TipsRiseFrom 0 0 tips
+tips_rise entries tips are is = subst (TipsRiseFrom 0 0) (sym is) (orderly (records_of entries) are.order).tips_rise
 
 pub covered_few : (entries : List Entry) (anchors : List Anchor) → InRecords entries → anchors ≡ anchors_of (records_of entries) → covered_by anchors ≤ length entries
 covered_few entries anchors are is = let within = (orderly (records_of entries) are.order).within in omega (arith, within, entries_few entries, ap covered_by is)

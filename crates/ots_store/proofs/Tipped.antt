@@ -7,7 +7,7 @@ use Rattle.std.specs.List.{AllByRecursion}
 use Rattle.ots_journal.specs.declared.entry.Entry.{Entry}
 use Rattle.ots_store.specs.declared.tip.Tip.{Tip}
 use Rattle.ots_store.specs.Records.{record_of, IsRecord}
-use Rattle.ots_store.specs.Order.{HasSpan, tip_in, tips_of, records_of, tip_end}
+use Rattle.ots_store.specs.Order.{HasSpan, tip_in, tips_of, records_of}
 use Rattle.ots_store.specs.Progress.{TipEndsBy}
 
 pub has_left : (first count : ℕ) (xs ys : List Tip) → HasSpan first count xs → HasSpan first count (xs ++ ys)
@@ -41,9 +41,6 @@ none_ends first count covered (t ∷ tips) past all (inr has) = none_ends first 
 pub all_append : {A : Type 0} (P : A → Type 0) (xs ys : List A) → AllByRecursion P xs → AllByRecursion P ys → AllByRecursion P (xs ++ ys)
 all_append P [] ys left right = right
 all_append P (x ∷ xs) ys left right = (left.0, all_append P xs ys left.1 right)
-
-pub all_more : (covered : ℕ) (tips : List Tip) (i : ℕ) (d : Tip) → i < length tips → AllByRecursion (TipEndsBy covered) (take i tips) → tip_end (get_or tips i d) ≤ covered → AllByRecursion (TipEndsBy covered) (take (i + 1) tips)
-all_more covered tips i d lt all ends = subst (λ (l : List Tip). AllByRecursion (TipEndsBy covered) l) (sym (take_more tips i d lt)) (all_append (TipEndsBy covered) (take i tips) (get_or tips i d ∷ []) all (ends, tt))
 
 pub all_later : (covered covered' : ℕ) (tips : List Tip) → covered ≤ covered' → AllByRecursion (TipEndsBy covered) tips → AllByRecursion (TipEndsBy covered') tips
 all_later covered covered' [] le all = tt
@@ -89,17 +86,10 @@ each_after [] (suc i) each = tt
 each_after (e ∷ group) (suc i) each = each_after group i each.1
 
 -- none of the tips that were passed, and none of the others
-pub not_there : (first count covered : ℕ) (tips : List Tip) (i : ℕ) → covered < first + count → AllByRecursion (TipEndsBy covered) (take i tips) → (HasSpan first count (drop i tips) → ⊥) → HasSpan first count tips → ⊥
-not_there first count covered tips i past ends others has =
-    has_neither first count (take i tips) (drop i tips) (none_ends first count covered (take i tips) past ends) others (subst (HasSpan first count) (sym (take-append-drop i tips)) has)
-
 pub not_in_group : (first count covered : ℕ) (group : List Entry) (i : ℕ) → covered < first + count → AllByRecursion (TipEndsBy covered) (tips_of (records_of (take i group)))
     → (HasSpan first count (tips_of (records_of (drop i group))) → ⊥) → HasSpan first count (tips_of (records_of group)) → ⊥
 not_in_group first count covered group i past ends others has =
     has_neither first count (tips_of (records_of (take i group))) (tips_of (records_of (drop i group))) (none_ends first count covered (tips_of (records_of (take i group))) past ends) others (subst (HasSpan first count) (tips_split group i) has)
-
-pub there_after : (first count : ℕ) (tips : List Tip) (i : ℕ) → HasSpan first count (drop i tips) → HasSpan first count tips
-there_after first count tips i has = subst (HasSpan first count) (take-append-drop i tips) (has_right first count (take i tips) (drop i tips) has)
 
 pub there_in_group : (first count : ℕ) (group : List Entry) (i : ℕ) → HasSpan first count (tips_of (records_of (drop i group))) → HasSpan first count (tips_of (records_of group))
 there_in_group first count group i has = subst (HasSpan first count) (sym (tips_split group i)) (has_right first count (tips_of (records_of (take i group))) (tips_of (records_of (drop i group))) has)

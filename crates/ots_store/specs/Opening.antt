@@ -20,7 +20,7 @@ pub record HeldTo (records : List Record) (held : HeldTold) (p : Progress) : Typ
   pub order : InOrder [] records
   pub holds : Holds records [] held
   pub progress : IsProgress records held.tips.kept [] p
-  pub passed : Passed held.tips.kept [] p
+  pub passed : Passed [] p
 
 -- An entry more is held.
 pub record HeldNext (before : List Record) (entry : Entry) (held : HeldTold) (p : Progress) : Type 0 where

@@ -10,11 +10,9 @@ use Rattle.ots_store.specs.Order.{commits_of, tips_of, tip_end, covered_of, reco
 abbrev pub TipEndsBy : ℕ → Tip → Type 0
 TipEndsBy covered tip = tip_end tip ≤ covered
 
--- The tips that were passed end by what is covered.
-pub record Passed (tips : List Tip) (group : List Entry) (p : Progress) : Type 0 where
-  pub tips_there : p.tips ≤ length tips
+-- The tips that were passed in a group end by what is covered.
+pub record Passed (group : List Entry) (p : Progress) : Type 0 where
   pub group_there : p.group ≤ length group
-  pub tips_end : AllByRecursion (TipEndsBy p.covered) (take p.tips tips)
   pub group_ends : AllByRecursion (TipEndsBy p.covered) (tips_of (records_of (take p.group group)))
 
 -- The tips of these records are some in a list and then those of a group.

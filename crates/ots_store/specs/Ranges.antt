@@ -1,5 +1,5 @@
 -- What the order of records gives of tips and anchors, and a search by ranges rests on.
-use Rattle.std.specs.Prelude.{◌<◌, ◌≤◌, ℕ, List, [], ◌∷◌, length}
+use Rattle.std.specs.Prelude.{◌≡◌, ◌⊎◌, ◌<◌, ◌≤◌, ℕ, List, [], ◌∷◌, length}
 use Rattle.std.specs.List.{AllByRecursion}
 use Rattle.ots_store.specs.declared.anchor.Anchor.{Anchor}
 use Rattle.ots_store.specs.declared.tip.Tip.{Tip}
@@ -29,7 +29,18 @@ BeginsAfter i (anchor ∷ anchors) = i < anchor_end anchor
 abbrev pub IsWithin : ℕ → ℕ → Tip → Type 0
 IsWithin covered commits tip = (tip.first ≤ covered) × (tip_end tip ≤ commits)
 
+-- Each tip begins and ends no earlier than the one before it.
+abbrev pub TipsRiseFrom : ℕ → ℕ → List Tip → Type 0
+TipsRiseFrom first end [] = Unit {0}
+TipsRiseFrom first end (tip ∷ tips) = (first ≤ tip.first) × (end ≤ tip_end tip)
+    × TipsRiseFrom tip.first (tip_end tip) tips
+
+-- A tip begins before an index, or at it and has fewer commitments.
+abbrev pub Precedes : ℕ → ℕ → Tip → Type 0
+Precedes first count tip = (tip.first < first) ⊎ ((tip.first ≡ first) × (tip.count < count))
+
 pub record Orderly (records : List Record) : Type 0 where
   pub tips : AllByRecursion (IsWithin (covered_of records) (length (commits_of records))) (tips_of records)
+  pub tips_rise : TipsRiseFrom 0 0 (tips_of records)
   pub rises : RisesFrom 0 (anchors_of records)
   pub within : covered_of records ≤ length (commits_of records)

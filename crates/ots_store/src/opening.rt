@@ -28,7 +28,6 @@ pub fn hold_records<D: Disk>(alloc: Global, journal: &Journal<D>) -> Result<Held
     let mut progress = Progress {
         commits: 0,
         covered: 0,
-        tips: 0,
         group: 0,
     };
     for i in 0..journal.count() {
@@ -47,7 +46,7 @@ fn hold_next(
     kind: u8,
     payload: &[u8],
 ) -> Result<bool, OutOfMemory>
-    requires passed { Passed lists.old.tips.kept [] progress.old }
+    requires passed { Passed [] progress.old }
     requires few { progress.old.commits < 2 ^ 63 }
     ensures few { progress.new.commits ≤ progress.old.commits + 1 }
     ensures yes { IfOk result (λ follows. follows ≡ true → (before : List Record) → HeldTo before lists.old progress.old
@@ -83,7 +82,6 @@ pub fn stage_entries(held: &mut Held, entries: &[Entry]) -> Result<(), OutOfMemo
 
 /// The first of these entries that spells no record, or none that may follow.
 pub fn first_bad(tips: &[Tip], before: &Progress, entries: &[Entry]) -> Option<u64>
-    requires tips { before.now.tips ≡ 0 }
     requires group { before.now.group ≡ 0 }
     requires few { before.now.commits < 2 ^ 32 }
     ensures { (records : List Record) → InOrder [] records → IsProgress records tips.now [] before.now
@@ -100,11 +98,11 @@ pub fn first_bad(tips: &[Tip], before: &Progress, entries: &[Entry]) -> Option<u
 
 /// Whether an entry spells a record that may follow.
 fn follows_next(progress: &mut Progress, tips: &[Tip], group: &[Entry], entry: &Entry) -> bool
-    requires passed { Passed tips.now group.now progress.old }
+    requires passed { Passed group.now progress.old }
     requires each { AllByRecursion IsRecord group.now }
     requires few { progress.old.commits < 2 ^ 63 }
     ensures few { progress.new.commits ≤ progress.old.commits + 1 }
-    ensures passed { Passed tips.now group.now progress.new }
+    ensures passed { Passed group.now progress.new }
     ensures is { result ≡ true → IsRecord entry.now }
     ensures yes { result ≡ true → (before : List Record) → InOrder [] before
         → FollowTo before group.now tips.now progress.old → FollowTo before (group.now ++ entry.now ∷ []) tips.now

@@ -4,12 +4,12 @@ ghost use Rattle.std.specs.List.{AllByRecursion};
 ghost use Rattle.ots_store.specs.Records.{Record, IsRecord};
 ghost use Rattle.ots_store.specs.Forms.{IsForm};
 ghost use Rattle.ots_store.specs.Order.{HasSpan, tips_of, records_of, covered_of, commits_of, Follows};
-ghost use Rattle.ots_store.specs.Ranges.{Orderly};
+ghost use Rattle.ots_store.specs.Ranges.{Orderly, TipsRiseFrom};
 ghost use Rattle.ots_store.specs.Progress.{Passed, IsProgress};
 
 use crate::Tip;
 use crate::form::{Form, Span};
-use crate::tips::{has_tip, has_tip_in, pass_group, pass_tips, reaches_past};
+use crate::tips::{has_tip, has_tip_in, pass_group, reaches_past};
 use ots_journal::Entry;
 
 /// What is known of the records before one. Their tips are some in a list, and then those of a
@@ -18,18 +18,16 @@ use ots_journal::Entry;
 pub struct Progress {
     pub commits: u64,
     pub covered: u64,
-    /// How many of the tips in the list end by what is covered.
-    pub tips: usize,
-    /// The tips among the first `group` entries of the group end by it too.
+    /// The tips among the first `group` entries of the group end by what is covered.
     pub group: usize,
 }
 
 /// Whether a record of this form may follow. If so, it is counted among those before.
 pub fn may_follow(form: &Form, tips: &[Tip], group: &[Entry], progress: &mut Progress) -> bool
-    requires passed { Passed tips.now group.now progress.old }
+    requires passed { Passed group.now progress.old }
     requires each { AllByRecursion IsRecord group.now }
     requires few { progress.old.commits < 2 ^ 63 }
-    ensures passed { Passed tips.now group.now progress.new }
+    ensures passed { Passed group.now progress.new }
     ensures few { progress.new.commits ≤ progress.old.commits + 1 }
     ensures yes { result ≡ true → (before : List Record) (r : Record) → Orderly before
         → IsProgress before tips.now group.now progress.old → IsForm form.now r → Follows before r }
@@ -67,23 +65,23 @@ fn is_next_tip(span: &Span, progress: &Progress) -> bool
 
 /// Whether an anchor is of one of the tips and reaches past what is covered. If so, that is covered.
 fn pass_anchor(span: &Span, tips: &[Tip], group: &[Entry], progress: &mut Progress) -> bool
-    requires passed { Passed tips.now group.now progress.old }
+    requires passed { Passed group.now progress.old }
     requires each { AllByRecursion IsRecord group.now }
-    ensures passed { Passed tips.now group.now progress.new }
+    ensures passed { Passed group.now progress.new }
     ensures commits { progress.new.commits ≡ progress.old.commits }
     ensures tip { result ≡ true → HasSpan span.now.first span.now.count (tips.now ++ tips_of (records_of group.now)) }
     ensures past { result ≡ true → progress.old.covered < span.now.first + span.now.count }
     ensures covered { result ≡ true → span.now.first + span.now.count < 2 ^ 64
         → progress.new.covered ≡ span.now.first + span.now.count }
-    ensures no { result ≡ false → HasSpan span.now.first span.now.count (tips.now ++ tips_of (records_of group.now))
+    ensures no { result ≡ false → TipsRiseFrom 0 0 tips.now
+        → HasSpan span.now.first span.now.count (tips.now ++ tips_of (records_of group.now))
         → progress.old.covered < span.now.first + span.now.count → ⊥ }
 {
     if !reaches_past(span.first, span.count, progress.covered) {
         return false;
     }
-    progress.tips = pass_tips(tips, progress.tips, progress.covered);
     progress.group = pass_group(group, progress.group, progress.covered);
-    if has_tip(&tips[progress.tips..], span) || has_tip_in(&group[progress.group..], span) {
+    if has_tip(tips, span) || has_tip_in(&group[progress.group..], span) {
         progress.covered = span.first.saturating_add(span.count);
         return true;
     }

@@ -240,7 +240,6 @@ impl<D: Disk> Store<D> {
         let before = Progress {
             commits: self.commits(),
             covered: self.covered(),
-            tips: 0,
             group: 0,
         };
         first_bad(self.held.tips(), &before, entries)

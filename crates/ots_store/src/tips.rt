@@ -4,6 +4,7 @@ ghost use Rattle.std.specs.List.{AllByRecursion};
 ghost use Rattle.ots_store.specs.Records.{record_of, IsRecord};
 ghost use Rattle.ots_store.specs.Order.{HasSpan, tip_in, tips_of, records_of};
 ghost use Rattle.ots_store.specs.Progress.{TipEndsBy};
+ghost use Rattle.ots_store.specs.Ranges.{TipsRiseFrom, Precedes};
 
 use crate::Tip;
 use crate::form::{Form, Span, form_of};
@@ -15,20 +16,6 @@ pub fn reaches_past(first: u64, count: u64, covered: u64) -> bool
     ensures no { result ≡ false → first + count ≤ covered }
 {
     first > covered || count > covered - first
-}
-
-/// Passes the tips that end by what is covered.
-pub fn pass_tips(tips: &[Tip], from: usize, covered: u64) -> usize
-    requires { from ≤ length tips.now }
-    ensures there { result ≤ length tips.now }
-    ensures passed { AllByRecursion (TipEndsBy covered) (take from tips.now)
-        → AllByRecursion (TipEndsBy covered) (take result tips.now) }
-{
-    let mut place = from;
-    while place < tips.len() && !reaches_past(tips[place].first, tips[place].count, covered) {
-        place += 1;
-    }
-    place
 }
 
 /// Passes the entries of which none is a tip that ends after what is covered.
@@ -56,17 +43,34 @@ fn ends_by(entry: &Entry, covered: u64) -> bool
     }
 }
 
-/// Whether one of the tips has this first index and this count.
+/// Whether one of the tips, which rise, has this first index and this count. It halves them.
 pub fn has_tip(tips: &[Tip], span: &Span) -> bool
     ensures yes { result ≡ true → HasSpan span.now.first span.now.count tips.now }
-    ensures no { result ≡ false → HasSpan span.now.first span.now.count tips.now → ⊥ }
+    ensures no { result ≡ false → TipsRiseFrom 0 0 tips.now → HasSpan span.now.first span.now.count tips.now → ⊥ }
 {
-    for tip in tips {
+    let mut low = 0;
+    let mut high = tips.len();
+    while low < high {
+        let middle = low + (high - low) / 2;
+        let tip = &tips[middle];
         if is_of(tip, span) {
             return true;
         }
+        if precedes(tip, span) {
+            low = middle + 1;
+        } else {
+            high = middle;
+        }
     }
     false
+}
+
+/// Whether a tip begins before this first index, or at it and has fewer commitments than this count.
+fn precedes(tip: &Tip, span: &Span) -> bool
+    ensures yes { result ≡ true → Precedes span.now.first span.now.count tip.now }
+    ensures no { result ≡ false → Precedes span.now.first span.now.count tip.now → ⊥ }
+{
+    tip.first < span.first || (tip.first == span.first && tip.count < span.count)
 }
 
 /// Whether a tip has this first index and this count.

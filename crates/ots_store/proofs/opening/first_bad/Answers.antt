@@ -18,12 +18,12 @@ loop-i-preserved c =
     let yes_it = c.if-not-follows_next.false in
     let one : IsRecord (get_or entries i e) = subst IsRecord c.index-entries-i.is (c.follows_next.ensures.is yes_it) in
     let more : take i entries ++ get_or entries i e ∷ [] ≡ take (i + 1) entries = sym (take_more entries i e c.loop-i-test.true) in
-    let passed : Passed tips (take i entries) new = c.follows_next.ensures.passed in
+    let passed : Passed (take i entries) new = c.follows_next.ensures.passed in
     let step : (records : List Record) → InOrder [] records → FollowTo records (take i entries) tips c.loop-i.progress → FollowTo records (take i entries ++ e ∷ []) tips new =
     c.follows_next.ensures.yes yes_it in
     record {
       each = each_more entries i e c.loop-i-test.true c.loop-i.invariant.each one;
-      passed = subst (λ (l : List Entry). Passed tips l new) more (passed_more tips (take i entries) (get_or entries i e ∷ []) new passed);
+      passed = subst (λ (l : List Entry). Passed l new) more (passed_more (take i entries) (get_or entries i e ∷ []) new passed);
       few = omega (arith, c.follows_next.ensures.few, c.loop-i.invariant.few);
       follow = λ records order progress.
           subst (λ (l : List Entry). FollowTo records l tips new) more

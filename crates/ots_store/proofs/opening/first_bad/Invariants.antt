@@ -9,7 +9,7 @@ use Rattle.ots_store.proofs.opening.first_bad.Given as goal
 abbrev pub invariant-loop-i : goal.invariant-loop-i
 invariant-loop-i l = record {
   each : AllByRecursion IsRecord (take l.i l.entries);
-  passed : Passed l.tips (take l.i l.entries) l.progress;
+  passed : Passed (take l.i l.entries) l.progress;
   few : l.progress.commits ≤ l.fn.before.commits + l.i;
   follow : (records : List Record) → InOrder [] records → IsProgress records l.tips [] l.fn.before → FollowTo records (take l.i l.entries) l.tips l.progress;
 }

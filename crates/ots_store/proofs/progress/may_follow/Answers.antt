@@ -2,6 +2,7 @@ use Rattle.std.proofs.Common.{subst}
 use Rattle.ots_store.specs.declared.form.Form.{Form}
 use Rattle.ots_store.specs.Forms.{IsForm}
 use Rattle.ots_store.proofs.Ordered.{anchor_covers}
+use Rattle.ots_store.proofs.Rising.{listed_rise}
 use Rattle.ots_store.proofs.progress.may_follow.Goals as goal
 
 pub returns-in-Anchor-clause-covered : goal.returns-in-Anchor-clause-covered
