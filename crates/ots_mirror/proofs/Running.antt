@@ -1,11 +1,8 @@
 -- A whole run.
-use Rattle.std.proofs.Common.{◌≡◌, ◌≤◌, ◌⊎◌, inl, inr, ℕ, zero, suc, List, [], ◌∷◌, ◌++◌, length, take, Option, Some, refl, sym, ap, subst, ◌∙◌, arith, append-nil, length-append}
+use Rattle.std.proofs.Common.{◌≡◌, ◌≤◌, ◌⊎◌, inl, inr, ℕ, zero, suc, List, [], ◌++◌, length, take, Option, Some, refl, sym, ap, subst, ◌∙◌, arith, append-nil, length-append}
 use Rattle.std.proofs.lemmas.List.{length-map}
-use Rattle.std.specs.Borrow.{Bor}
-use Rattle.std.specs.List.{onto_first}
-use Rattle.std.specs.Prelude.{Bool, true, false, ◌==◌, Ok, Err, cond}
 use Rattle.ots_address.specs.Address.{AddressParts}
-use Rattle.ots_address.specs.AddressList.{IfBadAddress, IsListOf, comma, pieces_of}
+use Rattle.ots_address.specs.OneAddress.{IfNotOneAddress, IsOneAddress}
 use Rattle.ots_address.specs.declared.list.AddressError.{AddressError}
 use Rattle.ots_address.specs.declared.list.AddressError.TheVariants as address
 use Rattle.ots_base.specs.Cause.{Rose}
@@ -34,7 +31,7 @@ use Rattle.ots_mirror.specs.Printed.{end_text}
 use Rattle.ots_mirror.specs.Rounds.{End, Held, LinesPrinted, MakesRounds, RoundsEnd, StopsRun, behind, current, held_in, not_printed, stops, full, disk_failed, no_memory, round_lines}
 use Rattle.ots_mirror.specs.Run.{Ends, OverDisk, RoundsOver, RunEnd, not_opened, of_rounds, open_status, refused, runs}
 use Rattle.ots_mirror.specs.Run.{disk_failed as ran_against_the_disk, no_memory as ran_short}
-use Rattle.ots_mirror.specs.Run.{IsOneAddress, IsOnly, OverAsked, OverWords, address_status, asks as words_ask, bad, bad_address, no_address_memory, opens as address_opens, several}
+use Rattle.ots_mirror.specs.Run.{OverAsked, OverWords, address_status, asks as words_ask, bad_address, no_address_memory, opens as address_opens}
 use Rattle.ots_mirror.proofs.Making.{along, cut_then}
 
 -- ---- causes
@@ -168,35 +165,12 @@ module _ {D : Type 0} (bytes : D → Option (List ℕ)) (clock : D → ℕ) (ima
       (moments (subst (λ (z : List Record). HonestOwner all z told) (sym (known ∙ ap records_of same)) owner)))
       (λ c h. h) (λ c h. h)
 
--- ---- addresses
+-- ---- the address
 
-onto_some : (b : Bool) (x : ℕ) (pieces : List (List ℕ)) → cond b ([] ∷ pieces) (onto_first x pieces) ≡ [] → ⊥
-onto_some true x pieces none = absurd cc
-onto_some false x [] none = absurd cc
-onto_some false x (p ∷ pieces) none = absurd cc
-
-some_pieces : (word : List ℕ) → pieces_of word ≡ [] → ⊥
-some_pieces [] none = absurd cc
-some_pieces (x ∷ xs) none = onto_some (x == comma) x (pieces_of xs) none
-
-pub some_addresses : (word : List ℕ) (addresses : List AddressParts) → IsListOf word addresses → 1 ≤ length addresses
-some_addresses word [] list = absurd (some_pieces word list.texts)
-some_addresses word (a ∷ rest) list = omega arith
-
-pub one_address : (word : List ℕ) (addresses : List AddressParts) (a : Bor AddressParts) → IsListOf word addresses → IsOnly addresses (Ok a) → IsOneAddress word a.now
-one_address word [] a list only = absurd only
-one_address word (one ∷ []) a list only = subst (IsOneAddress word) (sym only) list
-one_address word (one ∷ two ∷ rest) a list only = absurd only
-
-module _ {T : Type 0} (told : T → DialerTold) (faults : T → ℕ) (bytes : Option (List ℕ)) (disk sink : Type 0) (asked : Mirroring) (d : T) where
-  pub several_refused : (addresses : List AddressParts) (s : MirrorStatus) → IsListOf asked.address addresses → IsOnly addresses (Err s) → OverAsked told faults bytes disk sink asked d d (refused s)
-  several_refused [] s list only = absurd only
-  several_refused (one ∷ []) s list only = absurd only
-  several_refused (one ∷ two ∷ rest) s list only = bad_address s (several one two rest list only) refl refl
-
-  pub address_refused : (e : AddressError) (s : MirrorStatus) → IfBadAddress asked.address e → s ≡ address_status e → OverAsked told faults bytes disk sink asked d d (refused s)
-  address_refused (address.BadAddress place https) s is so = bad_address s (bad place https is so) refl refl
-  address_refused address.OutOfMemory s is so = no_address_memory refl (ap refused so)
+pub address_refused : {T : Type 0} (told : T → DialerTold) (faults : T → ℕ) (bytes : Option (List ℕ)) (disk sink : Type 0) (asked : Mirroring) (d : T) (e : AddressError) (s : MirrorStatus)
+    → IfNotOneAddress asked.address e → s ≡ address_status e → OverAsked told faults bytes disk sink asked d d (refused s)
+address_refused told faults bytes disk sink asked d (address.BadAddress place https) s none is = bad_address s (record { place = place; https = https; none = none; status = is }) refl refl
+address_refused told faults bytes disk sink asked d address.OutOfMemory s none is = no_address_memory refl (ap refused is)
 
 -- what is asked for, as the words have it
 pub words_ends : {T : Type 0} (told : T → DialerTold) (faults : T → ℕ) (bytes : Option (List ℕ)) (disk sink : Type 0) (words : Option Mirroring) (m : Mirroring) (old new : T) (images : List ℕ → Type 0) (before now : Option (List ℕ)) (r : MirrorStatus)

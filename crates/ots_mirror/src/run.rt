@@ -1,5 +1,5 @@
 //! The top call.
-ghost use Rattle.std.specs.Prelude.{◌≡◌, ◌≤◌, ◌⊎◌, ℕ, List, Some, true, length};
+ghost use Rattle.std.specs.Prelude.{◌≡◌, ◌≤◌, ◌⊎◌, ℕ, List, Some, true};
 ghost use Rattle.ots_base.specs.Cause.{Rose};
 ghost use Rattle.ots_disk.specs.Disk.{LeavesOnly};
 ghost use Rattle.ots_journal.specs.declared.entry.Entry.{Entry};
@@ -13,13 +13,13 @@ ghost use Rattle.ots_store.specs.Records.{Record};
 ghost use Rattle.ots_mirror.specs.Honest.{HonestOwner, StandsAlong};
 ghost use Rattle.ots_mirror.specs.Printed.{end_text};
 ghost use Rattle.ots_mirror.specs.Rounds.{held_in};
-ghost use Rattle.ots_mirror.specs.Run.{Ends, IsOnly, NamesOne, OverAsked, OverDisk, OverWords, RoundsOver};
+ghost use Rattle.ots_mirror.specs.Run.{Ends, NamesOne, OverAsked, OverDisk, OverWords, RoundsOver};
 ghost use Rattle.ots_mirror.specs.Run.{address_status, open_status};
 ghost use Rattle.ots_mirror_words.specs.declared.status.MirrorStatus.TheVariants.{WriteFault};
 
 use crate::printing::print_end;
 use crate::rounds::make_rounds;
-use ots_address::{Address, AddressError, read_addresses};
+use ots_address::{Address, AddressError, read_address};
 use ots_disk::Disk;
 use ots_mirror_words::{MirrorStatus, Mirroring, WordsError, read_words};
 use ots_opening::{OpenError, Unopened, open_store};
@@ -76,13 +76,9 @@ fn mirror_asked<D: Disk, K: Sink, T: Dialer>(
     ensures later { D.faults disk ≤ D.faults result.1 }
     ensures sink { SinkStays K.faults K.same out.old out.new }
 {
-    let addresses = match read_addresses(alloc, asked.address) {
-        Ok(addresses) => addresses,
-        Err(error) => return refuse(address_status(error), disk, out),
-    };
-    match only(&addresses) {
-        Ok(address) => mirror_disk(alloc, address, asked.rounds, disk, out, dialer),
-        Err(status) => refuse(status, disk, out),
+    match read_address(alloc, asked.address) {
+        Ok(address) => mirror_disk(alloc, &address, asked.rounds, disk, out, dialer),
+        Err(error) => refuse(address_status(error), disk, out),
     }
 }
 
@@ -149,23 +145,7 @@ fn refuse<D: Disk, K: Sink>(status: MirrorStatus, disk: D, out: &mut K) -> (Mirr
     (status, disk)
 }
 
-/// A list's only address. Where there are several, the second is refused, which begins with
-/// `http://`.
-fn only(addresses: &[Address]) -> Result<&Address, MirrorStatus>
-    requires { 1 ≤ length addresses.now }
-    ensures { IsOnly addresses.now result }
-{
-    match addresses {
-        [address] => Ok(address),
-        [first, ..] => Err(MirrorStatus::BadAddress {
-            place: first.text().len() as u64 + 1,
-            https: false,
-        }),
-        [] => unreachable!(),
-    }
-}
-
-/// The status of a word that is no list of addresses.
+/// The status of a word that is not one address.
 fn address_status(error: AddressError) -> MirrorStatus
     ensures { result ≡ address_status error }
 {
