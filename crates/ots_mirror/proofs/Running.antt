@@ -17,7 +17,7 @@ use Rattle.ots_mirror_words.specs.Words.{Mirroring}
 use Rattle.ots_mirror_words.specs.declared.outcome.RoundOutcome.{RoundOutcome}
 use Rattle.ots_mirror_words.specs.declared.status.MirrorStatus.{MirrorStatus}
 use Rattle.ots_mirror_words.specs.declared.status.MirrorStatus.TheVariants.{DiskFault, WriteFault}
-use Rattle.ots_opening.specs.Images.{IsOnlyImage}
+use Rattle.ots_opening.specs.Images.{IsOnlyImage, StandsAfter}
 use Rattle.ots_opening.specs.Opening.{Closes, MayClose, Opens, RefusesStore, disk_failed as failed_disk, is_refused, no_memory as no_room}
 use Rattle.ots_opening.specs.declared.errors.OpenError.{OpenError}
 use Rattle.ots_opening.proofs.Images.{found_once, opened_stands}
@@ -32,7 +32,7 @@ use Rattle.ots_mirror.specs.Rounds.{End, Held, LinesPrinted, MakesRounds, Rounds
 use Rattle.ots_mirror.specs.Run.{Ends, OverDisk, RoundsOver, RunEnd, not_opened, of_rounds, open_status, refused, runs}
 use Rattle.ots_mirror.specs.Run.{disk_failed as ran_against_the_disk, no_memory as ran_short}
 use Rattle.ots_mirror.specs.Run.{OverAsked, OverWords, address_status, asks as words_ask, bad_address, no_address_memory, opens as address_opens}
-use Rattle.ots_mirror.proofs.Making.{along, cut_then}
+use Rattle.ots_mirror.proofs.Making.{after, along, cut_then}
 
 -- ---- causes
 
@@ -143,27 +143,53 @@ module _ {T : Type 0} (told : T → DialerTold) (faults : T → ℕ) (addr : Add
 
 -- ---- a crash
 
-module _ {D : Type 0} (bytes : D → Option (List ℕ)) (clock : D → ℕ) (images : D → List ℕ → Type 0) (images_since : D → ℕ → List ℕ → Type 0) (disk : D) (found : List Entry) (one : IsOnlyImage (bytes disk) (images disk) found)
-    (all : List Record) (told : DialerTold) (owner : HonestOwner all (records_of found) told) where
-  still_along : (c : List ℕ) → Stands c found → StandsAlong found all c
-  still_along c stands = along found found all c ([], sym (append-nil found)) owner.begin stands
+module _ {D : Type 0} (bytes : D → Option (List ℕ)) (clock : D → ℕ) (images : D → List ℕ → Type 0) (images_since : D → ℕ → List ℕ → Type 0) (disk : D) (found : List Entry) (one : IsOnlyImage (bytes disk) (images disk) found) where
+  -- what holds of each image that stands for the entries found
+  module _ (P : List ℕ → Type 0) (still : (c : List ℕ) → Stands c found → P c) where
+    -- the disk is opened at most
+    opened_leaves : (new : D) → LeavesOnly clock images_since disk new (OpenedFrom (images disk)) → LeavesOnly clock images_since disk new P
+    opened_leaves new moments = weaker clock images_since disk new _ _ moments (λ c left. still c (opened_stands (bytes disk) (images disk) found one c left))
 
-  -- the disk is opened at most
-  pub opened_along : (new : D) → LeavesOnly clock images_since disk new (OpenedFrom (images disk)) → LeavesOnly clock images_since disk new (StandsAlong found all)
-  opened_along new moments = weaker clock images_since disk new _ _ moments (λ c left. still_along c (opened_stands (bytes disk) (images disk) found one c left))
+    idle_leaves : ((d : D) (c : List ℕ) → images_since d (clock d) c → images d c) → LeavesOnly clock images_since disk disk P
+    idle_leaves only_now = opened_leaves disk (started clock images_since disk _ (λ c left. inl (only_now disk c left)))
 
-  pub idle_along : ((d : D) (c : List ℕ) → images_since d (clock d) c → images d c) → LeavesOnly clock images_since disk disk (StandsAlong found all)
-  idle_along only_now = opened_along disk (started clock images_since disk _ (λ c left. inl (only_now disk c left)))
+    -- rounds are made
+    rounds_leave : (j : JournalTold D) (new : D) → LeavesOnly clock images_since disk j.disk (OpenedFrom (images disk)) → LeavesOnly clock images_since j.disk new P → LeavesOnly clock images_since disk new P
+    rounds_leave j new opens moments = joined clock images_since disk j.disk new _ _ _ (opened_leaves j.disk opens) moments (λ c h. h) (λ c h. h)
 
-  -- rounds are made
-  pub rounds_along : (faults : D → ℕ) (j : JournalTold D) (records : List Record) (new : D) → Opens bytes faults clock images images_since disk j → records ≡ records_of j.entries
-      → (HonestOwner all records told → LeavesOnly clock images_since j.disk new (StandsAlong j.entries all)) → LeavesOnly clock images_since disk new (StandsAlong found all)
-  rounds_along faults j records new opens known moments =
+  -- whatever a calendar answers
+  still_after : (c : List ℕ) → Stands c found → StandsAfter found c
+  still_after c stands = after found found c ([], sym (append-nil found)) stands
+
+  pub opened_after : (new : D) → LeavesOnly clock images_since disk new (OpenedFrom (images disk)) → LeavesOnly clock images_since disk new (StandsAfter found)
+  opened_after = opened_leaves (StandsAfter found) still_after
+
+  pub idle_after : ((d : D) (c : List ℕ) → images_since d (clock d) c → images d c) → LeavesOnly clock images_since disk disk (StandsAfter found)
+  idle_after = idle_leaves (StandsAfter found) still_after
+
+  pub rounds_after : (faults : D → ℕ) (j : JournalTold D) (new : D) → Opens bytes faults clock images images_since disk j → LeavesOnly clock images_since j.disk new (StandsAfter j.entries) → LeavesOnly clock images_since disk new (StandsAfter found)
+  rounds_after faults j new opens moments =
       let same : j.entries ≡ found = found_once (bytes disk) (images disk) found one j.entries opens.has.stand in
-      joined clock images_since disk j.disk new _ _ _ (opened_along j.disk opens.moments)
-      (subst (λ (z : List Entry). LeavesOnly clock images_since j.disk new (StandsAlong z all)) same
-      (moments (subst (λ (z : List Record). HonestOwner all z told) (sym (known ∙ ap records_of same)) owner)))
-      (λ c h. h) (λ c h. h)
+      rounds_leave (StandsAfter found) still_after j new opens.moments (subst (λ (z : List Entry). LeavesOnly clock images_since j.disk new (StandsAfter z)) same moments)
+
+  -- where it is honest
+  module _ (all : List Record) (told : DialerTold) (owner : HonestOwner all (records_of found) told) where
+    still_along : (c : List ℕ) → Stands c found → StandsAlong found all c
+    still_along c stands = along found found all c ([], sym (append-nil found)) owner.begin stands
+
+    pub opened_along : (new : D) → LeavesOnly clock images_since disk new (OpenedFrom (images disk)) → LeavesOnly clock images_since disk new (StandsAlong found all)
+    opened_along = opened_leaves (StandsAlong found all) still_along
+
+    pub idle_along : ((d : D) (c : List ℕ) → images_since d (clock d) c → images d c) → LeavesOnly clock images_since disk disk (StandsAlong found all)
+    idle_along = idle_leaves (StandsAlong found all) still_along
+
+    pub rounds_along : (faults : D → ℕ) (j : JournalTold D) (records : List Record) (new : D) → Opens bytes faults clock images images_since disk j → records ≡ records_of j.entries
+        → (HonestOwner all records told → LeavesOnly clock images_since j.disk new (StandsAlong j.entries all)) → LeavesOnly clock images_since disk new (StandsAlong found all)
+    rounds_along faults j records new opens known moments =
+        let same : j.entries ≡ found = found_once (bytes disk) (images disk) found one j.entries opens.has.stand in
+        rounds_leave (StandsAlong found all) still_along j new opens.moments
+        (subst (λ (z : List Entry). LeavesOnly clock images_since j.disk new (StandsAlong z all)) same
+        (moments (subst (λ (z : List Record). HonestOwner all z told) (sym (known ∙ ap records_of same)) owner)))
 
 -- ---- the address
 

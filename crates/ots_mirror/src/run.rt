@@ -6,7 +6,7 @@ ghost use Rattle.ots_journal.specs.declared.entry.Entry.{Entry};
 ghost use Rattle.ots_journal.specs.declared.limits.TheConstants.{MAX_JOURNAL};
 ghost use Rattle.ots_journal.specs.Image.{Stands};
 ghost use Rattle.ots_mirror_words.specs.Words.{asked, read_as};
-ghost use Rattle.ots_opening.specs.Images.{IsOnlyImage};
+ghost use Rattle.ots_opening.specs.Images.{IsOnlyImage, StandsAfter};
 ghost use Rattle.ots_outputs.specs.Printed.{PrintsLastOr, SinkStays};
 ghost use Rattle.ots_store.specs.Order.{records_of};
 ghost use Rattle.ots_store.specs.Records.{Record};
@@ -33,7 +33,8 @@ use std::alloc::Global;
 ///
 /// The first word names the journal, which is the disk that is handed in. A line is printed for each
 /// round, and then how many records the journal has, or the line of the refusal; want of memory and
-/// a sink that failed have none. What the journal holds is never written over.
+/// a sink that failed have none. What the journal holds is never written over: whatever the calendar
+/// answers, a crash at any moment leaves entries that begin with those found.
 pub fn run_mirror<D: Disk, K: Sink, T: Dialer>(
     alloc: Global,
     words: &[String],
@@ -44,6 +45,8 @@ pub fn run_mirror<D: Disk, K: Sink, T: Dialer>(
     ensures ends { Ends (OverWords T.told T.faults (D.bytes disk) (Rose (D.faults disk) (D.faults result.1))
         (Rose (K.faults out.old) (K.faults out.new)) (asked words.now) dialer.old dialer.new) (D.images result.1)
         (Rose (K.faults out.old) (K.faults out.new)) (K.taken out.old) (K.taken out.new) result.0 }
+    ensures keeps { (found : List Entry) → IsOnlyImage (D.bytes disk) (D.images disk) found
+        → LeavesOnly D.clock D.images_since disk result.1 (StandsAfter found) }
     ensures crash { (found : List Entry) → IsOnlyImage (D.bytes disk) (D.images disk) found → (all : List Record)
         → HonestOwner all (records_of found) (T.told dialer.old)
         → LeavesOnly D.clock D.images_since disk result.1 (StandsAlong found all) }
@@ -69,6 +72,8 @@ fn mirror_asked<D: Disk, K: Sink, T: Dialer>(
     ensures ends { Ends (OverAsked T.told T.faults (D.bytes disk) (Rose (D.faults disk) (D.faults result.1))
         (Rose (K.faults out.old) (K.faults out.new)) (read_as asked.entry) dialer.old dialer.new) (D.images result.1)
         (Rose (K.faults out.old) (K.faults out.new)) (K.taken out.old) (K.taken out.new) result.0 }
+    ensures keeps { (found : List Entry) → IsOnlyImage (D.bytes disk) (D.images disk) found
+        → LeavesOnly D.clock D.images_since disk result.1 (StandsAfter found) }
     ensures crash { (found : List Entry) → IsOnlyImage (D.bytes disk) (D.images disk) found → (all : List Record)
         → HonestOwner all (records_of found) (T.told dialer.old)
         → LeavesOnly D.clock D.images_since disk result.1 (StandsAlong found all) }
@@ -94,6 +99,8 @@ fn mirror_disk<D: Disk, K: Sink, T: Dialer>(
     ensures ends { Ends (OverDisk T.told T.faults address.now (D.bytes disk) (Rose (D.faults disk) (D.faults result.1))
         (Rose (K.faults out.old) (K.faults out.new)) rounds dialer.old dialer.new) (D.images result.1)
         (Rose (K.faults out.old) (K.faults out.new)) (K.taken out.old) (K.taken out.new) result.0 }
+    ensures keeps { (found : List Entry) → IsOnlyImage (D.bytes disk) (D.images disk) found
+        → LeavesOnly D.clock D.images_since disk result.1 (StandsAfter found) }
     ensures crash { (found : List Entry) → IsOnlyImage (D.bytes disk) (D.images disk) found → (all : List Record)
         → HonestOwner all (records_of found) (T.told dialer.old)
         → LeavesOnly D.clock D.images_since disk result.1 (StandsAlong found all) }
@@ -123,6 +130,8 @@ fn mirror_store<D: Disk, K: Sink, T: Dialer>(
         (Rose (D.faults store.journal.disk) (D.faults result.1)) (Rose (K.faults out.old) (K.faults out.new)) rounds
         (held_in store.journal) dialer.old dialer.new) (D.images result.1)
         (Rose (K.faults out.old) (K.faults out.new)) (K.taken out.old) (K.taken out.new) result.0 }
+    ensures keeps { LeavesOnly D.clock D.images_since store.journal.disk result.1
+        (StandsAfter store.journal.entries) }
     ensures moments { (all : List Record) → HonestOwner all store.records (T.told dialer.old)
         → LeavesOnly D.clock D.images_since store.journal.disk result.1 (StandsAlong store.journal.entries all) }
     ensures later { D.faults store.journal.disk ≤ D.faults result.1 }
