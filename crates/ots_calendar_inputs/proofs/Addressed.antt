@@ -1,11 +1,11 @@
--- The one address of a word, and its URI.
-use Rattle.std.proofs.Common.{◌≡◌, ◌≤◌, ◌<◌, ◌%◌, ◌^◌, ℕ, ◌+◌, suc, Bool, true, false, inl, inr, List, [], ◌∷◌, ◌++◌, length, refl, sym, ap, subst, ◌∙◌, arith, length-append, le-ltb, cond}
-use Rattle.std.specs.Prelude.{Result, Ok, Err, MatchResult, IsTrue, None, codes, decimal, not, slice_index, ◌==◌}
-use Rattle.std.specs.List.{AllByRecursion, onto_first, position_from}
+-- The URI of an address, and a word that is no address.
+use Rattle.std.proofs.Common.{◌≡◌, ◌≤◌, ◌<◌, ◌%◌, ◌^◌, ℕ, ◌+◌, suc, inl, inr, List, [], ◌∷◌, ◌++◌, length, refl, sym, ap, subst, ◌∙◌, arith, length-append, le-ltb}
+use Rattle.std.specs.Prelude.{Result, Ok, Err, IsTrue, None, codes, decimal, not, slice_index}
+use Rattle.std.specs.List.{AllByRecursion, position_from}
 use Rattle.std.proofs.lemmas.Bool.Decides.{nat_tests}
 use Rattle.std.proofs.lemmas.Fmt.{decimal_by_steps, length-decimal-le}
-use Rattle.ots_address.specs.Address.{AddressParts, IsAddress, IsPortPart, is_host_byte}
-use Rattle.ots_address.specs.AddressList.{IfBadAddress, IsListOf, comma, pieces_of}
+use Rattle.ots_address.specs.Address.{IsAddress, IsPortPart, is_host_byte}
+use Rattle.ots_address.specs.OneAddress.{IfNotOneAddress}
 use Rattle.ots_address.specs.declared.list.AddressError.{AddressError}
 use Rattle.ots_address.specs.declared.list.AddressError.TheVariants as address
 use Rattle.ots_base.specs.Memory.{UnlessOutOfMemory}
@@ -13,11 +13,7 @@ use Rattle.ots_attest.specs.NewUri.{new_uri}
 use Rattle.ots_attest.specs.Uri.{is_uri_byte}
 use Rattle.ots_attest.specs.declared.uri.UriError.{UriError}
 use Rattle.ots_attest.specs.declared.uri.UriError.TheVariants.{OutOfMemory}
-use Rattle.ots_inputs.specs.declared.error.InputError.{InputError}
-use Rattle.ots_inputs.specs.declared.error.InputError.TheVariants.{Refused}
-use Rattle.ots_calendar_text.specs.declared.status.DaemonStatus.{DaemonStatus}
-use Rattle.ots_calendar_text.specs.declared.status.DaemonStatus.TheVariants.{BadAddress}
-use Rattle.ots_calendar_inputs.specs.Address.{IsOneAddress, MayRefuseAddress, OneOf, bad, several}
+use Rattle.ots_calendar_inputs.specs.Address.{MayRefuseAddress, refusal}
 
 -- ---- an address is a URI
 
@@ -75,31 +71,8 @@ never_refused r text host port e unless a is other =
     let clash : Err e ≡ Ok text = sym is ∙ made in
     absurd cc
 
--- ---- the word's list
+-- ---- a word that is none
 
--- there is always a piece
-onto_some : (b : Bool) (x : ℕ) (pieces : List (List ℕ)) → cond b ([] ∷ pieces) (onto_first x pieces) ≡ [] → ⊥
-onto_some true x pieces none = absurd cc
-onto_some false x [] none = absurd cc
-onto_some false x (p ∷ pieces) none = absurd cc
-
-some_pieces : (word : List ℕ) → pieces_of word ≡ [] → ⊥
-some_pieces [] none = absurd cc
-some_pieces (x ∷ xs) none = onto_some (x == comma) x (pieces_of xs) none
-
-pub some_addresses : (word : List ℕ) (addresses : List AddressParts) → IsListOf word addresses → 1 ≤ length addresses
-some_addresses word [] list = absurd (some_pieces word list.texts)
-some_addresses word (a ∷ rest) list = omega arith
-
--- what its addresses give
-pub one_gives : (word : List ℕ) (addresses : List AddressParts) (r : Result (List ℕ) (InputError DaemonStatus)) → IsListOf word addresses → OneOf addresses r
-    → MatchResult r (IsOneAddress word) (MayRefuseAddress word)
-one_gives word [] r list one = absurd one
-one_gives word (a ∷ []) (Ok uri) list one = record { address = a; list = list; text = one }
-one_gives word (a ∷ []) (Err e) list one = subst (MayRefuseAddress word) (sym one) tt
-one_gives word (a ∷ b ∷ rest) (Ok uri) list one = absurd one
-one_gives word (a ∷ b ∷ rest) (Err e) list one = subst (MayRefuseAddress word) (sym one) (several a b rest list refl)
-
-pub address_bad : (word : List ℕ) (e : AddressError) (p : ℕ) (h : Bool) (place : ℕ) (https : Bool) → p ≡ place → h ≡ https → e ≡ address.BadAddress place https → IfBadAddress word e
-    → MayRefuseAddress word (Refused (BadAddress p h))
-address_bad word e p h place https same also is refuses = bad place https (subst (IfBadAddress word) is refuses) (λ i. BadAddress (same i) (also i))
+pub none_refused : (word : List ℕ) (e : AddressError) → IfNotOneAddress word e → MayRefuseAddress word (refusal e)
+none_refused word (address.BadAddress place https) none = record { place = place; https = https; none = none; status = refl }
+none_refused word address.OutOfMemory none = tt

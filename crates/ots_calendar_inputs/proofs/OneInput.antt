@@ -1,8 +1,7 @@
 -- A word and each file give one thing at most, are refused in one way at most, and never both.
-use Rattle.std.proofs.Common.{◌≡◌, ◌≢◌, ◌<◌, inl, inr, ℕ, ◌+◌, Bool, false, List, [], ◌∷◌, ◌++◌, length, take, drop, get_or, map, Result, Err, refl, sym, ap, ◌∙◌, arith, append_assoc, length-append}
+use Rattle.std.proofs.Common.{◌≡◌, ◌≢◌, ◌<◌, inl, inr, ℕ, ◌+◌, Bool, List, [], ◌∷◌, ◌++◌, length, take, drop, Result, Err, refl, sym, ap, ◌∙◌, arith, append_assoc, length-append}
 use Rattle.std.specs.List.{AllByRecursion, flat_map}
-use Rattle.ots_address.specs.Address.{AddressParts, text_of}
-use Rattle.ots_address.proofs.ListLemmas.{none_bad, one_bad}
+use Rattle.ots_address.proofs.OneLemmas.{given_once, never_both, refused_once}
 use Rattle.ots_block.specs.Block.{Contents}
 use Rattle.ots_block.specs.declared.fault.BlockError.{BlockError}
 use Rattle.ots_block.specs.declared.fault.BlockError.TheVariants as fault
@@ -19,7 +18,7 @@ use Rattle.ots_journal.proofs.OldReading.{has_entry, stands_once1}
 use Rattle.ots_journal.proofs.Unique.{head_is, unique_entry}
 use Rattle.ots_calendar_text.specs.declared.status.DaemonStatus.{DaemonStatus}
 use Rattle.ots_calendar_text.specs.declared.status.DaemonStatus.TheVariants.{BadAddress, BadBlock, BadDigests, Damaged}
-use Rattle.ots_calendar_inputs.specs.Address.{IsOneAddress, RefusesAddress, bad, several}
+use Rattle.ots_calendar_inputs.specs.Address.{IsOneAddress, RefusesAddress}
 use Rattle.ots_calendar_inputs.specs.Block.{GivesBlock, RefusesBlock, too_big, bad_block}
 use Rattle.ots_inputs.proofs.OneFile.{lines_given_once, lines_never_both, one_bad_line}
 use Rattle.ots_calendar_inputs.specs.DigestLines.{digest_form}
@@ -30,29 +29,19 @@ use Rattle.ots_calendar_inputs.specs.Old as old
 
 -- ---- the address
 
-first_text : (a b : AddressParts) (more others : List AddressParts) → map text_of (a ∷ more) ≡ map text_of (b ∷ others) → a.text ≡ b.text
-first_text a b more others same = ap (λ (z : List (List ℕ)). get_or z 0 []) same
-
 pub address_given_once : (word first second : List ℕ) → IsOneAddress word first → IsOneAddress word second → first ≡ second
-address_given_once word first second f g = f.text ∙ first_text f.address g.address [] [] (sym f.list.texts ∙ g.list.texts) ∙ sym g.text
+address_given_once word first second f g = f.text ∙ given_once word f.address g.address f.is_address g.is_address ∙ sym g.text
 
 abbrev bad_address : ℕ → Bool → DaemonStatus
 bad_address place https = BadAddress place https
 
 pub address_refused_once : (word : List ℕ) (first second : DaemonStatus) → RefusesAddress word first → RefusesAddress word second → first ≡ second
-address_refused_once word first second (bad p h f is) (bad q k g also) =
-    let same = one_bad word p q h k f g in
-    is ∙ ap (λ (z : ℕ). bad_address z h) same.0 ∙ ap (bad_address q) same.1 ∙ sym also
-address_refused_once word first second (bad p h f is) (several a b rest list also) = absurd (none_bad word p h f list.good)
-address_refused_once word first second (several a b rest list is) (bad q k g also) = absurd (none_bad word q k g list.good)
-address_refused_once word first second (several a b rest list is) (several c d more other also) =
-    is ∙ ap (λ (z : List ℕ). bad_address (length z + 1) false) (first_text a c (b ∷ rest) (d ∷ more) (sym list.texts ∙ other.texts)) ∙ sym also
+address_refused_once word first second f g =
+    let (place, https) = refused_once word f.place g.place f.https g.https f.none g.none in
+    f.status ∙ (λ i. bad_address (place i) (https i)) ∙ sym g.status
 
 pub address_never_both : (word uri : List ℕ) (status : DaemonStatus) → IsOneAddress word uri → RefusesAddress word status → ⊥
-address_never_both word uri status one (bad p h f is) = none_bad word p h f one.list.good
-address_never_both word uri status one (several a b rest list is) =
-    let same : map text_of (one.address ∷ []) ≡ map text_of (a ∷ b ∷ rest) = sym one.list.texts ∙ list.texts in
-    absurd (omega (arith, ap length same))
+address_never_both word uri status is refuses = never_both word is.address refuses.place refuses.https is.is_address refuses.none
 
 -- ---- the key
 

@@ -1,43 +1,22 @@
 //! The calendar's own address.
-ghost use Rattle.std.specs.Prelude.{◌≡◌, ◌≤◌, length, MatchResult};
-ghost use Rattle.ots_calendar_inputs.specs.Address.{IsOneAddress, MayRefuseAddress, OneOf};
+ghost use Rattle.std.specs.Prelude.{◌≡◌, MatchResult};
+ghost use Rattle.ots_calendar_inputs.specs.Address.{IsOneAddress, MayRefuseAddress, refusal};
 ghost use Rattle.ots_inputs.specs.declared.error.InputError.TheVariants.{OutOfMemory};
 
-use ots_address::{Address, AddressError, read_addresses};
+use ots_address::{Address, AddressError, read_address};
 use ots_attest::{Uri, UriError};
 use ots_calendar_text::DaemonStatus;
 use ots_inputs::InputError;
 use std::alloc::Global;
 
-/// The URI that a calendar's pending attestations name: the word's one address. Where the word has
-/// several, it is refused at the second.
+/// The URI that a calendar's pending attestations name: the text of the address that the word is.
+/// `Refused` comes as `BadAddress` does in [`read_address`].
 pub fn read_uri(alloc: Global, word: &str) -> Result<Uri, InputError<DaemonStatus>>
     ensures { MatchResult result (IsOneAddress word.now) (MayRefuseAddress word.now) }
 {
-    match read_addresses(alloc, word) {
-        Ok(addresses) => one_of(alloc, &addresses),
-        Err(AddressError::BadAddress { place, https }) => {
-            Err(InputError::Refused(DaemonStatus::BadAddress {
-                place: place as u64,
-                https,
-            }))
-        }
-        Err(AddressError::OutOfMemory) => Err(InputError::OutOfMemory),
-    }
-}
-
-/// The URI of a list's only address. Any second one begins with `http://`.
-fn one_of(alloc: Global, addresses: &[Address]) -> Result<Uri, InputError<DaemonStatus>>
-    requires { 1 ≤ length addresses.now }
-    ensures { OneOf addresses.now result }
-{
-    match addresses {
-        [address] => uri_of(alloc, address),
-        [first, _, ..] => Err(InputError::Refused(DaemonStatus::BadAddress {
-            place: first.text().len() as u64 + 1,
-            https: false,
-        })),
-        [] => unreachable!(),
+    match read_address(alloc, word) {
+        Ok(address) => uri_of(alloc, &address),
+        Err(error) => Err(refusal(error)),
     }
 }
 
@@ -51,5 +30,20 @@ fn uri_of(alloc: Global, address: &Address) -> Result<Uri, InputError<DaemonStat
         // An address has at most 266 bytes, and none that a URI may not have.
         Err(UriError::TooLong(_)) => unreachable!(),
         Err(UriError::BadChar(_)) => unreachable!(),
+    }
+}
+
+/// The refusal of a word that is not one address, or want of memory.
+fn refusal(error: AddressError) -> InputError<DaemonStatus>
+    ensures { result ≡ refusal error }
+{
+    match error {
+        AddressError::BadAddress { place, https } => {
+            InputError::Refused(DaemonStatus::BadAddress {
+                place: place as u64,
+                https,
+            })
+        }
+        AddressError::OutOfMemory => InputError::OutOfMemory,
     }
 }

@@ -22,7 +22,7 @@ use Rattle.ots_mirror.specs.Honest.{HonestOwner, StandsAlong}
 use Rattle.ots_mirror.specs.Round.{TakesGroup}
 use Rattle.ots_mirror.specs.Rounds.{Held, MakesRounds, Rounds, RoundsEnd, behind, current, not_printed, stops}
 use Rattle.ots_mirror.specs.Rounds.{full as too_full, disk_failed as ran_against_the_disk, no_memory as ran_short}
-use Rattle.ots_mirror.proofs.Making.{Reached, next, along_next, fits_next, holds_next, lines_cut, lines_then, moments_next, rounds_next}
+use Rattle.ots_mirror.proofs.Making.{Reached, next, along_next, either_after, fits_next, holds_next, keeps_next, lines_cut, lines_then, moments_next, rounds_next}
 
 module _ {T D : Type 0} (told : T → DialerTold) (faults : T → ℕ) (clock : D → ℕ) (images : D → List ℕ → Type 0) (images_since : D → ℕ → List ℕ → Type 0) (address : AddressParts) (limit : ℕ)
     (found : Held) (old mid : T) (start j : JournalTold D) (before taken : Option (List ℕ)) (made : ℕ) (r : Reached told faults clock images images_since address limit found old mid start j before taken made) (rounds : ℕ) (disk sink : Type 0) where
@@ -56,6 +56,10 @@ module _ {T D : Type 0} (told : T → DialerTold) (faults : T → ℕ) (clock : 
         printed = inr (failed, lines_cut before taken after r.outcomes o r.printed printed, refl);
       }
 
+      pub ends_keeping : LeavesOnly clock images_since start.disk k.disk (StandsAfter found.entries)
+      ends_keeping = keeps_next told faults clock images images_since address limit found old mid start j before taken made r new o group round k
+          (moments_next told faults clock images images_since address limit found old mid start j before taken made r new o group round k adds.moments)
+
       pub ends_along : (all : List Record) → HonestOwner all (records_of found.entries) (told old) → LeavesOnly clock images_since start.disk k.disk (StandsAlong found.entries all)
       ends_along all owner = (along_next told faults clock images images_since address limit found old mid start j before taken made r new o group round k
           (moments_next told faults clock images images_since address limit found old mid start j before taken made r new o group round k adds.moments) all owner).1
@@ -68,11 +72,8 @@ module _ {T D : Type 0} (told : T → DialerTold) (faults : T → ℕ) (clock : 
       kept_same same c image = r.holds.kept c (subst (λ (z : JournalTold D). images z.disk c) same image)
 
       after_failed : (group : List Entry) → LeavesOnly clock images_since j.disk k.disk (StandsForEither j.entries group) → (c : List ℕ) → images k.disk c → StandsAfter r.now.entries c
-      after_failed group moments c image = pick (subst (λ (z : List Entry). StandsForEither z group c) r.holds.entries (moments.each c (counts_now k.disk (clock j.disk) c moments.later image)))
-        where
-          pick : StandsForEither r.now.entries group c → StandsAfter r.now.entries c
-          pick (inl stands) = ([], subst (Stands c) (sym (append-nil r.now.entries)) stands)
-          pick (inr stands) = (group, stands)
+      after_failed group moments c image = either_after r.now.entries r.now.entries group c ([], sym (append-nil r.now.entries))
+          (subst (λ (z : List Entry). StandsForEither z group c) r.holds.entries (moments.each c (counts_now k.disk (clock j.disk) c moments.later image)))
 
       size_is : (group : List Entry) → size_with j.gate group ≡ size_with r.now.gate group
       size_is group = ap (λ (z : ℕ). size_with z group) r.holds.gate
@@ -103,6 +104,13 @@ module _ {T D : Type 0} (told : T → DialerTold) (faults : T → ℕ) (clock : 
         entries_are = inl (ap (λ (z : JournalTold D). z.entries) same ∙ r.holds.entries);
         printed = inl r.printed;
       }
+
+      pub stopped_keeping : Stopped → LeavesOnly clock images_since start.disk k.disk (StandsAfter found.entries)
+      stopped_keeping (full group takes over is same) = subst (λ (z : JournalTold D). LeavesOnly clock images_since start.disk z.disk (StandsAfter found.entries)) (sym same) r.keeps
+      stopped_keeping (disk_failed group takes rose is moments) =
+          keeps_next told faults clock images images_since address limit found old mid start j before taken made r new _ group takes k
+          (moments_next told faults clock images images_since address limit found old mid start j before taken made r new _ group takes k moments)
+      stopped_keeping (no_memory asks is same) = subst (λ (z : JournalTold D). LeavesOnly clock images_since start.disk z.disk (StandsAfter found.entries)) (sym same) r.keeps
 
       pub stopped_along : Stopped → (all : List Record) → HonestOwner all (records_of found.entries) (told old) → LeavesOnly clock images_since start.disk k.disk (StandsAlong found.entries all)
       stopped_along (full group takes over is same) all owner = subst (λ (z : JournalTold D). LeavesOnly clock images_since start.disk z.disk (StandsAlong found.entries all)) (sym same) (r.along all owner).1

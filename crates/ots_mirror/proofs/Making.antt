@@ -18,6 +18,7 @@ use Rattle.ots_mirror_pages.proofs.Honest.{followed}
 use Rattle.ots_mirror_words.specs.Lines.{round_line}
 use Rattle.ots_mirror_words.specs.declared.outcome.RoundOutcome.{RoundOutcome}
 use Rattle.ots_mirror_words.specs.declared.outcome.RoundOutcome.TheVariants.{Took, Current, BadPage, Unreachable, Status, TooLong, BadHttp}
+use Rattle.ots_opening.specs.Images.{StandsAfter}
 use Rattle.ots_outside.specs.Dialer.{DialerTold, Sent, next_reply}
 use Rattle.ots_outside.specs.Streams.{Takes, TakesPrefix, Takes-nothing, Takes-trans}
 use Rattle.ots_store.specs.Order.{records_of}
@@ -112,6 +113,15 @@ module _ {T : Type 0} (told : T → DialerTold) (faults : T → ℕ) (address : 
 pub after_all : (found now group : List Entry) → (later : List Entry) × (now ≡ found ++ later) → (later : List Entry) × (now ++ group ≡ found ++ later)
 after_all found now group (later, is) = (later ++ group, ap (λ (z : List Entry). z ++ group) is ∙ append_assoc found later group)
 
+-- whatever a calendar answers
+pub after : (found now : List Entry) (c : List ℕ) → (later : List Entry) × (now ≡ found ++ later) → Stands c now → StandsAfter found c
+after found now c (later, is) stands = (later, subst (Stands c) is stands)
+
+pub either_after : (found now group : List Entry) (c : List ℕ) → (later : List Entry) × (now ≡ found ++ later) → StandsForEither now group c → StandsAfter found c
+either_after found now group c grown (inl stands) = after found now c grown stands
+either_after found now group c grown (inr stands) = after found (now ++ group) c (after_all found now group grown) stands
+
+-- where it is honest
 pub along : (found now : List Entry) (all : List Record) (c : List ℕ) → (later : List Entry) × (now ≡ found ++ later) → IsPrefix (records_of now) all → Stands c now → StandsAlong found all c
 along found now all c (later, is) begin stands = (later, subst (λ (z : List Entry). IsPrefix (records_of z) all) is begin, subst (Stands c) is stands)
 
@@ -148,6 +158,7 @@ pub record Reached {T D : Type 0} (told : T → DialerTold) (faults : T → ℕ)
   pub holds : Holds images limit j now
   pub grown : (later : List Entry) × (now.entries ≡ found.entries ++ later)
   pub printed : Takes before taken (round_lines outcomes)
+  pub keeps : LeavesOnly clock images_since start.disk j.disk (StandsAfter found.entries)
   pub along : (all : List Record) → HonestOwner all (records_of found.entries) (told old)
       → HonestOwner all (records_of now.entries) (told new) × LeavesOnly clock images_since start.disk j.disk (StandsAlong found.entries all)
 
@@ -163,6 +174,7 @@ module _ {T D : Type 0} (told : T → DialerTold) (faults : T → ℕ) (clock : 
     holds = holds;
     grown = ([], sym (append-nil found.entries));
     printed = Takes-nothing taken;
+    keeps = started clock images_since j.disk _ (λ c left. after found.entries found.entries c ([], sym (append-nil found.entries)) (holds.kept c (only_now j.disk c left)));
     along = λ all owner. (
       owner,
       started clock images_since j.disk _ (λ c left. along found.entries found.entries all c ([], sym (append-nil found.entries)) owner.begin (holds.kept c (only_now j.disk c left))),
@@ -176,6 +188,9 @@ module _ {T D : Type 0} (told : T → DialerTold) (faults : T → ℕ) (clock : 
 
     pub rounds_next : FitsLimit limit r.now.gate group → Rounds told faults address limit found old new (r.outcomes ++ o ∷ []) next
     rounds_next fits = rounds_more told faults address limit found r.now old mid new r.outcomes o group r.rounds round fits
+
+    pub keeps_next : (k : JournalTold D) → LeavesOnly clock images_since j.disk k.disk (StandsForEither r.now.entries group) → LeavesOnly clock images_since start.disk k.disk (StandsAfter found.entries)
+    keeps_next k moments = joined clock images_since start.disk j.disk k.disk _ _ _ r.keeps moments (λ c h. h) (λ c h. either_after found.entries r.now.entries group c r.grown h)
 
     pub along_next : (k : JournalTold D) → LeavesOnly clock images_since j.disk k.disk (StandsForEither r.now.entries group) → (all : List Record) → HonestOwner all (records_of found.entries) (told old)
         → HonestOwner all (records_of next.entries) (told new) × LeavesOnly clock images_since start.disk k.disk (StandsAlong found.entries all)
@@ -213,5 +228,6 @@ module _ {T D : Type 0} (told : T → DialerTold) (faults : T → ℕ) (clock : 
       holds = holds_next k adds;
       grown = after_all found.entries r.now.entries group r.grown;
       printed = lines_then before taken after r.outcomes o r.printed printed;
+      keeps = keeps_next k (moments_next k adds.moments);
       along = along_next k (moments_next k adds.moments);
     }

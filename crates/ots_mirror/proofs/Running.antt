@@ -1,11 +1,8 @@
 -- A whole run.
-use Rattle.std.proofs.Common.{◌≡◌, ◌≤◌, ◌⊎◌, inl, inr, ℕ, zero, suc, List, [], ◌∷◌, ◌++◌, length, take, Option, Some, refl, sym, ap, subst, ◌∙◌, arith, append-nil, length-append}
+use Rattle.std.proofs.Common.{◌≡◌, ◌≤◌, ◌⊎◌, inl, inr, ℕ, zero, suc, List, [], ◌++◌, length, take, Option, Some, refl, sym, ap, subst, ◌∙◌, arith, append-nil, length-append}
 use Rattle.std.proofs.lemmas.List.{length-map}
-use Rattle.std.specs.Borrow.{Bor}
-use Rattle.std.specs.List.{onto_first}
-use Rattle.std.specs.Prelude.{Bool, true, false, ◌==◌, Ok, Err, cond}
 use Rattle.ots_address.specs.Address.{AddressParts}
-use Rattle.ots_address.specs.AddressList.{IfBadAddress, IsListOf, comma, pieces_of}
+use Rattle.ots_address.specs.OneAddress.{IfNotOneAddress, IsOneAddress}
 use Rattle.ots_address.specs.declared.list.AddressError.{AddressError}
 use Rattle.ots_address.specs.declared.list.AddressError.TheVariants as address
 use Rattle.ots_base.specs.Cause.{Rose}
@@ -20,7 +17,7 @@ use Rattle.ots_mirror_words.specs.Words.{Mirroring}
 use Rattle.ots_mirror_words.specs.declared.outcome.RoundOutcome.{RoundOutcome}
 use Rattle.ots_mirror_words.specs.declared.status.MirrorStatus.{MirrorStatus}
 use Rattle.ots_mirror_words.specs.declared.status.MirrorStatus.TheVariants.{DiskFault, WriteFault}
-use Rattle.ots_opening.specs.Images.{IsOnlyImage}
+use Rattle.ots_opening.specs.Images.{IsOnlyImage, StandsAfter}
 use Rattle.ots_opening.specs.Opening.{Closes, MayClose, Opens, RefusesStore, disk_failed as failed_disk, is_refused, no_memory as no_room}
 use Rattle.ots_opening.specs.declared.errors.OpenError.{OpenError}
 use Rattle.ots_opening.proofs.Images.{found_once, opened_stands}
@@ -34,8 +31,8 @@ use Rattle.ots_mirror.specs.Printed.{end_text}
 use Rattle.ots_mirror.specs.Rounds.{End, Held, LinesPrinted, MakesRounds, RoundsEnd, StopsRun, behind, current, held_in, not_printed, stops, full, disk_failed, no_memory, round_lines}
 use Rattle.ots_mirror.specs.Run.{Ends, OverDisk, RoundsOver, RunEnd, not_opened, of_rounds, open_status, refused, runs}
 use Rattle.ots_mirror.specs.Run.{disk_failed as ran_against_the_disk, no_memory as ran_short}
-use Rattle.ots_mirror.specs.Run.{IsOneAddress, IsOnly, OverAsked, OverWords, address_status, asks as words_ask, bad, bad_address, no_address_memory, opens as address_opens, several}
-use Rattle.ots_mirror.proofs.Making.{along, cut_then}
+use Rattle.ots_mirror.specs.Run.{OverAsked, OverWords, address_status, asks as words_ask, bad_address, no_address_memory, opens as address_opens}
+use Rattle.ots_mirror.proofs.Making.{after, along, cut_then}
 
 -- ---- causes
 
@@ -146,57 +143,60 @@ module _ {T : Type 0} (told : T → DialerTold) (faults : T → ℕ) (addr : Add
 
 -- ---- a crash
 
-module _ {D : Type 0} (bytes : D → Option (List ℕ)) (clock : D → ℕ) (images : D → List ℕ → Type 0) (images_since : D → ℕ → List ℕ → Type 0) (disk : D) (found : List Entry) (one : IsOnlyImage (bytes disk) (images disk) found)
-    (all : List Record) (told : DialerTold) (owner : HonestOwner all (records_of found) told) where
-  still_along : (c : List ℕ) → Stands c found → StandsAlong found all c
-  still_along c stands = along found found all c ([], sym (append-nil found)) owner.begin stands
+module _ {D : Type 0} (bytes : D → Option (List ℕ)) (clock : D → ℕ) (images : D → List ℕ → Type 0) (images_since : D → ℕ → List ℕ → Type 0) (disk : D) (found : List Entry) (one : IsOnlyImage (bytes disk) (images disk) found) where
+  -- what holds of each image that stands for the entries found
+  module _ (P : List ℕ → Type 0) (still : (c : List ℕ) → Stands c found → P c) where
+    -- the disk is opened at most
+    opened_leaves : (new : D) → LeavesOnly clock images_since disk new (OpenedFrom (images disk)) → LeavesOnly clock images_since disk new P
+    opened_leaves new moments = weaker clock images_since disk new _ _ moments (λ c left. still c (opened_stands (bytes disk) (images disk) found one c left))
 
-  -- the disk is opened at most
-  pub opened_along : (new : D) → LeavesOnly clock images_since disk new (OpenedFrom (images disk)) → LeavesOnly clock images_since disk new (StandsAlong found all)
-  opened_along new moments = weaker clock images_since disk new _ _ moments (λ c left. still_along c (opened_stands (bytes disk) (images disk) found one c left))
+    idle_leaves : ((d : D) (c : List ℕ) → images_since d (clock d) c → images d c) → LeavesOnly clock images_since disk disk P
+    idle_leaves only_now = opened_leaves disk (started clock images_since disk _ (λ c left. inl (only_now disk c left)))
 
-  pub idle_along : ((d : D) (c : List ℕ) → images_since d (clock d) c → images d c) → LeavesOnly clock images_since disk disk (StandsAlong found all)
-  idle_along only_now = opened_along disk (started clock images_since disk _ (λ c left. inl (only_now disk c left)))
+    -- rounds are made
+    rounds_leave : (j : JournalTold D) (new : D) → LeavesOnly clock images_since disk j.disk (OpenedFrom (images disk)) → LeavesOnly clock images_since j.disk new P → LeavesOnly clock images_since disk new P
+    rounds_leave j new opens moments = joined clock images_since disk j.disk new _ _ _ (opened_leaves j.disk opens) moments (λ c h. h) (λ c h. h)
 
-  -- rounds are made
-  pub rounds_along : (faults : D → ℕ) (j : JournalTold D) (records : List Record) (new : D) → Opens bytes faults clock images images_since disk j → records ≡ records_of j.entries
-      → (HonestOwner all records told → LeavesOnly clock images_since j.disk new (StandsAlong j.entries all)) → LeavesOnly clock images_since disk new (StandsAlong found all)
-  rounds_along faults j records new opens known moments =
+  -- whatever a calendar answers
+  still_after : (c : List ℕ) → Stands c found → StandsAfter found c
+  still_after c stands = after found found c ([], sym (append-nil found)) stands
+
+  pub opened_after : (new : D) → LeavesOnly clock images_since disk new (OpenedFrom (images disk)) → LeavesOnly clock images_since disk new (StandsAfter found)
+  opened_after = opened_leaves (StandsAfter found) still_after
+
+  pub idle_after : ((d : D) (c : List ℕ) → images_since d (clock d) c → images d c) → LeavesOnly clock images_since disk disk (StandsAfter found)
+  idle_after = idle_leaves (StandsAfter found) still_after
+
+  pub rounds_after : (faults : D → ℕ) (j : JournalTold D) (new : D) → Opens bytes faults clock images images_since disk j → LeavesOnly clock images_since j.disk new (StandsAfter j.entries) → LeavesOnly clock images_since disk new (StandsAfter found)
+  rounds_after faults j new opens moments =
       let same : j.entries ≡ found = found_once (bytes disk) (images disk) found one j.entries opens.has.stand in
-      joined clock images_since disk j.disk new _ _ _ (opened_along j.disk opens.moments)
-      (subst (λ (z : List Entry). LeavesOnly clock images_since j.disk new (StandsAlong z all)) same
-      (moments (subst (λ (z : List Record). HonestOwner all z told) (sym (known ∙ ap records_of same)) owner)))
-      (λ c h. h) (λ c h. h)
+      rounds_leave (StandsAfter found) still_after j new opens.moments (subst (λ (z : List Entry). LeavesOnly clock images_since j.disk new (StandsAfter z)) same moments)
 
--- ---- addresses
+  -- where it is honest
+  module _ (all : List Record) (told : DialerTold) (owner : HonestOwner all (records_of found) told) where
+    still_along : (c : List ℕ) → Stands c found → StandsAlong found all c
+    still_along c stands = along found found all c ([], sym (append-nil found)) owner.begin stands
 
-onto_some : (b : Bool) (x : ℕ) (pieces : List (List ℕ)) → cond b ([] ∷ pieces) (onto_first x pieces) ≡ [] → ⊥
-onto_some true x pieces none = absurd cc
-onto_some false x [] none = absurd cc
-onto_some false x (p ∷ pieces) none = absurd cc
+    pub opened_along : (new : D) → LeavesOnly clock images_since disk new (OpenedFrom (images disk)) → LeavesOnly clock images_since disk new (StandsAlong found all)
+    opened_along = opened_leaves (StandsAlong found all) still_along
 
-some_pieces : (word : List ℕ) → pieces_of word ≡ [] → ⊥
-some_pieces [] none = absurd cc
-some_pieces (x ∷ xs) none = onto_some (x == comma) x (pieces_of xs) none
+    pub idle_along : ((d : D) (c : List ℕ) → images_since d (clock d) c → images d c) → LeavesOnly clock images_since disk disk (StandsAlong found all)
+    idle_along = idle_leaves (StandsAlong found all) still_along
 
-pub some_addresses : (word : List ℕ) (addresses : List AddressParts) → IsListOf word addresses → 1 ≤ length addresses
-some_addresses word [] list = absurd (some_pieces word list.texts)
-some_addresses word (a ∷ rest) list = omega arith
+    pub rounds_along : (faults : D → ℕ) (j : JournalTold D) (records : List Record) (new : D) → Opens bytes faults clock images images_since disk j → records ≡ records_of j.entries
+        → (HonestOwner all records told → LeavesOnly clock images_since j.disk new (StandsAlong j.entries all)) → LeavesOnly clock images_since disk new (StandsAlong found all)
+    rounds_along faults j records new opens known moments =
+        let same : j.entries ≡ found = found_once (bytes disk) (images disk) found one j.entries opens.has.stand in
+        rounds_leave (StandsAlong found all) still_along j new opens.moments
+        (subst (λ (z : List Entry). LeavesOnly clock images_since j.disk new (StandsAlong z all)) same
+        (moments (subst (λ (z : List Record). HonestOwner all z told) (sym (known ∙ ap records_of same)) owner)))
 
-pub one_address : (word : List ℕ) (addresses : List AddressParts) (a : Bor AddressParts) → IsListOf word addresses → IsOnly addresses (Ok a) → IsOneAddress word a.now
-one_address word [] a list only = absurd only
-one_address word (one ∷ []) a list only = subst (IsOneAddress word) (sym only) list
-one_address word (one ∷ two ∷ rest) a list only = absurd only
+-- ---- the address
 
-module _ {T : Type 0} (told : T → DialerTold) (faults : T → ℕ) (bytes : Option (List ℕ)) (disk sink : Type 0) (asked : Mirroring) (d : T) where
-  pub several_refused : (addresses : List AddressParts) (s : MirrorStatus) → IsListOf asked.address addresses → IsOnly addresses (Err s) → OverAsked told faults bytes disk sink asked d d (refused s)
-  several_refused [] s list only = absurd only
-  several_refused (one ∷ []) s list only = absurd only
-  several_refused (one ∷ two ∷ rest) s list only = bad_address s (several one two rest list only) refl refl
-
-  pub address_refused : (e : AddressError) (s : MirrorStatus) → IfBadAddress asked.address e → s ≡ address_status e → OverAsked told faults bytes disk sink asked d d (refused s)
-  address_refused (address.BadAddress place https) s is so = bad_address s (bad place https is so) refl refl
-  address_refused address.OutOfMemory s is so = no_address_memory refl (ap refused so)
+pub address_refused : {T : Type 0} (told : T → DialerTold) (faults : T → ℕ) (bytes : Option (List ℕ)) (disk sink : Type 0) (asked : Mirroring) (d : T) (e : AddressError) (s : MirrorStatus)
+    → IfNotOneAddress asked.address e → s ≡ address_status e → OverAsked told faults bytes disk sink asked d d (refused s)
+address_refused told faults bytes disk sink asked d (address.BadAddress place https) s none is = bad_address s (record { place = place; https = https; none = none; status = is }) refl refl
+address_refused told faults bytes disk sink asked d address.OutOfMemory s none is = no_address_memory refl (ap refused is)
 
 -- what is asked for, as the words have it
 pub words_ends : {T : Type 0} (told : T → DialerTold) (faults : T → ℕ) (bytes : Option (List ℕ)) (disk sink : Type 0) (words : Option Mirroring) (m : Mirroring) (old new : T) (images : List ℕ → Type 0) (before now : Option (List ℕ)) (r : MirrorStatus)

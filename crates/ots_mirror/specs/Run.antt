@@ -1,9 +1,7 @@
 -- A whole run.
-use Rattle.std.specs.Prelude.{◌≡◌, ℕ, ◌+◌, Bool, false, List, [], ◌∷◌, ◌++◌, length, Option, Some, None}
-use Rattle.std.specs.Borrow.{Bor}
-use Rattle.std.specs.Prelude.{Result, Ok, Err}
+use Rattle.std.specs.Prelude.{◌≡◌, ℕ, Bool, List, [], ◌++◌, length, Option, Some, None}
 use Rattle.ots_address.specs.Address.{AddressParts}
-use Rattle.ots_address.specs.AddressList.{IsBadAddress, IsListOf}
+use Rattle.ots_address.specs.OneAddress.{IsOneAddress, IsNotOneAddress}
 use Rattle.ots_address.specs.declared.list.AddressError.{AddressError}
 use Rattle.ots_address.specs.declared.list.AddressError.TheVariants as address
 use Rattle.ots_journal.specs.declared.limits.TheConstants.{MAX_JOURNAL}
@@ -23,27 +21,16 @@ use Rattle.ots_mirror.specs.Rounds.{AreLeft, End, Held, MakesRounds, round_lines
 
 -- ---- the address
 
--- Its first piece that is no address is told; or it has several addresses, and the second is told.
-pub data RefusesAddress (word : List ℕ) (s : MirrorStatus) : Type 0 where
-  bad : (place : ℕ) (https : Bool) → IsBadAddress word place https → s ≡ BadAddress place https → RefusesAddress word s
-  several : (first second : AddressParts) (rest : List AddressParts) → IsListOf word (first ∷ second ∷ rest)
-      → s ≡ BadAddress (length first.text + 1) false → RefusesAddress word s
+-- The word is not one address, and the status tells where, and whether `https://` stands there.
+pub record RefusesAddress (word : List ℕ) (s : MirrorStatus) : Type 0 where
+  pub place : ℕ
+  pub https : Bool
+  pub none : IsNotOneAddress word place https
+  pub status : s ≡ BadAddress place https
 
 abbrev pub address_status : AddressError → MirrorStatus
 address_status (address.BadAddress place https) = BadAddress place https
 address_status address.OutOfMemory = OutOfMemory
-
--- The word is one address.
-abbrev pub IsOneAddress : List ℕ → AddressParts → Type 0
-IsOneAddress word address = IsListOf word (address ∷ [])
-
--- the answer for the addresses of a list
-abbrev pub IsOnly : List AddressParts → Result (Bor AddressParts) MirrorStatus → Type 0
-IsOnly [] r = ⊥
-IsOnly (address ∷ []) (Ok a) = a.now ≡ address
-IsOnly (address ∷ []) (Err s) = ⊥
-IsOnly (first ∷ second ∷ rest) (Ok a) = ⊥
-IsOnly (first ∷ second ∷ rest) (Err s) = s ≡ BadAddress (length first.text + 1) false
 
 -- ---- the journal
 

@@ -3,6 +3,7 @@ ghost use Rattle.std.specs.Prelude.{◌≡◌, ◌≤◌, ℕ, List, true};
 ghost use Rattle.ots_base.specs.Cause.{Rose};
 ghost use Rattle.ots_disk.specs.Disk.{LeavesOnly};
 ghost use Rattle.ots_journal.specs.Image.{Stands};
+ghost use Rattle.ots_opening.specs.Images.{StandsAfter};
 ghost use Rattle.ots_outputs.specs.Printed.{SinkStays};
 ghost use Rattle.ots_store.specs.Order.{records_of};
 ghost use Rattle.ots_store.specs.Records.{Record};
@@ -36,6 +37,8 @@ pub fn make_rounds<D: Disk, K: Sink, T: Dialer>(
         (Rose (K.faults out.old) (K.faults out.new)) rounds (held_in store.old.journal) dialer.old dialer.new)
         (D.images store.new.journal.disk) store.new.journal.entries (Rose (K.faults out.old) (K.faults out.new))
         (K.taken out.old) (K.taken out.new) result }
+    ensures keeps { LeavesOnly D.clock D.images_since store.old.journal.disk store.new.journal.disk
+        (StandsAfter store.old.journal.entries) }
     ensures moments { (all : List Record) → HonestOwner all store.old.records (T.told dialer.old)
         → LeavesOnly D.clock D.images_since store.old.journal.disk store.new.journal.disk
         (StandsAlong store.old.journal.entries all) }

@@ -1,25 +1,25 @@
 //! The top call.
-ghost use Rattle.std.specs.Prelude.{◌≡◌, ◌≤◌, ◌⊎◌, ℕ, List, Some, true, length};
+ghost use Rattle.std.specs.Prelude.{◌≡◌, ◌≤◌, ◌⊎◌, ℕ, List, Some, true};
 ghost use Rattle.ots_base.specs.Cause.{Rose};
 ghost use Rattle.ots_disk.specs.Disk.{LeavesOnly};
 ghost use Rattle.ots_journal.specs.declared.entry.Entry.{Entry};
 ghost use Rattle.ots_journal.specs.declared.limits.TheConstants.{MAX_JOURNAL};
 ghost use Rattle.ots_journal.specs.Image.{Stands};
 ghost use Rattle.ots_mirror_words.specs.Words.{asked, read_as};
-ghost use Rattle.ots_opening.specs.Images.{IsOnlyImage};
+ghost use Rattle.ots_opening.specs.Images.{IsOnlyImage, StandsAfter};
 ghost use Rattle.ots_outputs.specs.Printed.{PrintsLastOr, SinkStays};
 ghost use Rattle.ots_store.specs.Order.{records_of};
 ghost use Rattle.ots_store.specs.Records.{Record};
 ghost use Rattle.ots_mirror.specs.Honest.{HonestOwner, StandsAlong};
 ghost use Rattle.ots_mirror.specs.Printed.{end_text};
 ghost use Rattle.ots_mirror.specs.Rounds.{held_in};
-ghost use Rattle.ots_mirror.specs.Run.{Ends, IsOnly, NamesOne, OverAsked, OverDisk, OverWords, RoundsOver};
+ghost use Rattle.ots_mirror.specs.Run.{Ends, NamesOne, OverAsked, OverDisk, OverWords, RoundsOver};
 ghost use Rattle.ots_mirror.specs.Run.{address_status, open_status};
 ghost use Rattle.ots_mirror_words.specs.declared.status.MirrorStatus.TheVariants.{WriteFault};
 
 use crate::printing::print_end;
 use crate::rounds::make_rounds;
-use ots_address::{Address, AddressError, read_addresses};
+use ots_address::{Address, AddressError, read_address};
 use ots_disk::Disk;
 use ots_mirror_words::{MirrorStatus, Mirroring, WordsError, read_words};
 use ots_opening::{OpenError, Unopened, open_store};
@@ -33,7 +33,8 @@ use std::alloc::Global;
 ///
 /// The first word names the journal, which is the disk that is handed in. A line is printed for each
 /// round, and then how many records the journal has, or the line of the refusal; want of memory and
-/// a sink that failed have none. What the journal holds is never written over.
+/// a sink that failed have none. What the journal holds is never written over: whatever the calendar
+/// answers, a crash at any moment leaves entries that begin with those found.
 pub fn run_mirror<D: Disk, K: Sink, T: Dialer>(
     alloc: Global,
     words: &[String],
@@ -44,6 +45,8 @@ pub fn run_mirror<D: Disk, K: Sink, T: Dialer>(
     ensures ends { Ends (OverWords T.told T.faults (D.bytes disk) (Rose (D.faults disk) (D.faults result.1))
         (Rose (K.faults out.old) (K.faults out.new)) (asked words.now) dialer.old dialer.new) (D.images result.1)
         (Rose (K.faults out.old) (K.faults out.new)) (K.taken out.old) (K.taken out.new) result.0 }
+    ensures keeps { (found : List Entry) → IsOnlyImage (D.bytes disk) (D.images disk) found
+        → LeavesOnly D.clock D.images_since disk result.1 (StandsAfter found) }
     ensures crash { (found : List Entry) → IsOnlyImage (D.bytes disk) (D.images disk) found → (all : List Record)
         → HonestOwner all (records_of found) (T.told dialer.old)
         → LeavesOnly D.clock D.images_since disk result.1 (StandsAlong found all) }
@@ -69,6 +72,8 @@ fn mirror_asked<D: Disk, K: Sink, T: Dialer>(
     ensures ends { Ends (OverAsked T.told T.faults (D.bytes disk) (Rose (D.faults disk) (D.faults result.1))
         (Rose (K.faults out.old) (K.faults out.new)) (read_as asked.entry) dialer.old dialer.new) (D.images result.1)
         (Rose (K.faults out.old) (K.faults out.new)) (K.taken out.old) (K.taken out.new) result.0 }
+    ensures keeps { (found : List Entry) → IsOnlyImage (D.bytes disk) (D.images disk) found
+        → LeavesOnly D.clock D.images_since disk result.1 (StandsAfter found) }
     ensures crash { (found : List Entry) → IsOnlyImage (D.bytes disk) (D.images disk) found → (all : List Record)
         → HonestOwner all (records_of found) (T.told dialer.old)
         → LeavesOnly D.clock D.images_since disk result.1 (StandsAlong found all) }
@@ -76,13 +81,9 @@ fn mirror_asked<D: Disk, K: Sink, T: Dialer>(
     ensures later { D.faults disk ≤ D.faults result.1 }
     ensures sink { SinkStays K.faults K.same out.old out.new }
 {
-    let addresses = match read_addresses(alloc, asked.address) {
-        Ok(addresses) => addresses,
-        Err(error) => return refuse(address_status(error), disk, out),
-    };
-    match only(&addresses) {
-        Ok(address) => mirror_disk(alloc, address, asked.rounds, disk, out, dialer),
-        Err(status) => refuse(status, disk, out),
+    match read_address(alloc, asked.address) {
+        Ok(address) => mirror_disk(alloc, &address, asked.rounds, disk, out, dialer),
+        Err(error) => refuse(address_status(error), disk, out),
     }
 }
 
@@ -98,6 +99,8 @@ fn mirror_disk<D: Disk, K: Sink, T: Dialer>(
     ensures ends { Ends (OverDisk T.told T.faults address.now (D.bytes disk) (Rose (D.faults disk) (D.faults result.1))
         (Rose (K.faults out.old) (K.faults out.new)) rounds dialer.old dialer.new) (D.images result.1)
         (Rose (K.faults out.old) (K.faults out.new)) (K.taken out.old) (K.taken out.new) result.0 }
+    ensures keeps { (found : List Entry) → IsOnlyImage (D.bytes disk) (D.images disk) found
+        → LeavesOnly D.clock D.images_since disk result.1 (StandsAfter found) }
     ensures crash { (found : List Entry) → IsOnlyImage (D.bytes disk) (D.images disk) found → (all : List Record)
         → HonestOwner all (records_of found) (T.told dialer.old)
         → LeavesOnly D.clock D.images_since disk result.1 (StandsAlong found all) }
@@ -127,6 +130,8 @@ fn mirror_store<D: Disk, K: Sink, T: Dialer>(
         (Rose (D.faults store.journal.disk) (D.faults result.1)) (Rose (K.faults out.old) (K.faults out.new)) rounds
         (held_in store.journal) dialer.old dialer.new) (D.images result.1)
         (Rose (K.faults out.old) (K.faults out.new)) (K.taken out.old) (K.taken out.new) result.0 }
+    ensures keeps { LeavesOnly D.clock D.images_since store.journal.disk result.1
+        (StandsAfter store.journal.entries) }
     ensures moments { (all : List Record) → HonestOwner all store.records (T.told dialer.old)
         → LeavesOnly D.clock D.images_since store.journal.disk result.1 (StandsAlong store.journal.entries all) }
     ensures later { D.faults store.journal.disk ≤ D.faults result.1 }
@@ -149,23 +154,7 @@ fn refuse<D: Disk, K: Sink>(status: MirrorStatus, disk: D, out: &mut K) -> (Mirr
     (status, disk)
 }
 
-/// A list's only address. Where there are several, the second is refused, which begins with
-/// `http://`.
-fn only(addresses: &[Address]) -> Result<&Address, MirrorStatus>
-    requires { 1 ≤ length addresses.now }
-    ensures { IsOnly addresses.now result }
-{
-    match addresses {
-        [address] => Ok(address),
-        [first, ..] => Err(MirrorStatus::BadAddress {
-            place: first.text().len() as u64 + 1,
-            https: false,
-        }),
-        [] => unreachable!(),
-    }
-}
-
-/// The status of a word that is no list of addresses.
+/// The status of a word that is not one address.
 fn address_status(error: AddressError) -> MirrorStatus
     ensures { result ≡ address_status error }
 {
