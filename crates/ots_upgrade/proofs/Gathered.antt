@@ -13,13 +13,22 @@ use Rattle.ots_upgrade.specs.Outcome.{AreSound, IsSoundGathered, IsSoundOutcome}
 use Rattle.ots_upgrade.specs.declared.outcome.Outcome.{Outcome}
 use Rattle.ots_upgrade.specs.declared.outcome.Outcome.TheVariants as outcome
 use Rattle.ots_merkle.specs.CalendarTree.{root}
-use Rattle.ots_upgrade.specs.Stamped.{Gathers, GathersAny, IsGatheredBelow, good_trees, leaves}
+use Rattle.ots_upgrade.specs.Stamped.{AreJoined, Gathers, GathersAny, IsGatheredBelow, good_trees, joined_all, leaves}
 use Rattle.ots_upgrade.specs.Ways.{IsDepth}
 use Rattle.ots_upgrade.specs.declared.target.Target.{Target}
 
+-- the items of one more
+all_more : (t : Node) (ts : List Node) (u : Node) → joined_all t (ts ++ u ∷ []) ≡ joined (joined_all t ts) u
+all_more t [] u = refl
+all_more t (s ∷ ts) u = all_more (joined t s) ts u
+
+joined_more : (ts : List Node) (node u : Node) → AreJoined ts node → AreJoined (ts ++ u ∷ []) (joined node u)
+joined_more [] node u are = absurd are
+joined_more (t ∷ ts) node u are = ap (λ (n : Node). joined n u) are ∙ sym (all_more t ts u)
+
 -- a first tree is gathered
 pub first_gathered : (trees : List (List Token)) (tree : List Token) → trees ≡ [] → IsPre tree → Gathers (trees ++ tree ∷ []) tree
-first_gathered trees tree none (node, is) = rw none (record { nodes = node ∷ []; are = ap (λ t. t ∷ []) is; node = node; is = is; paths_are = sym (append-nil (paths node)) })
+first_gathered trees tree none (node, is) = rw none (record { nodes = node ∷ []; are = ap (λ t. t ∷ []) is; node = node; is = is; joined_are = refl; paths_are = sym (append-nil (paths node)) })
 
 -- One more is gathered.
 pub more_gathered : {E : Type 0} (trees : List (List Token)) (before tree : List Token) (made : Result (List Token) E)
@@ -33,6 +42,8 @@ more_gathered trees before tree (Ok made) one joins all beside =
       are = map-append pre all.nodes (beside.other ∷ []) ∙ (λ i. all.are i ++ beside.other_is i ∷ []);
       node = joined beside.one beside.other;
       is = beside.made_is;
+      joined_are = subst (λ (n : Node). AreJoined (all.nodes ++ beside.other ∷ []) (joined n beside.other)) (sym same)
+          (joined_more all.nodes all.node beside.other all.joined_are);
       paths_are = joins beside.one beside.other ∙ ap (λ (ps : List Path). ps ++ paths beside.other) (ap paths same ∙ all.paths_are)
           ∙ ap (λ (ps : List Path). flat_map paths all.nodes ++ ps) (sym (append-nil (paths beside.other))) ∙ sym (flat_map-append paths all.nodes (beside.other ∷ []));
     }

@@ -1,11 +1,17 @@
 -- Leaves under one root, and the ways to it.
 use Rattle.std.proofs.Common.{◌≡◌, ◌<◌, ◌≤◌, ◌+◌, ◌*◌, ◌^◌, ℕ, List, [], length, get_or, sym, ap, subst, ◌∙◌, inl, inr, arith}
-use Rattle.std.specs.Prelude.{◌⊎◌}
+use Rattle.std.specs.Prelude.{◌⊎◌, Option, None, Some}
+use Rattle.std.specs.Option.{SomeIff}
 use Rattle.std.proofs.lemmas.Bool.{cases_lt}
 use Rattle.std.proofs.lemmas.List.{get_or_default}
 use Rattle.ots_ops.specs.declared.op.Op.{Op}
 use Rattle.ots_merkle.specs.CalendarTree.{path, root}
 use Rattle.ots_upgrade.specs.Ways.{IsDepth, IsLongest, KeepsWays}
+
+-- the one value that there is
+pub some_same : (r : Option (List ℕ)) (is : Type 0) (bytes value : List ℕ) → SomeIff r is bytes → r ≡ Some value → value ≡ bytes
+some_same None is bytes value iff some = absurd cc
+some_same (Some made) is bytes value iff some = let same = iff.1 in cc (some, same)
 
 -- one more path was looked at
 pub longest_more : (paths : List (List Op)) (i old new : ℕ) (ops : List Op) → i < length paths → ops ≡ get_or paths i ops

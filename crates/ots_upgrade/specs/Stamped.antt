@@ -8,7 +8,7 @@ use Rattle.ots_ops.specs.declared.op.Op.{Op}
 use Rattle.ots_ops.specs.declared.hash_op.HashOp.TheVariants as hash
 use Rattle.ots_tree.specs.declared.token.Token.{Token}
 use Rattle.ots_tree.specs.declared.detached.Detached.{Detached}
-use Rattle.ots_tree.specs.Made.{after}
+use Rattle.ots_tree.specs.Made.{after, joined}
 use Rattle.ots_tree.specs.Sound.{IsSoundPre}
 use Rattle.ots_tree.specs.Wire.{Node, paths, pre}
 use Rattle.ots_canon.specs.Canonical.{IsCanonTree}
@@ -66,15 +66,26 @@ IsGatheredBelow targets (Some good) = IsSoundBelow targets good
 
 -- ---- for the code
 
--- One tree has the paths of all these, in order.
+-- one node with the items of all these, in their order
+abbrev pub joined_all : Node → List Node → Node
+joined_all t [] = t
+joined_all t (u ∷ us) = joined_all (joined t u) us
+
+-- A node has the items of all these, of which there is at least one.
+abbrev pub AreJoined : List Node → Node → Type 0
+AreJoined [] node = ⊥
+AreJoined (t ∷ ts) node = node ≡ joined_all t ts
+
+-- One tree has the items of all these, in order, and so their paths.
 pub record Gathers (trees : List (List Token)) (made : List Token) : Type 0 where
   pub nodes : List Node
   pub are : map pre nodes ≡ trees
   pub node : Node
   pub is : pre node ≡ made
+  pub joined_are : AreJoined nodes node
   pub paths_are : paths node ≡ flat_map paths nodes
 
--- One tree has the paths of all these, or there is none.
+-- One tree has the items of all these, or there is none.
 abbrev pub GathersAny : List (List Token) → Option (List Token) → Type 0
 GathersAny trees None = trees ≡ []
 GathersAny trees (Some made) = Gathers trees made

@@ -14,7 +14,7 @@ use Rattle.ots_tree.specs.Wire.{paths}
 use Rattle.ots_tree.specs.declared.token.Token.{Token}
 use Rattle.ots_upgrade.specs.Stamped.{IsSoundBelow, leaves, to_root}
 use Rattle.ots_upgrade.specs.declared.target.Target.{Target}
-use Rattle.ots_upgrade.proofs.Founded.{are_to_root, proof_paths, sound_after, sound_proof}
+use Rattle.ots_upgrade.proofs.Founded.{proof_paths, sound_after, sound_proof}
 use Rattle.ots_upgrade.proofs.batch.Batch.proof.Goals as goal
 
 pub invariant_of-result : goal.invariant_of-result
@@ -26,9 +26,7 @@ invariant_of-result c =
     let less : c.args.i < length targets = rw c.self.view_is c.requires.index in
     let sound : IsSoundBelow targets good = subst (λ (ts : List Target). IsSoundBelow ts good) (sym c.self.view_is) c.requires.sound in
     let after : IsSoundAfter c.items.result.now 32 0 good =
-    subst (λ (ops : List Op). IsSoundAfter ops 32 0 good)
-    (sym (are_to_root targets c.self.inside.paths.items c.args.i t c.index.result.now c.items.result.now kept.count kept.paths_are less c.index.ensures
-    (c.items.ensures ∙ c.in_ok-ops.ensures)))
+    subst (λ (ops : List Op). IsSoundAfter ops 32 0 good) (sym (c.items.ensures ∙ c.in_ok-ops.ensures ∙ ap (λ (ls : List (List ℕ)). to_root ls c.args.i t) kept.ways_are))
     (sound_after length_of_applied targets c.args.i t good path_leads less c.index-target.ensures t.is_sha256 t.is_nonce
     sound.0 sound.1 sound.2) in
     record {
@@ -44,8 +42,8 @@ returns c = λ t trees is all.
     let less : c.args.i < length targets = rw c.self.view_is c.requires.index in
     let same : c.index-target.result.now ≡ t =
     c.index-target.ensures ∙ get_or_from_slice_get targets c.args.i t c.index-target.result.now (subst (λ (ts : List Target). slice_get ts c.args.i ≡ Some t) (sym c.self.view_is) is) in
-    let ops-are = are_to_root targets c.self.inside.paths.items c.args.i c.index-target.result.now c.index.result.now c.items.result.now kept.count kept.paths_are less c.index.ensures
-    (c.items.ensures ∙ c.in_ok-ops.ensures) in
+    let ops-are : c.items.result.now ≡ to_root (leaves targets) c.args.i c.index-target.result.now =
+    c.items.ensures ∙ c.in_ok-ops.ensures ∙ ap (λ (ls : List (List ℕ)). to_root ls c.args.i c.index-target.result.now) kept.ways_are in
     record {
       hash = refl;
       digest = ap (λ (u : Target). u.digest) same;
