@@ -4,18 +4,30 @@ use Rattle.std.proofs.lemmas.Bool.{cases_lt}
 use Rattle.ots_journal.specs.declared.entry.Entry.{Entry}
 use Rattle.ots_store.specs.declared.progress.Progress.{Progress}
 use Rattle.ots_store.specs.declared.tip.Tip.{Tip}
-use Rattle.ots_store.specs.Order.{HasSpan, tips_of, tip_end, records_of}
+use Rattle.ots_store.specs.Order.{HasSpan, tips_of, tip_end, records_of, Follows}
 use Rattle.ots_store.specs.Progress.{IsProgress}
 use Rattle.ots_store.specs.Ranges.{TipsRiseFrom, Precedes, Orderly}
-use Rattle.ots_store.specs.Records.{Record}
+use Rattle.ots_store.specs.Records.{Record, CommitRecord, TipRecord, AnchorRecord}
+use Rattle.ots_store.specs.Forms.{IsForm}
+use Rattle.ots_store.specs.declared.form.Form.TheVariants as Form
+use Rattle.ots_store.specs.declared.form.Span.{Span}
 
 rise_left : (begun ended : ℕ) (xs ys : List Tip) → TipsRiseFrom begun ended (xs ++ ys) → TipsRiseFrom begun ended xs
 rise_left begun ended [] ys rise = tt
 rise_left begun ended (x ∷ xs) ys rise = (rise.0, rise.1, rise_left x.first (tip_end x) xs ys rise.2)
 
 -- the tips in the list rise, which come before those of the group
-pub listed_rise : (before : List Record) (tips : List Tip) (group : List Entry) (p : Progress) → Orderly before → IsProgress before tips group p → TipsRiseFrom 0 0 tips
+listed_rise : (before : List Record) (tips : List Tip) (group : List Entry) (p : Progress) → Orderly before → IsProgress before tips group p → TipsRiseFrom 0 0 tips
 listed_rise before tips group p o is = rise_left 0 0 tips (tips_of (records_of group)) (subst (TipsRiseFrom 0 0) is.tips_are o.tips_rise)
+
+-- an anchor that is of none of these tips may not follow
+pub not_anchor : (before : List Record) (r : Record) (span : Span) (tips : List Tip) (group : List Entry) (p : Progress) → Orderly before → IsProgress before tips group p → IsForm (Form.Anchor span) r
+    → (TipsRiseFrom 0 0 tips → HasSpan span.first span.count (tips ++ tips_of (records_of group)) → p.covered < span.first + span.count → ⊥) → Follows before r → ⊥
+not_anchor before (CommitRecord c) span tips group p o is form never follows = form
+not_anchor before (TipRecord t) span tips group p o is form never follows = form
+not_anchor before (AnchorRecord a) span tips group p o is form never follows =
+    let has : HasSpan span.first span.count (tips_of before) = rw (form.0, form.1) follows.tip in
+    never (listed_rise before tips group p o is) (subst (HasSpan span.first span.count) is.tips_are has) (omega (arith, form.0, form.1, follows.past, is.covered))
 
 -- each begins and ends no earlier than the base
 at_least : (begun ended : ℕ) (tips : List Tip) (m : ℕ) (d : Tip) → m < length tips → TipsRiseFrom begun ended tips → (begun ≤ (get_or tips m d).first) × (ended ≤ tip_end (get_or tips m d))
