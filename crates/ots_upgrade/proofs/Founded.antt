@@ -2,13 +2,12 @@
 use Rattle.std.proofs.Common.{◌≡◌, ◌<◌, ◌≤◌, ℕ, zero, suc, Bool, true, false, cond, List, [], ◌∷◌, ◌++◌, length, map, get_or, Option, None, Some, refl, sym, ap, subst, ◌∙◌, arith, append-nil}
 use Rattle.std.specs.Prelude.{◌↔◌, option_and_then, option_map}
 use Rattle.std.specs.List.{AllByRecursion, flat_map}
-use Rattle.std.proofs.lemmas.List.{get_or_default, length-map}
+use Rattle.std.proofs.lemmas.List.{length-map}
 use Rattle.sha2.proofs.Facts256.{length-sha256}
 use Rattle.ots_ops.specs.Apply.{applied}
 use Rattle.ots_ops.specs.ResultLength.{len, made}
 use Rattle.ots_ops.specs.Value.{value}
 use Rattle.ots_ops.specs.declared.op.Op.{Op}
-use Rattle.ots_ops.specs.declared.op.Op.TheVariants.{Append, Sha256}
 use Rattle.ots_canon.specs.Canonical.{IsCanonOf, IsCanonTree}
 use Rattle.ots_merkle.specs.CalendarTree.{path, root}
 use Rattle.ots_merkle.specs.Hashes.{AreHashes}

@@ -1,7 +1,7 @@
 -- What is made of files that are stamped together. Source: the client of the reference library (opentimestamps-client,
 -- otsclient/cmds.py, stamp_command): each digest is hashed with a nonce of its own, and one tree stands over all of
 -- these.
-use Rattle.std.specs.Prelude.{◌≡◌, ◌<◌, ◌≤◌, ◌+◌, ℕ, List, [], ◌∷◌, ◌++◌, length, map, Option, None, Some}
+use Rattle.std.specs.Prelude.{◌≡◌, ℕ, List, [], ◌∷◌, ◌++◌, length, map, Option, None, Some}
 use Rattle.std.specs.List.{flat_map}
 use Rattle.sha2.specs.Sha256.{sha256}
 use Rattle.ots_ops.specs.declared.op.Op.{Op}
