@@ -1,13 +1,11 @@
 -- The requests of a round's links, one after the other.
-use Rattle.std.proofs.Common.{◌≡◌, ◌<◌, ◌≤◌, ℕ, ◌+◌, ◌^◌, ◌-◌, List, [], ◌∷◌, ◌++◌, length, get_or, set, take, drop, map, refl, sym, ap, subst, ◌∙◌, arith, inl, inr, append_assoc, append-nil, take-append-drop}
-use Rattle.std.specs.Prelude.{◌⊎◌, Result, Ok, Err, OnErr, min}
+use Rattle.std.proofs.Common.{◌≡◌, ◌<◌, ℕ, ◌+◌, List, [], ◌∷◌, ◌++◌, length, get_or, set, take, drop, map, refl, sym, ap, subst, ◌∙◌, arith, inl, inr, append-nil, take-append-drop}
+use Rattle.std.specs.Prelude.{Result, Ok, Err, OnErr}
 use Rattle.std.specs.List.{flat_map}
 use Rattle.std.proofs.lemmas.Grind.{flat_map-append}
 use Rattle.std.proofs.lemmas.List.{drop-set-lt, drop_more, length-set, map-append, take_more, take_more_set}
-use Rattle.ots_base.specs.Told.{BothTold, BothTold-same}
+use Rattle.ots_base.specs.Told.{BothTold-same}
 use Rattle.ots_http.specs.Seen.{LinkSeen, Took, Takes}
-use Rattle.ots_http.specs.declared.request.Request.{Request}
-use Rattle.ots_http.specs.declared.request.RequestError.{RequestError}
 use Rattle.ots_outside.specs.Link.{LinkTold}
 use Rattle.ots_outside.specs.Streams.{Gives, Gives-nothing, Gives-trans}
 use Rattle.ots_gateway.specs.Arrived.{HearAll, IsHeard, waiting_in}

@@ -1,6 +1,6 @@
 -- The reply that is due to a digest.
-use Rattle.std.proofs.Common.{◌≡◌, ◌∙◌, ℕ, List, [], ◌++◌, sym, ap, append-nil}
-use Rattle.std.specs.Prelude.{Option, None, Some, Result, Ok, Err, IfOk}
+use Rattle.std.proofs.Common.{◌≡◌, ◌∙◌, ℕ, List, [], sym, ap, append-nil}
+use Rattle.std.specs.Prelude.{None, Some, Result, Ok, Err, IfOk}
 use Rattle.ots_http.specs.declared.replying.Reply.TheVariants as reply
 use Rattle.ots_http.specs.declared.word.Word.TheVariants.{Upstream}
 use Rattle.ots_ops.specs.declared.op.Op.{Op}

@@ -1,15 +1,14 @@
 -- The replies to the digests of a round, one after the other.
-use Rattle.std.proofs.Common.{◌≡◌, ◌<◌, ◌≤◌, ℕ, zero, suc, ◌+◌, List, [], ◌∷◌, ◌++◌, length, get_or, set, take, drop, map, refl, sym, ap, subst, ◌∙◌, arith, inl, inr, length-append, take-append-drop}
-use Rattle.std.specs.Prelude.{◌⊎◌, Result, Ok, Err, Option, None, Some, IfSome}
+use Rattle.std.proofs.Common.{◌≡◌, ◌<◌, ◌≤◌, ℕ, zero, suc, ◌+◌, List, [], ◌∷◌, ◌++◌, length, get_or, set, take, drop, map, refl, sym, ap, subst, ◌∙◌, arith, inr, length-append, take-append-drop}
+use Rattle.std.specs.Prelude.{Option, None, Some, IfSome}
 use Rattle.std.proofs.lemmas.List.{drop-set-lt, length-set, map-append, take_all, take_more, take_more_set}
-use Rattle.ots_http.specs.ReplyText.{reply_bytes}
 use Rattle.ots_http.specs.Seen.{LinkSeen, Takes}
 use Rattle.ots_http.specs.declared.replying.Reply.{Reply}
-use Rattle.ots_http.specs.declared.request.Request.TheVariants.{Digest}
 use Rattle.ots_http.proofs.Seen.{takes_after}
 use Rattle.ots_gateway.specs.Answer.{Keeps}
 use Rattle.ots_gateway.specs.Arrived.{HearAll, IsHeard, IsServed, waiting_in}
-use Rattle.ots_gateway.specs.Round.{EachMayServe, Given, Heard, MayServe, Sends, Serves, ServeAll, cut, digest, due, next, no_nonce, other, too_few, waiting_of, whole}
+use Rattle.ots_gateway.specs.Round.{EachMayServe, Given, Heard, Sends, Serves, ServeAll, cut, digest, due, next, no_nonce, other, whole}
+use Rattle.ots_gateway.specs.Ways.{leaf, leaves}
 use Rattle.ots_gateway.specs.declared.answer.Answer.{Answer}
 use Rattle.ots_gateway.specs.declared.arrived.Arrived.{Arrived}
 use Rattle.ots_gateway.specs.declared.arrived.Arrived.TheVariants as arrived
@@ -95,14 +94,28 @@ heard_at (x ∷ hs) [] ms bs i all less = absurd all
 heard_at (x ∷ hs) (y ∷ os) [] bs i all less = absurd all
 heard_at (x ∷ hs) (y ∷ os) (z ∷ ms) [] i all less = absurd all
 heard_at (x ∷ hs) (y ∷ os) (z ∷ ms) (w ∷ bs) zero all less = record {
-  heard = x; old = y; mid = z; a = w; heard_next = refl; old_next = refl; mid_there = λ d. refl; a_there = λ d. refl; is = all.0;
+  heard = x;
+  old = y;
+  mid = z;
+  a = w;
+  heard_next = refl;
+  old_next = refl;
+  mid_there = λ d. refl;
+  a_there = λ d. refl;
+  is = all.0;
 }
 heard_at (x ∷ hs) (y ∷ os) (z ∷ ms) (w ∷ bs) (suc i) all less =
     let h = heard_at hs os ms bs i all.1 (omega arith) in
     record {
-      heard = h.heard; old = h.old; mid = h.mid; a = h.a;
-      heard_next = ap (λ (t : List Heard). x ∷ t) h.heard_next; old_next = ap (λ (t : List LinkSeen). y ∷ t) h.old_next;
-      mid_there = h.mid_there; a_there = h.a_there; is = h.is;
+      heard = h.heard;
+      old = h.old;
+      mid = h.mid;
+      a = h.a;
+      heard_next = ap (λ (t : List Heard). x ∷ t) h.heard_next;
+      old_next = ap (λ (t : List LinkSeen). y ∷ t) h.old_next;
+      mid_there = h.mid_there;
+      a_there = h.a_there;
+      is = h.is;
     }
 
 -- ---- the loop
@@ -165,6 +178,19 @@ waiting_few (arrived.Waits w ∷ xs) = let few = waiting_few xs in omega (arith,
 waiting_few (arrived.Replied status ∷ xs) = let few = waiting_few xs in omega (arith, few)
 waiting_few (arrived.Closed ∷ xs) = let few = waiting_few xs in omega (arith, few)
 waiting_few (arrived.LinkFault ∷ xs) = let few = waiting_few xs in omega (arith, few)
+
+-- one more leaf, or none
+pub leaves_next : (xs : List Arrived) (i : ℕ) (a : Arrived) → i < length xs → a ≡ get_or xs i a
+    → leaves (waiting_in (take (i + 1) xs)) ≡ leaves (waiting_in (take i xs)) ++ leaves (waiting_in (a ∷ []))
+leaves_next xs i a less is =
+    ap (λ (z : List Arrived). leaves (waiting_in z)) (take_more xs i a less ∙ ap (λ (b : Arrived). take i xs ++ b ∷ []) (sym is))
+    ∙ ap leaves (waiting_in_more (take i xs) (a ∷ [])) ∙ map-append leaf (waiting_in (take i xs)) (waiting_in (a ∷ []))
+
+pub waits_none : (a : Arrived) → ((w : Waiting) → a ≡ arrived.Waits w → ⊥) → waiting_in (a ∷ []) ≡ []
+waits_none (arrived.Waits w) none = absurd (none w refl)
+waits_none (arrived.Replied status) none = refl
+waits_none arrived.Closed none = refl
+waits_none arrived.LinkFault none = refl
 
 -- one more was looked at
 pub waiting_next : (xs : List Arrived) (i : ℕ) (a : Arrived) → i < length xs → a ≡ get_or xs i a

@@ -1,10 +1,9 @@
 -- The request of one link.
-use Rattle.std.proofs.Common.{◌≡◌, ◌≤◌, ℕ, ◌+◌, ◌^◌, ◌-◌, List, [], ◌∷◌, ◌++◌, refl, sym, ap, subst, ◌∙◌, arith, append-nil}
-use Rattle.std.specs.Prelude.{Result, Ok, Err, min}
+use Rattle.std.proofs.Common.{◌≡◌, ◌≤◌, ℕ, List, [], ◌∷◌, refl, sym, ap, subst, ◌∙◌, arith, append-nil}
+use Rattle.std.specs.Prelude.{Result, Ok, Err}
 use Rattle.ots_base.specs.Cause.{Rose}
 use Rattle.ots_http.specs.ReplyText.{refusal, status_of}
 use Rattle.ots_http.specs.Seen.{LinkSeen, Takes}
-use Rattle.ots_http.specs.declared.replying.Reply.TheVariants as reply
 use Rattle.ots_http.specs.declared.request.Request.{Request}
 use Rattle.ots_http.specs.declared.request.Request.TheVariants.{Digest, Timestamp, Records, Refused}
 use Rattle.ots_http.specs.declared.request.RequestError.{RequestError}
@@ -17,7 +16,7 @@ use Rattle.ots_gateway.specs.Round.{Draws, Heard, NoncesSeen, Reads, Sends, cut,
 use Rattle.ots_gateway.specs.declared.arrived.Arrived.{Arrived}
 use Rattle.ots_gateway.specs.declared.arrived.Arrived.TheVariants as arrived
 use Rattle.ots_gateway.specs.declared.served.GateServed.{GateServed}
-use Rattle.ots_gateway.specs.declared.served.GateServed.TheVariants.{Stamped, Replied, Closed, LinkFault}
+use Rattle.ots_gateway.specs.declared.served.GateServed.TheVariants.{Replied, Closed, LinkFault}
 use Rattle.ots_gateway.specs.declared.waiting.Waiting.{Waiting}
 use Rattle.ots_gateway.proofs.Replied.{sends_after}
 

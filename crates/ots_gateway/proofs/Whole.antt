@@ -1,20 +1,29 @@
 -- A round, from what was heard to what was answered.
-use Rattle.std.proofs.Common.{◌≡◌, ◌∙◌, ◌≤◌, ℕ, List, [], ◌∷◌, ◌++◌, length, map, refl, sym, ap, subst, arith}
+use Rattle.std.proofs.Common.{◌≡◌, ◌∙◌, ◌≤◌, ℕ, List, [], ◌∷◌, ◌++◌, length, refl, sym, subst}
 use Rattle.std.specs.Prelude.{Option, None, Some, IfSome}
+use Rattle.sha2.proofs.Facts256.{length-sha256}
 use Rattle.ots_address.specs.Address.{AddressParts}
+use Rattle.ots_merkle.specs.Hashes.{AreHashes}
 use Rattle.ots_outside.specs.Dialer.{DialerTold}
 use Rattle.ots_tree.specs.Wire.{Node}
 use Rattle.ots_upgrade.specs.declared.outcome.Outcome.{Outcome}
 use Rattle.ots_gateway.specs.Answer.{Fit, IsAnswer, Keeps}
 use Rattle.ots_gateway.specs.Round.{Asks, Given, asked, below, nobody, too_few}
+use Rattle.ots_gateway.specs.Ways.{leaves}
 use Rattle.ots_gateway.specs.declared.answer.Answer.{Answer}
+use Rattle.ots_gateway.specs.declared.waiting.Waiting.{Waiting}
+
+-- the leaves are hashes
+pub hashes_of : (waiting : List Waiting) → AreHashes (leaves waiting)
+hashes_of [] = tt
+hashes_of (w ∷ waiting) = (length-sha256 (w.digest ++ w.nonce), hashes_of waiting)
 
 module _ {D : Type 0} (told : D → DialerTold) (faults : D → ℕ) (calendars : List AddressParts) (least : ℕ) (ls : List (List ℕ)) (old new : D) (outcomes : List Outcome) where
   -- the ways are those of the leaves
   over_leaves : (over : List (List ℕ)) (node : Node) (given : Given) → given ≡ below over node → Asks told faults calendars least ls old new outcomes given → over ≡ ls
-  over_leaves over node given is (nobody none same no few) = let clash = sym few ∙ is in absurd cc
+  over_leaves over node given is (nobody none same empty few) = let clash = sym few ∙ is in absurd cc
   over_leaves over node too_few is (asked depth size answered some deepest converse sound longest taken gives) = absurd cc
-  over_leaves over node (below ov no) is (asked depth size answered some deepest converse sound longest taken gives) =
+  over_leaves over node (below ov other) is (asked depth size answered some deepest converse sound longest taken gives) =
       let same : over ≡ ov = cc is in
       same ∙ gives.1
 

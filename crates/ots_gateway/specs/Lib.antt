@@ -1,1 +1,5 @@
 pub mod Taking
+pub mod Ways
+pub mod Round
+pub mod Arrived
+pub mod Answer

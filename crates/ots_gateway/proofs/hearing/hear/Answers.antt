@@ -1,4 +1,4 @@
-use Rattle.std.proofs.Common.{refl, arith, ap, subst, Err}
+use Rattle.std.proofs.Common.{refl, arith, ap, Err}
 use Rattle.ots_http.proofs.Seen.{gives}
 use Rattle.ots_gateway.proofs.Request.{closed_heard, fault_heard, waits_heard, words_heard}
 use Rattle.ots_gateway.proofs.hearing.hear.Goals as goal

@@ -1,4 +1,4 @@
-use Rattle.std.proofs.Common.{◌≡◌, ◌++◌, ◌+◌, ◌∷◌, [], List, map, arith, length, set, sym, subst, refl}
+use Rattle.std.proofs.Common.{◌+◌, List, map, arith, set, sym, subst}
 use Rattle.ots_gateway.proofs.Arriving.{Hearing, any_err, each_same, hearing_each, hearing_more, hearing_none}
 use Rattle.ots_gateway.specs.Arrived.{IsHeard}
 use Rattle.ots_gateway.specs.declared.arrived.Arrived.{Arrived}

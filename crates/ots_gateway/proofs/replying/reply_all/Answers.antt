@@ -1,6 +1,5 @@
-use Rattle.std.proofs.Common.{◌≡◌, ◌∙◌, ◌++◌, ◌∷◌, ◌+◌, [], List, map, ap, arith, length, set, take, sym, subst, refl}
+use Rattle.std.proofs.Common.{◌∙◌, ◌+◌, List, map, arith, set, sym, subst, refl}
 use Rattle.std.proofs.lemmas.List.{length-set}
-use Rattle.ots_http.specs.Seen.{LinkSeen}
 use Rattle.ots_gateway.specs.Arrived.{IsHeard}
 use Rattle.ots_gateway.specs.Round.{EachMayServe}
 use Rattle.ots_gateway.specs.declared.served.GateServed.{GateServed}
@@ -50,15 +49,15 @@ returns-in_err-push-clause-broken_off g c = λ heard olds given all answer. any_
 pub loop-i-preserved : goal.loop-i-preserved
 loop-i-preserved g c = record {
   replying = λ heard olds given all answer.
-    subst (λ (ss : List GateServed). Replying (λ k. record { told = g.L.Link.told k; faults = g.L.Link.faults k }) heard olds c.args.links.now (set c.loop-i.links c.loop-i.i c.serve.new.link) ss given c.in_ok-one.next (c.loop-i.i + 1)) (sym c.in_ok-push.ensures.items)
-    (replying_step (λ k. record { told = g.L.Link.told k; faults = g.L.Link.faults k }) heard olds c.args.links.now c.loop-i.links c.loop-i.served.items given c.loop-i.place c.in_ok-one.next c.loop-i.i
-    c.index-links-i.result c.serve.new.link c.args.arrived.now c.index-arrived-i.result c.in_ok-one.one all (omega (arith, c.loop-i-test.true)) c.requires.links
-    c.index-links-i.is c.index-arrived-i.is
-    (λ h old is. c.in_ok-one.ensures.served h old given (subst (λ y. IsHeard h old (record { told = g.L.Link.told y; faults = g.L.Link.faults y }) c.index-arrived-i.result) c.index-links-i.is is) answer)
-    (c.loop-i.invariant.replying heard olds given all answer));
+      subst (λ (ss : List GateServed). Replying (λ k. record { told = g.L.Link.told k; faults = g.L.Link.faults k }) heard olds c.args.links.now (set c.loop-i.links c.loop-i.i c.serve.new.link) ss given c.in_ok-one.next (c.loop-i.i + 1)) (sym c.in_ok-push.ensures.items)
+      (replying_step (λ k. record { told = g.L.Link.told k; faults = g.L.Link.faults k }) heard olds c.args.links.now c.loop-i.links c.loop-i.served.items given c.loop-i.place c.in_ok-one.next c.loop-i.i
+      c.index-links-i.result c.serve.new.link c.args.arrived.now c.index-arrived-i.result c.in_ok-one.one all (omega (arith, c.loop-i-test.true)) c.requires.links
+      c.index-links-i.is c.index-arrived-i.is
+      (λ h old is. c.in_ok-one.ensures.served h old given (subst (λ y. IsHeard h old (record { told = g.L.Link.told y; faults = g.L.Link.faults y }) c.index-arrived-i.result) c.index-links-i.is is) answer)
+      (c.loop-i.invariant.replying heard olds given all answer));
   place_is =
-    let next = waiting_next c.args.arrived.now c.loop-i.i c.index-arrived-i.result (omega (arith, c.loop-i-test.true, c.requires.links)) c.index-arrived-i.is in
-    omega (arith, c.in_ok-one.ensures.place, c.loop-i.invariant.place_is, next);
+      let next = waiting_next c.args.arrived.now c.loop-i.i c.index-arrived-i.result (omega (arith, c.loop-i-test.true, c.requires.links)) c.index-arrived-i.is in
+      omega (arith, c.in_ok-one.ensures.place, c.loop-i.invariant.place_is, next);
   long = length-set c.loop-i.links c.loop-i.i c.serve.new.link ∙ c.loop-i.invariant.long;
 }
 

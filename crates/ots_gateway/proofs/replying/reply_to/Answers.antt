@@ -13,8 +13,8 @@ returns-clause-sends g c = λ given is.
     let new : LinkSeen = record { told = g.L.Link.told c.send.new.link; faults = g.L.Link.faults c.send.new.link } in
     elim c.match-answer.branch [
       | in-Some+in_ok-tree_of-in-Some w ↦ subst (λ (r : Reply). Sends r old new c.send.result)
-        (w.reply-is ∙ due_some given w.in-Some.answer c.args.place c.args.waiting.now w.in_ok-tree_of-in-Some.field-0 (subst (IsAnswer given) w.in-Some.is is) w.in_ok-tree_of-in-Some.ensures)
-        c.send.ensures.sends
+          (w.reply-is ∙ due_some given w.in-Some.answer c.args.place c.args.waiting.now w.in_ok-tree_of-in-Some.field-0 (subst (IsAnswer given) w.in-Some.is is) w.in_ok-tree_of-in-Some.ensures)
+          c.send.ensures.sends
       | in-None w ↦ subst (λ (r : Reply). Sends r old new c.send.result)
-        (w.reply-is ∙ due_none given c.args.place c.args.waiting.now (subst (IsAnswer given) w.in-None.is is)) c.send.ensures.sends
+          (w.reply-is ∙ due_none given c.args.place c.args.waiting.now (subst (IsAnswer given) w.in-None.is is)) c.send.ensures.sends
     ]

@@ -1,7 +1,6 @@
-use Rattle.std.proofs.Common.{◌≡◌, ◌∙◌, sym, subst}
+use Rattle.std.proofs.Common.{sym, subst}
 use Rattle.ots_http.specs.Seen.{LinkSeen}
 use Rattle.ots_gateway.specs.Arrived.{IsHeard}
-use Rattle.ots_gateway.specs.declared.arrived.Arrived.{Arrived}
 use Rattle.ots_gateway.specs.declared.arrived.Arrived.TheVariants as arrived
 use Rattle.ots_gateway.specs.declared.served.GateServed.TheVariants.{LinkFault}
 use Rattle.ots_gateway.proofs.Replied.{other_serves, waited_serves}
