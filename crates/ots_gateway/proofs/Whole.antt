@@ -1,22 +1,13 @@
 -- A round, from what was heard to what was answered.
-use Rattle.std.proofs.Common.{◌≡◌, ◌∙◌, ◌≤◌, ℕ, List, [], ◌∷◌, ◌++◌, length, refl, sym, subst}
+use Rattle.std.proofs.Common.{◌≡◌, ◌∙◌, ◌≤◌, ℕ, List, length, refl, sym, subst}
 use Rattle.std.specs.Prelude.{Option, None, Some, IfSome}
-use Rattle.sha2.proofs.Facts256.{length-sha256}
 use Rattle.ots_address.specs.Address.{AddressParts}
-use Rattle.ots_merkle.specs.Hashes.{AreHashes}
 use Rattle.ots_outside.specs.Dialer.{DialerTold}
 use Rattle.ots_tree.specs.Wire.{Node}
 use Rattle.ots_upgrade.specs.declared.outcome.Outcome.{Outcome}
 use Rattle.ots_gateway.specs.Answer.{Fit, IsAnswer, Keeps}
 use Rattle.ots_gateway.specs.Round.{Asks, Given, asked, below, nobody, too_few}
-use Rattle.ots_gateway.specs.Ways.{leaves}
 use Rattle.ots_gateway.specs.declared.answer.Answer.{Answer}
-use Rattle.ots_gateway.specs.declared.waiting.Waiting.{Waiting}
-
--- the leaves are hashes
-pub hashes_of : (waiting : List Waiting) → AreHashes (leaves waiting)
-hashes_of [] = tt
-hashes_of (w ∷ waiting) = (length-sha256 (w.digest ++ w.nonce), hashes_of waiting)
 
 module _ {D : Type 0} (told : D → DialerTold) (faults : D → ℕ) (calendars : List AddressParts) (least : ℕ) (ls : List (List ℕ)) (old new : D) (outcomes : List Outcome) where
   -- the ways are those of the leaves

@@ -6,9 +6,10 @@ use Rattle.ots_gateway.specs.Arrived.{HearAll, waiting_in}
 use Rattle.ots_gateway.specs.Round.{Asks}
 use Rattle.ots_gateway.specs.Ways.{leaf, leaves}
 use Rattle.ots_gateway.specs.declared.arrived.Arrived.{Arrived}
+use Rattle.ots_gateway.proofs.Answering.{are_leaves}
 use Rattle.ots_gateway.proofs.Arriving.{any_err, heard_each, waiting_same}
 use Rattle.ots_gateway.proofs.Replied.{heard_long}
-use Rattle.ots_gateway.proofs.Whole.{hashes_of, keeps_answer}
+use Rattle.ots_gateway.proofs.Whole.{keeps_answer}
 use Rattle.ots_gateway.proofs.round.serve_round.Goals as goal
 
 pub ask-requires-clause-most : goal.ask-requires-clause-most
@@ -19,7 +20,7 @@ ask-requires-clause-most g c =
     omega (arith, c.in_ok-leaves.ensures.few, c.deref.ensures.len, c.requires.links, long.1, length-map c.args.links.now seen, ap length c.deref.ensures.value)
 
 pub ask-requires-clause-hashes : goal.ask-requires-clause-hashes
-ask-requires-clause-hashes g c = subst AreHashes (sym c.in_ok-leaves.ensures.leaves) (hashes_of (waiting_in c.deref.result.now))
+ask-requires-clause-hashes g c = subst AreHashes (sym c.in_ok-leaves.ensures.leaves) (are_leaves (waiting_in c.deref.result.now))
 
 pub reply_all-requires-clause-links : goal.reply_all-requires-clause-links
 reply_all-requires-clause-links g c =
