@@ -1,0 +1,6 @@
+pub mod Accepts
+pub mod GivesBack
+pub mod Counting
+pub mod Gone
+pub mod Stepping
+pub mod Running

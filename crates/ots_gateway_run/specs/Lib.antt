@@ -1,0 +1,5 @@
+pub mod Accepted
+pub mod Rounds
+pub mod Serving
+pub mod Going
+pub mod Run
