@@ -197,7 +197,7 @@ joined_sizes [] node are = absurd are
 joined_sizes (t ∷ ts) node are = omega (arith, ap (λ (n : Node). size (pre n)) are, all_size t ts)
 
 -- The tree of each digest fits a reply, where the trees do below the longest way.
-all_fit_reply : (leaves : List (List ℕ)) (way : ℕ) (trees : List (List Token)) (nodes : List Node) (node : Node) → IsLongestWay leaves way
+pub all_fit_reply : (leaves : List (List ℕ)) (way : ℕ) (trees : List (List Token)) (nodes : List Node) (node : Node) → IsLongestWay leaves way
     → way + sizes trees ≤ MAX_REPLY_BODY + 1 → map pre nodes ≡ trees → AreJoined nodes node → Fit leaves node
 all_fit_reply leaves way trees nodes node longest fits are is i nonce within fresh =
     let whole : size (pre node) + 1 ≡ sizes trees = joined_sizes nodes node is ∙ ap sizes are in

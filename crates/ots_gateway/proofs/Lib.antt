@@ -5,3 +5,4 @@ pub mod Request
 pub mod Due
 pub mod Answering
 pub mod Whole
+pub mod Lawful
