@@ -3,13 +3,13 @@
 #     interop/documented_commands.sh
 # README.md, docs/GUIDE.md, docs/FORMAT.md, docs/OPERATOR.md: in a block between ``` a line that begins with "$ " is a command,
 # and the lines after it, up to the next one, are what it prints. A block of the language sh is one command;
-# its lines "# prints TEXT" are what it prints. Blocks that ask a node are left out. man/ots.1, man/otsd.1 and man/otsmirror.1: the same of
-# their literal blocks. The programs have to be built (./run ots, ./run otsd, ./run otsmirror); xxd and openssl have to be there. It ends with 0 where
+# its lines "# prints TEXT" are what it prints. Blocks that ask a node are left out. man/ots.1, man/otsd.1, man/otsmirror.1 and
+# man/otsgate.1: the same of their literal blocks. The programs have to be built (./run ots, otsd, otsmirror, otsgate); xxd and openssl have to be there. It ends with 0 where
 # all is as written, with 1 on a difference, and with 70 where the program is not there.
 set -u
 
 top=$(CDPATH='' cd -- "$(dirname -- "$0")/.." && pwd) || exit 70
-for program in ots otsd otsmirror; do
+for program in ots otsd otsmirror otsgate; do
     if [ ! -x "$top/build/$program" ]; then
         echo "build/$program is not there: ./run $program builds it" >&2
         exit 70
@@ -77,7 +77,7 @@ make_folder() {
     cp "$top/examples/headers" "$1/headers"
     cp "$top/examples/coinbase" "$1/file"
     cp "$top/examples/coinbase.ots" "$1/file.ots"
-    for program in ots otsd otsmirror; do
+    for program in ots otsd otsmirror otsgate; do
         ln -s "$top/build/$program" "$1/bin/$program"
     done
     for script in run install; do
@@ -127,6 +127,7 @@ try_page docs/OPERATOR.md .
 try_page man/ots.1 examples
 try_page man/otsd.1 examples
 try_page man/otsmirror.1 examples
+try_page man/otsgate.1 examples
 if [ $failed -ne 0 ]; then
     echo "$failed of $run commands print something else"
     exit 1

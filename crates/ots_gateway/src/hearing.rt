@@ -88,7 +88,8 @@ fn draw<N: Nonces>(digest: Leaf, nonces: &mut N) -> Result<Waiting, Word>
 
 /// Writes the reply with these words.
 fn tell<L: Link>(link: &mut L, word: Word) -> Arrived
-    ensures sends { (served : GateServed) × Sends (in_words word) (record { told = L.told link.old; faults = L.faults link.old })
+    ensures sends { (served : GateServed)
+        × Sends (in_words word) (record { told = L.told link.old; faults = L.faults link.old })
         (record { told = L.told link.new; faults = L.faults link.new }) served × IsServed result served }
     ensures later { L.faults link.old ≤ L.faults link.new }
 {

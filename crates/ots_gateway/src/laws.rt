@@ -83,8 +83,9 @@ pub fn replies_fit<T: Dialer>()
         → size (tree_from over node i nonce) ≤ MAX_REPLY_BODY }
 {}
 
-/// A digest that waits is answered, unless its link counts a fault: where enough trees are taken it is
-/// timestamped, and its link took the reply with its tree; else its link took 503 `upstream`.
+/// A digest that waits is answered, unless its link counts a fault or its count stands at its last value,
+/// 2^64 - 1: where enough trees are taken it is timestamped, and its link took the whole reply with its
+/// tree; else its link took the whole reply 503 `upstream`.
 pub fn passing_digests_are_stamped()
     ensures stamped { (over : List (List ℕ)) (node : Node) (i : ℕ) (w : Waiting) (old new : LinkSeen)
         (served : GateServed) → Serves (below over node) i (digest w) old new served → ¬ Rose old.faults new.faults

@@ -87,7 +87,8 @@ fn reply_to<L: Link>(
 ) -> Result<GateServed, OutOfMemory>
     requires { IfSome answer.now (Keeps (place + 1)) }
     ensures sends { (given : Given) → IsAnswer given answer.now
-        → IfOk result (Sends (due given place waiting.now) (record { told = L.told link.old; faults = L.faults link.old })
+        → IfOk result (Sends (due given place waiting.now)
+        (record { told = L.told link.old; faults = L.faults link.old })
         (record { told = L.told link.new; faults = L.faults link.new })) }
     ensures nothing { OnErr result ((L.told link.new ≡ L.told link.old) × (L.faults link.new ≡ L.faults link.old)) }
     ensures later { L.faults link.old ≤ L.faults link.new }

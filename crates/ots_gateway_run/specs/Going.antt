@@ -4,7 +4,8 @@ use Rattle.std.specs.List.{AllByRecursion}
 use Rattle.ots_address.specs.Address.{AddressParts}
 use Rattle.ots_gateway_words.specs.declared.status.GateStatus.{GateStatus}
 use Rattle.ots_outside.specs.Streams.{Takes}
-use Rattle.ots_gateway_run.specs.Rounds.{Gathered, LinesPrinted, Moment, Outside, Passes, Rounds, RoundsEnd, Serves, left_of}
+use Rattle.ots_gateway_run.specs.Rounds.{Gathered, LinesPrinted, Moment, Outside, Passes, Rounds, RoundsEnd, Serves}
+use Rattle.ots_gateway_run.specs.Rounds.{left_of}
 use Rattle.ots_gateway_run.specs.Rounds.{lines_of, links_of}
 
 -- a round has as many links as it may have

@@ -35,7 +35,8 @@ ended s lines = record { status = s; lines = lines }
 pub data OverCalendars {A L D : Type 0} (o : Outside A L D) (asked : Gathering) (calendars : List AddressParts)
     (printing : Type 0) (old new : Moment A D) (e : RoundsEnd) : Type 0 where
   no_room : new ≡ old → e ≡ ended OutOfMemory [] → OverCalendars o asked calendars printing old new e
-  unheard : Passes o [] [] old.accepter new.accepter → Rose (o.accept_faults old.accepter) (o.accept_faults new.accepter)
+  unheard : Passes o [] [] old.accepter new.accepter
+      → Rose (o.accept_faults old.accepter) (o.accept_faults new.accepter)
       → new.dialer ≡ old.dialer → new.nonces ≡ old.nonces → e ≡ ended AcceptFault []
       → OverCalendars o asked calendars printing old new e
   unprinted : Passes o [] [] old.accepter new.accepter → new.dialer ≡ old.dialer → new.nonces ≡ old.nonces → printing
@@ -43,7 +44,8 @@ pub data OverCalendars {A L D : Type 0} (o : Outside A L D) (asked : Gathering) 
   serves : (listening : A) (f : RoundsEnd) → Passes o [] [] old.accepter listening
       → Serves o calendars asked.min asked.round (until_from (o.accepted old.accepter) asked.accept) printing
       (record { accepter = listening; dialer = old.dialer; nonces = old.nonces }) new f
-      → StaysWithin (until_from (o.accepted old.accepter) asked.accept) (o.accepted old.accepter) (o.accepted new.accepter)
+      → StaysWithin (until_from (o.accepted old.accepter) asked.accept) (o.accepted old.accepter)
+      (o.accepted new.accepter)
       → e ≡ ended f.status (listening_line asked.port ++ f.lines)
       → OverCalendars o asked calendars printing old new e
 
@@ -75,7 +77,8 @@ pub record Ends {A L D : Type 0} (o : Outside A L D) (asked : Option Gathering) 
 
 -- The port is listened on, and that is printed; or the sink failed, and has taken a prefix of that; or an accepter's
 -- call failed, and nothing is printed.
-abbrev pub Listens : Type 0 → Type 0 → List ℕ → Option (List ℕ) → Option (List ℕ) → Result (Unit {0}) GateStatus → Type 0
+abbrev pub Listens : Type 0 → Type 0 → List ℕ → Option (List ℕ) → Option (List ℕ) → Result (Unit {0}) GateStatus
+    → Type 0
 Listens printing accepting line taken now (Ok u) = Takes taken now line
 Listens printing accepting line taken now (Err s) = ((s ≡ WriteFault) × printing × TakesPrefix taken now line)
     ⊎ ((s ≡ AcceptFault) × accepting × (now ≡ taken))

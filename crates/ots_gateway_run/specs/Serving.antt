@@ -22,7 +22,8 @@ status_of Fault = Some AcceptFault
 pub data ServesOne {A L D : Type 0} (o : Outside A L D) (calendars : List AddressParts) (least : ℕ) (printing : Type 0)
     (links : List L) (old new : Moment A D) (taken now : Option (List ℕ)) (result : Result (Unit {0}) GateStatus)
     : Type 0 where
-  printed : (r : Gathered L) → r.links ≡ links → IsRoundOf o calendars least r old.dialer new.dialer old.nonces new.nonces
+  printed : (r : Gathered L) → r.links ≡ links
+      → IsRoundOf o calendars least r old.dialer new.dialer old.nonces new.nonces
       → GivesAllBack (o.returned old.accepter) r.left (o.returned new.accepter) → result ≡ Ok tt
       → Takes taken now (round_lines calendars r.outcomes (stamped r.served))
       → ServesOne o calendars least printing links old new taken now result

@@ -63,7 +63,8 @@ pub(crate) fn serve_rounds<A: Accepter, T: Dialer, N: Nonces, K: Sink, R: Wait>(
           told = T.told;
           dial_faults = T.faults;
         })
-        rounds.now.calendars.now rounds.now.min rounds.now.round rounds.now.until (Rose (K.faults out.old) (K.faults out.new))
+        rounds.now.calendars.now rounds.now.min rounds.now.round rounds.now.until
+        (Rose (K.faults out.old) (K.faults out.new))
         (record {
           accepter = accepter.old;
           dialer = dialer.old;
@@ -132,7 +133,8 @@ fn serve_next<A: Accepter, T: Dialer, N: Nonces, K: Sink>(
           told = T.told;
           dial_faults = T.faults;
         })
-        rounds.now.calendars.now rounds.now.min rounds.now.round rounds.now.until (Rose start (K.faults out.new)) first before
+        rounds.now.calendars.now rounds.now.min rounds.now.round rounds.now.until
+        (Rose start (K.faults out.new)) first before
         (record {
           accepter = accepter.new;
           dialer = dialer.new;

@@ -171,7 +171,9 @@ fn gather_for<A: Accepter, T: Dialer, N: Nonces, K: Sink, R: Wait>(
 
 /// Listens on a port, and prints that.
 fn listen<A: Accepter, K: Sink>(port: u16, accepter: &mut A, out: &mut K) -> Result<(), GateStatus>
-    ensures listens { Listens (Rose (K.faults out.old) (K.faults out.new)) (Rose (A.faults accepter.old) (A.faults accepter.new)) (listening_line port) (K.taken out.old) (K.taken out.new) result }
+    ensures listens { Listens (Rose (K.faults out.old) (K.faults out.new))
+        (Rose (A.faults accepter.old) (A.faults accepter.new)) (listening_line port) (K.taken out.old)
+        (K.taken out.new) result }
     ensures coming { A.coming accepter.new ≡ A.coming accepter.old }
     ensures returned { A.returned accepter.new ≡ A.returned accepter.old }
     ensures accepted { A.accepted accepter.new ≡ A.accepted accepter.old }
