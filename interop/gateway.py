@@ -273,12 +273,12 @@ def whole(folder, rng, clients, most):
         for place, (calendar, commitment) in enumerate(zip(calendars, commitments)):
             leads_to_block(calendar, commitment, headers[place][36:68], HEIGHT + place)
     print(f'{len(all_commitments)} replies, each with a commitment at both calendars that leads to its block')
-    upgraded = run(folder, OTS, 'upgrade', '--calendars', ','.join(uris), 'file.ots')
+    upgraded = run(folder, OTS, 'upgrade', '--calendars', ','.join(uris), 'file.ots', 'complete.ots')
     same('the status of upgrade', upgraded[0], 0)
     for place, header in enumerate(headers):
         with open(os.path.join(folder, 'headers'), 'wb') as out:
             out.write(header)
-        verified = run(folder, OTS, 'verify', 'file', 'file.ots', 'headers', '--from', str(HEIGHT + place))
+        verified = run(folder, OTS, 'verify', 'file', 'complete.ots', 'headers', '--from', str(HEIGHT + place))
         if verified[0] != 0:
             fail(f'verify: {verified}')
     print('the proof that ots stamp wrote is completed at both calendars, and confirmed by both headers')
