@@ -1,7 +1,7 @@
 #!/bin/sh
 # Measures ots_merkle beside plain bodies over the same hash: the root and the paths of all leaves of a
-# calendar's tree of 65,536 leaves, five times; prints microseconds. It needs rt. The proved program is built in
-# a folder of its own, outside the repository.
+# calendar's tree of 65,536 leaves, and a round of as many, each hashed with a nonce, five times; prints
+# microseconds. It needs rt. The proved program is built in a folder of its own, outside the repository.
 set -eu
 here=$(cd "$(dirname "$0")" && pwd)
 work=$(mktemp -d)
@@ -20,5 +20,5 @@ cp "$here/merkle/main.rt.in" "$work/crates/merkle_speed/src/main.rt"
 }
 for round in 1 2 3 4 5; do
     "$work/crates/merkle_speed/out/merkle_speed" |
-        awk '{ printf "root %d, plain %d; all paths %d, plain %d\n", $1, $2, $3, $4 }'
+        awk '{ printf "root %d, plain %d; all paths %d, plain %d; a round %d\n", $1, $2, $3, $4, $5 }'
 done

@@ -13,7 +13,8 @@ Then the calendars are stopped, `tip` is called, a block is made for each whose 
 `anchor` is called. Each client's commitments are asked of the calendars, and lead to the blocks' Merkle roots; the
 proof that `ots stamp` wrote is completed by `ots upgrade` and confirmed by `ots verify` with each block's header.
 
-Where the reference library is there (python3-opentimestamps), its RemoteCalendar is one of the clients of each round.
+Where the reference library is there (python3-opentimestamps), its RemoteCalendar is one of the clients of each round;
+what it got is completed by the library at both calendars, and the library confirms it with both headers.
 It runs build/ots, build/otsd and build/otsgate (`./run NAME` builds each), prints what it did, and ends with status 1
 at the first difference. It is run by hand.
 """
@@ -37,7 +38,9 @@ from stamps import sha256
 from upgrades import APPEND, BITCOIN, PENDING, SHA256, Reader, apply, paths
 
 try:
+    from bitcoin.core import CBlockHeader
     from opentimestamps.calendar import RemoteCalendar
+    from opentimestamps.core.notary import BitcoinBlockHeaderAttestation, PendingAttestation
     from opentimestamps.core.serialize import BytesSerializationContext
 except ImportError:
     RemoteCalendar = None
@@ -154,11 +157,38 @@ def stamped(port, digest):
 
 
 def remotely_stamped(port, digest):
-    """The same by the reference library's client."""
-    timestamp = RemoteCalendar(f'http://127.0.0.1:{port}').submit(digest, timeout=120)
+    """The same by the reference library's client: its timestamp."""
+    return RemoteCalendar(f'http://127.0.0.1:{port}').submit(digest, timeout=120)
+
+
+def written(timestamp):
+    """What the library writes of a timestamp."""
     context = BytesSerializationContext()
     timestamp.serialize(context)
     return context.getbytes()
+
+
+def completed_remotely(timestamp, headers):
+    """The library asks each calendar that a timestamp names, and confirms what it got with these headers."""
+    pending = [(message, one.uri) for message, one in timestamp.all_attestations()
+               if isinstance(one, PendingAttestation)]
+    nodes = dict((node.msg, node) for node in all_nodes(timestamp))
+    for message, uri in pending:
+        nodes[message].merge(RemoteCalendar(uri).get_timestamp(message, timeout=60))
+    confirmed = {}
+    for message, one in timestamp.all_attestations():
+        if isinstance(one, BitcoinBlockHeaderAttestation):
+            header = headers[one.height - HEIGHT]
+            one.verify_against_blockheader(message, CBlockHeader.deserialize(header))
+            confirmed[one.height] = True
+    same('the heights that the library confirms', sorted(confirmed), [HEIGHT + place for place in range(len(headers))])
+
+
+def all_nodes(timestamp):
+    """A timestamp and those below it."""
+    yield timestamp
+    for below in timestamp.ops.values():
+        yield from all_nodes(below)
 
 
 def at_once(jobs):
@@ -195,14 +225,17 @@ def own_way(ops):
     return ops[:place], ops[place:]
 
 
-def check_reply(digest, body, uris):
-    """Its leaf, the root of its round, and a commitment for each calendar."""
+def check_reply(digest, body, uris, as_sent=True):
+    """Its leaf, the root of its round, and a commitment for each calendar. The library writes the trees of a node in an
+    order of its own, so that of what it writes again the paths are put in the order of the calendars."""
     if len(body) > MOST_BODY:
         fail(f'a reply of {len(body)} bytes')
     reader = Reader(body)
     tree = reader.tree()
     same('the end of a reply', reader.at, len(body))
     all_paths = list(paths(tree))
+    if not as_sent:
+        all_paths.sort(key=lambda path: uris.index(path[2][1:].decode()))
     same('the attestations', [(kind, payload[1:].decode()) for _, kind, payload in all_paths],
          [(PENDING, uri) for uri in uris])
     ways = [own_way(ops) for ops, _, _ in all_paths]
@@ -236,7 +269,7 @@ def whole(folder, rng, clients, most):
     uris = [one.uri for one in calendars]
     rounds = clients // most
     gateway = Gateway(calendars, 2, free_port(), most, rounds * most + 1)
-    all_commitments = []
+    all_commitments, timestamps = [], []
     began = time.monotonic()
     for _ in range(rounds):
         digests = [rng.randbytes(rng.choice([20, 32, 32, 64])) for _ in range(most)]
@@ -246,7 +279,11 @@ def whole(folder, rng, clients, most):
         if RemoteCalendar is not None:
             jobs[0] = lambda digest=digests[0]: remotely_stamped(gateway.port, digest)
         bodies = at_once(jobs)
-        replies = [check_reply(digest, body, uris) for digest, body in zip(digests, bodies)]
+        if RemoteCalendar is not None:
+            timestamps.append(bodies[0])
+            bodies[0] = written(bodies[0])
+        replies = [check_reply(digest, body, uris, as_sent=RemoteCalendar is None or place != 0)
+                   for place, (digest, body) in enumerate(zip(digests, bodies))]
         check_round(replies)
         all_commitments += [commitments for _, _, commitments in replies]
     seconds = time.monotonic() - began
@@ -273,6 +310,10 @@ def whole(folder, rng, clients, most):
         for place, (calendar, commitment) in enumerate(zip(calendars, commitments)):
             leads_to_block(calendar, commitment, headers[place][36:68], HEIGHT + place)
     print(f'{len(all_commitments)} replies, each with a commitment at both calendars that leads to its block')
+    for timestamp in timestamps:
+        completed_remotely(timestamp, headers)
+    if timestamps:
+        print(f'{len(timestamps)} of them completed at both calendars and confirmed by the reference library')
     upgraded = run(folder, OTS, 'upgrade', '--calendars', ','.join(uris), 'file.ots', 'complete.ots')
     same('the status of upgrade', upgraded[0], 0)
     for place, header in enumerate(headers):
