@@ -5,7 +5,8 @@
 
 reads the script crates/ots_gateway_rows/stdin, whose language the head of that crate describes, and compares the
 crate's stdout with what this model says of each line. With --write it writes that file. The program is compared with
-the same file by `rt ci`.
+the same file by `rt ci`. What `ots stamp` sends a gateway, and what it gets, is compared with the rows of the client,
+which go on from there.
 
 The model reads words, makes rounds, takes trees, prints, and counts the calls of the accepter, the links, the dialer,
 the nonces and the sink, of which any may fail. Addresses, requests and replies are read by http_rows.py, trees and
@@ -350,11 +351,24 @@ class GatewayScript(Script):
         return [came for line in lines for came in self.came(line)]
 
 
+def differs_from_the_clients(script):
+    """Which of the bytes that stand in the rows of both are not the same: what `ots stamp` sends a gateway, and gets."""
+    client = Script()
+    with open(os.path.join(os.path.dirname(CRATE), 'ots_client_rows', 'stdin'), encoding='utf8') as lines:
+        for line in lines:
+            if line.startswith('let '):
+                client.obey(line.rstrip('\n'))
+    return [name for name in ('TO_GATEWAY', 'FROM_GATEWAY') if script.named[name] != client.named[name]]
+
+
 def main():
     script = GatewayScript()
     with open(os.path.join(CRATE, 'stdin'), encoding='utf8') as lines:
         for line in lines:
             script.read(line.rstrip('\n'))
+    for name in differs_from_the_clients(script):
+        print(f'{name} has other bytes in the rows of the client')
+        sys.exit(1)
     said = ''.join(line + '\n' for line in script.said)
     name = os.path.join(CRATE, 'stdout')
     if sys.argv[1:] == ['--write']:

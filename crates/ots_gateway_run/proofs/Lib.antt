@@ -4,3 +4,4 @@ pub mod Counting
 pub mod Gone
 pub mod Stepping
 pub mod Running
+pub mod Answered

@@ -3,3 +3,4 @@ pub mod Rounds
 pub mod Serving
 pub mod Going
 pub mod Run
+pub mod Answered
