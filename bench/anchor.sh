@@ -8,14 +8,14 @@ here=$(cd "$(dirname "$0")" && pwd)
 work=$(mktemp -d)
 trap 'rm -rf "$work"' EXIT
 mkdir -p "$work/crates/anchor_speed/src" "$work/crates/anchor_speed/specs"
-for name in ots_base ots_outside ots_varint ots_ripemd ots_ops ots_merkle ots_headers ots_block ots_anchor; do
-    cp -r "$here/../crates/$name" "$work/crates/$name"
+for name in $("$here/check.py" --names ots_anchor); do
+    (cd "$here/.." && tar -c --exclude=out "crates/$name") | tar -x -C "$work"
     grep "^$name:" "$here/../crates.txt" >> "$work/crates.txt"
 done
 echo 'anchor_speed: ots_anchor ots_block ots_headers sha2 anyhow' >> "$work/crates.txt"
 cp "$here/anchor/main.rt.in" "$work/crates/anchor_speed/src/main.rt"
 : > "$work/crates/anchor_speed/specs/Lib.antt"
-(cd "$work/crates/anchor_speed" && rt run > "$work/log" 2>&1) || {
+"$here/check.py" --in "$work" --program anchor_speed > "$work/log" 2>&1 || {
     cat "$work/log"
     exit 1
 }

@@ -2,23 +2,22 @@
 # Measures a calendar's book on a real file: a round of 16,384 digests and one of 65,536; 250 rounds of 100 digests and
 # 1,000; a tip over one million commitments, over four and over ten; and an answer under an anchor of 250,000 commitments and of
 # 1,000,000. Each is run three times. It needs rt, python3 and 1 GB of room in FOLDER (the first word, else a temporary
-# folder). The proved program is built in a folder of its own, outside the repository; it takes what the crates keep in
-# out/, so prove ots_calendar first.
+# folder). The proved program is built in a folder of its own, outside the repository, over the
+# libraries that rt ci has proved on this machine.
 set -eu
 here=$(cd "$(dirname "$0")" && pwd)
 work=$(mktemp -d -p "${1:-${TMPDIR:-/tmp}}")
 trap 'rm -rf "$work"' EXIT
 speed="$work/crates/calendar_speed"
 mkdir -p "$speed/src" "$speed/specs"
-for name in ots_base ots_outside ots_varint ots_ripemd ots_ops ots_attest ots_tree ots_merkle ots_headers ots_block \
-    ots_anchor ots_disk ots_file ots_journal ots_store ots_round ots_tickets ots_calendar; do
-    cp -r "$here/../crates/$name" "$work/crates/$name"
+for name in $("$here/check.py" --names ots_file ots_calendar); do
+    (cd "$here/.." && tar -c --exclude=out "crates/$name") | tar -x -C "$work"
     grep "^$name:" "$here/../crates.txt" >> "$work/crates.txt"
 done
 echo 'calendar_speed: ots_calendar ots_store ots_journal ots_disk ots_file ots_attest anyhow' >> "$work/crates.txt"
 cp "$here/calendar/main.rt.in" "$speed/src/main.rt"
 : > "$speed/specs/Lib.antt"
-(cd "$speed" && rt run -- round "$work/first" 100 > "$work/log" 2>&1) || {
+"$here/check.py" --in "$work" --program calendar_speed > "$work/log" 2>&1 || {
     cat "$work/log"
     exit 1
 }

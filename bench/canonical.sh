@@ -7,15 +7,15 @@ here=$(cd "$(dirname "$0")" && pwd)
 work=$(mktemp -d)
 trap 'rm -rf "$work"' EXIT
 mkdir -p "$work/crates/canonical_speed/src" "$work/crates/canonical_speed/specs"
-for name in ots_base ots_outside ots_memory ots_real ots_io ots_varint ots_ripemd ots_ops ots_attest ots_tree ots_reader ots_detached ots_canon; do
-    cp -r "$here/../crates/$name" "$work/crates/$name"
+for name in $("$here/check.py" --names ots_io ots_detached ots_canon); do
+    (cd "$here/.." && tar -c --exclude=out "crates/$name") | tar -x -C "$work"
     grep "^$name:" "$here/../crates.txt" >> "$work/crates.txt"
 done
 echo 'canonical_speed: ots_canon ots_detached ots_tree ots_io anyhow' >> "$work/crates.txt"
 cp "$here/canonical/main.rt.in" "$work/crates/canonical_speed/src/main.rt"
 : > "$work/crates/canonical_speed/specs/Lib.antt"
 python3 -B "$here/canonical/proofs.py" combs "$work/proof"
-(cd "$work/crates/canonical_speed" && rt run -- "$work/proof" > "$work/log" 2>&1) || {
+"$here/check.py" --in "$work" --program canonical_speed > "$work/log" 2>&1 || {
     cat "$work/log"
     exit 1
 }

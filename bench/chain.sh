@@ -7,14 +7,14 @@ here=$(cd "$(dirname "$0")" && pwd)
 work=$(mktemp -d)
 trap 'rm -rf "$work"' EXIT
 mkdir -p "$work/crates/chain_speed/src" "$work/crates/chain_speed/specs"
-for name in ots_base ots_outside ots_memory ots_real ots_io ots_headers ots_arguments ots_inputs ots_chain; do
-    cp -r "$here/../crates/$name" "$work/crates/$name"
+for name in $("$here/check.py" --names ots_io ots_chain); do
+    (cd "$here/.." && tar -c --exclude=out "crates/$name") | tar -x -C "$work"
     grep "^$name:" "$here/../crates.txt" >> "$work/crates.txt"
 done
 echo 'chain_speed: ots_chain ots_headers ots_io sha2 hex anyhow' >> "$work/crates.txt"
 cp "$here/chain/main.rt.in" "$work/crates/chain_speed/src/main.rt"
 : > "$work/crates/chain_speed/specs/Lib.antt"
-(cd "$work/crates/chain_speed" && rt run -- sha2 /dev/null > "$work/log" 2>&1) || {
+"$here/check.py" --in "$work" --program chain_speed > "$work/log" 2>&1 || {
     cat "$work/log"
     exit 1
 }

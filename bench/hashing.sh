@@ -7,14 +7,14 @@ here=$(cd "$(dirname "$0")" && pwd)
 work=$(mktemp -d)
 trap 'rm -rf "$work"' EXIT
 mkdir -p "$work/crates/hashing_speed/src" "$work/crates/hashing_speed/specs"
-for name in ots_base ots_outside ots_memory ots_real ots_io ots_varint ots_ripemd ots_ops ots_attest ots_tree ots_reader ots_detached; do
-    cp -r "$here/../crates/$name" "$work/crates/$name"
+for name in $("$here/check.py" --names ots_io ots_detached); do
+    (cd "$here/.." && tar -c --exclude=out "crates/$name") | tar -x -C "$work"
     grep "^$name:" "$here/../crates.txt" >> "$work/crates.txt"
 done
 echo 'hashing_speed: ots_detached ots_ops ots_io sha2 hex anyhow' >> "$work/crates.txt"
 cp "$here/hashing/main.rt.in" "$work/crates/hashing_speed/src/main.rt"
 : > "$work/crates/hashing_speed/specs/Lib.antt"
-(cd "$work/crates/hashing_speed" && rt run -- sha2 /dev/null > "$work/log" 2>&1) || {
+"$here/check.py" --in "$work" --program hashing_speed > "$work/log" 2>&1 || {
     cat "$work/log"
     exit 1
 }

@@ -8,14 +8,14 @@ here=$(cd "$(dirname "$0")" && pwd)
 work=$(mktemp -d)
 trap 'rm -rf "$work"' EXIT
 mkdir -p "$work/crates/http_heads_speed/src" "$work/crates/http_heads_speed/specs"
-for name in ots_base ots_outside ots_memory ots_real ots_io ots_varint ots_ripemd ots_ops ots_attest ots_tree ots_address ots_http; do
-    cp -r "$here/../crates/$name" "$work/crates/$name"
+for name in $("$here/check.py" --names ots_io ots_http); do
+    (cd "$here/.." && tar -c --exclude=out "crates/$name") | tar -x -C "$work"
     grep "^$name:" "$here/../crates.txt" >> "$work/crates.txt"
 done
 echo 'http_heads_speed: ots_http ots_io anyhow' >> "$work/crates.txt"
 cp "$here/http_heads/main.rt.in" "$work/crates/http_heads_speed/src/main.rt"
 : > "$work/crates/http_heads_speed/specs/Lib.antt"
-(cd "$work/crates/http_heads_speed" && rt run > "$work/log" 2>&1) || {
+"$here/check.py" --in "$work" --program http_heads_speed > "$work/log" 2>&1 || {
     cat "$work/log"
     exit 1
 }

@@ -7,14 +7,14 @@ here=$(cd "$(dirname "$0")" && pwd)
 work=$(mktemp -d -p "${1:-${TMPDIR:-/tmp}}")
 trap 'rm -rf "$work"' EXIT
 mkdir -p "$work/crates/journal_speed/src" "$work/crates/journal_speed/specs"
-for name in ots_base ots_outside ots_disk ots_file ots_journal; do
-    cp -r "$here/../crates/$name" "$work/crates/$name"
+for name in $("$here/check.py" --names ots_file ots_journal); do
+    (cd "$here/.." && tar -c --exclude=out "crates/$name") | tar -x -C "$work"
     grep "^$name:" "$here/../crates.txt" >> "$work/crates.txt"
 done
 echo 'journal_speed: ots_journal ots_file anyhow' >> "$work/crates.txt"
 cp "$here/journal/main.rt.in" "$work/crates/journal_speed/src/main.rt"
 : > "$work/crates/journal_speed/specs/Lib.antt"
-(cd "$work/crates/journal_speed" && rt run -- "$work/first" 1 > "$work/log" 2>&1) || {
+"$here/check.py" --in "$work" --program journal_speed > "$work/log" 2>&1 || {
     cat "$work/log"
     exit 1
 }

@@ -7,14 +7,14 @@ here=$(cd "$(dirname "$0")" && pwd)
 work=$(mktemp -d)
 trap 'rm -rf "$work"' EXIT
 mkdir -p "$work/crates/merkle_speed/src" "$work/crates/merkle_speed/specs"
-for name in ots_base ots_varint ots_ripemd ots_ops ots_merkle; do
-    cp -r "$here/../crates/$name" "$work/crates/$name"
+for name in $("$here/check.py" --names ots_merkle); do
+    (cd "$here/.." && tar -c --exclude=out "crates/$name") | tar -x -C "$work"
     grep "^$name:" "$here/../crates.txt" >> "$work/crates.txt"
 done
 echo 'merkle_speed: ots_merkle ots_ops sha2 anyhow' >> "$work/crates.txt"
 cp "$here/merkle/main.rt.in" "$work/crates/merkle_speed/src/main.rt"
 : > "$work/crates/merkle_speed/specs/Lib.antt"
-(cd "$work/crates/merkle_speed" && rt run > "$work/log" 2>&1) || {
+"$here/check.py" --in "$work" --program merkle_speed > "$work/log" 2>&1 || {
     cat "$work/log"
     exit 1
 }

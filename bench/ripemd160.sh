@@ -6,13 +6,16 @@ here=$(cd "$(dirname "$0")" && pwd)
 work=$(mktemp -d)
 trap 'rm -rf "$work"' EXIT
 mkdir "$work/crates"
-cp -r "$here/../crates/ots_ripemd" "$work/crates/ots_ripemd"
+for name in $("$here/check.py" --names ots_ripemd); do
+    (cd "$here/.." && tar -c --exclude=out "crates/$name") | tar -x -C "$work"
+    grep "^$name:" "$here/../crates.txt" >> "$work/crates.txt"
+done
 mkdir -p "$work/crates/ripemd160_speed/src" "$work/crates/ripemd160_speed/proofs/fed_pieces"
 cp "$here/ripemd160/main.rt.in" "$work/crates/ripemd160_speed/src/main.rt"
 cp "$here/ripemd160/Invariants.antt.in" "$work/crates/ripemd160_speed/proofs/fed_pieces/Invariants.antt"
-printf 'ots_ripemd:\nripemd160_speed: ots_ripemd hex\n' > "$work/crates.txt"
+echo 'ripemd160_speed: ots_ripemd hex' >> "$work/crates.txt"
 gcc -O3 -o "$work/plain" "$here/ripemd160/plain.c"
-(cd "$work/crates/ripemd160_speed" && rt run > "$work/log" 2>&1) || { cat "$work/log"; exit 1; }
+"$here/check.py" --in "$work" --program ripemd160_speed > "$work/log" 2>&1 || { cat "$work/log"; exit 1; }
 for round in 1 2 3 4 5; do
     echo "plain C      $("$work/plain")"
     echo "ots_ripemd   $("$work/crates/ripemd160_speed/out/ripemd160_speed")"

@@ -2,16 +2,15 @@
 # Measures how often a second 1, 2, 4, 16 and 64 threads hold a book in memory, with nothing done in a hold, beside a
 # Mutex of std in plain Rust round a book's numbers: 64,000 holds in all, five times in turn. It prints the medians in
 # thousands of holds a second. It needs rt and rustc. The proved program is built in a folder of its own, outside the
-# repository; it takes what the crates keep in out/, so prove ots_shared first.
+# repository, over the libraries that rt ci has proved on this machine.
 set -eu
 here=$(cd "$(dirname "$0")" && pwd)
 work=$(mktemp -d)
 trap 'rm -rf "$work"' EXIT
 speed="$work/crates/shared_speed"
 mkdir -p "$speed/src" "$speed/specs" "$speed/proofs/callers/turn" "$speed/proofs/callers/work"
-for name in ots_base ots_outside ots_varint ots_ripemd ots_ops ots_attest ots_tree ots_merkle ots_headers ots_block \
-    ots_anchor ots_disk ots_journal ots_store ots_round ots_tickets ots_calendar ots_shared; do
-    cp -r "$here/../crates/$name" "$work/crates/$name"
+for name in $("$here/check.py" --names ots_shared); do
+    (cd "$here/.." && tar -c --exclude=out "crates/$name") | tar -x -C "$work"
     grep "^$name[ :]" "$here/../crates.txt" >> "$work/crates.txt"
 done
 echo 'shared_speed may_wait=5 tests_may=Threads+Wait: ots_shared ots_calendar ots_store ots_journal ots_disk anyhow' >> "$work/crates.txt"
@@ -24,7 +23,7 @@ cp "$here/shared/turn.antt.in" "$speed/proofs/callers/turn/Answers.antt"
 cp "$here/shared/work.antt.in" "$speed/proofs/callers/work/Invariants.antt"
 mkdir -p "$speed/proofs/callers/+crew+fn-crew-join+arg3"
 cp "$here/shared/crew.antt.in" "$speed/proofs/callers/+crew+fn-crew-join+arg3/Invariants.antt"
-(cd "$speed" && rt run -- 1 1 > "$work/log" 2>&1) || {
+"$here/check.py" --in "$work" --program shared_speed > "$work/log" 2>&1 || {
     cat "$work/log"
     exit 1
 }

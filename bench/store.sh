@@ -8,15 +8,15 @@ here=$(cd "$(dirname "$0")" && pwd)
 work=$(mktemp -d -p "${1:-${TMPDIR:-/tmp}}")
 trap 'rm -rf "$work"' EXIT
 mkdir -p "$work/crates/store_speed/src" "$work/crates/store_speed/specs"
-for name in ots_base ots_outside ots_varint ots_ripemd ots_ops ots_merkle ots_disk ots_file ots_journal ots_store; do
-    cp -r "$here/../crates/$name" "$work/crates/$name"
+for name in $("$here/check.py" --names ots_file ots_store); do
+    (cd "$here/.." && tar -c --exclude=out "crates/$name") | tar -x -C "$work"
     grep "^$name:" "$here/../crates.txt" >> "$work/crates.txt"
 done
 echo 'store_speed: ots_store ots_journal ots_disk ots_file anyhow' >> "$work/crates.txt"
 cp "$here/store/main.rt.in" "$work/crates/store_speed/src/main.rt"
 : > "$work/crates/store_speed/specs/Lib.antt"
 python3 "$here/store/journal.py" "$work/small" rising 1
-(cd "$work/crates/store_speed" && rt run -- "$work/small" > "$work/log" 2>&1) || {
+"$here/check.py" --in "$work" --program store_speed > "$work/log" 2>&1 || {
     cat "$work/log"
     exit 1
 }

@@ -8,8 +8,8 @@ work=$(mktemp -d)
 trap 'rm -rf "$work"' EXIT
 crate="$work/crates/tree_pieces"
 mkdir -p "$crate/src" "$crate/specs" "$crate/proofs/fed_by"
-for name in ots_base ots_outside ots_varint ots_ripemd ots_ops ots_attest ots_tree ots_reader; do
-    cp -r "$here/../crates/$name" "$work/crates/$name"
+for name in $("$here/check.py" --names ots_reader); do
+    (cd "$here/.." && tar -c --exclude=out "crates/$name") | tar -x -C "$work"
     grep "^$name:" "$here/../crates.txt" >> "$work/crates.txt"
 done
 echo 'tree_pieces: ots_reader ots_tree anyhow' >> "$work/crates.txt"
@@ -18,5 +18,5 @@ cp "$here/tree_pieces/main.rt.in" "$crate/src/main.rt"
 echo 'pub mod Came' > "$crate/proofs/Lib.antt"
 cp "$here/tree_pieces/Came.antt.in" "$crate/proofs/Came.antt"
 cp "$here/tree_pieces/Invariants.antt.in" "$crate/proofs/fed_by/Invariants.antt"
-(cd "$crate" && rt run > "$work/log" 2>&1) || { cat "$work/log"; exit 1; }
+"$here/check.py" --in "$work" --program tree_pieces > "$work/log" 2>&1 || { cat "$work/log"; exit 1; }
 "$crate/out/tree_pieces"

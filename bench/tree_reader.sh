@@ -6,12 +6,12 @@ here=$(cd "$(dirname "$0")" && pwd)
 work=$(mktemp -d)
 trap 'rm -rf "$work"' EXIT
 mkdir -p "$work/crates/tree_speed/src" "$work/crates/tree_speed/specs"
-for name in ots_base ots_outside ots_memory ots_real ots_io ots_varint ots_ripemd ots_ops ots_attest ots_tree ots_reader; do
-    cp -r "$here/../crates/$name" "$work/crates/$name"
+for name in $("$here/check.py" --names ots_io ots_reader); do
+    (cd "$here/.." && tar -c --exclude=out "crates/$name") | tar -x -C "$work"
     grep "^$name:" "$here/../crates.txt" >> "$work/crates.txt"
 done
 echo 'tree_speed: ots_reader ots_tree ots_attest ots_ops ots_io anyhow' >> "$work/crates.txt"
 cp "$here/tree_reader/main.rt.in" "$work/crates/tree_speed/src/main.rt"
 : > "$work/crates/tree_speed/specs/Lib.antt"
-(cd "$work/crates/tree_speed" && rt run > "$work/log" 2>&1) || { cat "$work/log"; exit 1; }
+"$here/check.py" --in "$work" --program tree_speed > "$work/log" 2>&1 || { cat "$work/log"; exit 1; }
 "$work/crates/tree_speed/out/tree_speed"

@@ -8,8 +8,8 @@ here=$(cd "$(dirname "$0")" && pwd)
 work=$(mktemp -d)
 trap 'rm -rf "$work"' EXIT
 mkdir -p "$work/crates/verdict_speed/src" "$work/crates/verdict_speed/specs"
-for name in ots_base ots_outside ots_memory ots_real ots_io ots_varint ots_ripemd ots_ops ots_attest ots_tree ots_reader ots_detached ots_headers ots_verdicts; do
-    cp -r "$here/../crates/$name" "$work/crates/$name"
+for name in $("$here/check.py" --names ots_io ots_detached ots_verdicts); do
+    (cd "$here/.." && tar -c --exclude=out "crates/$name") | tar -x -C "$work"
     grep "^$name:" "$here/../crates.txt" >> "$work/crates.txt"
 done
 echo 'verdict_speed: ots_verdicts ots_headers ots_detached ots_tree ots_io anyhow' >> "$work/crates.txt"
@@ -19,7 +19,7 @@ library() {
     PYTHONPATH="$here" /usr/bin/python3 -B "$here/verdict/library.py" "$@"
 }
 library make "$work/proof" "$work/found" "$work/none"
-(cd "$work/crates/verdict_speed" && rt run -- "$work/found" "$work/proof" > "$work/log" 2>&1) || {
+"$here/check.py" --in "$work" --program verdict_speed > "$work/log" 2>&1 || {
     cat "$work/log"
     exit 1
 }
