@@ -12,11 +12,14 @@ What `rt ci` has proved on this machine is taken over, by the checksums of all t
 has not is proved here from nothing, and kept for it. So a crate is checked beside a run of the gate without
 proving again what stands below. It is no verdict: only `rt ci` is.
 """
+import fcntl
+import hashlib
 import importlib.machinery
 import importlib.util
 import os
 import shutil
 import sys
+import tempfile
 
 
 def load():
@@ -30,20 +33,25 @@ def load():
 
 
 def library(rt, kept, crate):
-    """Gives the crate its library, taken over or proved."""
-    key = kept.key(crate)
-    # (what another command of rt built here, with all its proofs, is another library)
-    shutil.rmtree(f"{crate.folder}/out/rlib", ignore_errors=True)
+    """Gives the crate its library, taken over or proved, unless it has it."""
+    key, mark = kept.key(crate), f"{crate.folder}/out/rlib/given"
+    if rt.rtlib.text_of(mark) == key and os.path.isdir(crate.rlib):
+        kept.is_built(crate)
+        return
     with kept.in_turn(crate, False, key):
-        if not kept.give(crate, False, key):
+        # (what another command of rt built here, with all its proofs, is another library)
+        shutil.rmtree(f"{crate.folder}/out/rlib", ignore_errors=True)
+        is_given = kept.give(crate, False, key)
+        if not is_given:
             print(f"{crate.name}: proved from nothing", flush=True)
             os.makedirs(f"{crate.folder}/out", exist_ok=True)
             if crate.ci(["--jobs", "1"], False):
                 sys.exit(f"{crate.name} is not proved")
-            kept.is_built(crate)
+        kept.is_built(crate)
+        if not is_given:
             kept.keep(crate, False, key)
-        else:
-            kept.is_built(crate)
+    with open(mark, "w", encoding="utf8") as file:
+        file.write(key)
 
 
 def built(rt, crate):
@@ -99,8 +107,13 @@ def main(words):
         sys.exit(f"crates.txt has no {name}")
     crate = found[0]
     kept = rt.Kept([*crate.below(), crate])
-    for it in crate.below():
-        library(rt, kept, it)
+    # (what is kept for the gate is not this script's to remove)
+    kept.drop = lambda path: None
+    # Of two checks in one copy the second waits until the libraries of the first are there.
+    with open(f"{tempfile.gettempdir()}/check-{hashlib.sha256(top.encode()).hexdigest()[:16]}", "w", encoding="utf8") as lock:
+        fcntl.flock(lock, fcntl.LOCK_EX)
+        for it in crate.below():
+            library(rt, kept, it)
     os.chdir(crate.folder)
     if what == "check":
         return crate.check(flags)

@@ -314,4 +314,5 @@ def main():
     sys.exit(1 if differences or len(made) != len(kept) else 0)
 
 
-main()
+if __name__ == '__main__':
+    main()

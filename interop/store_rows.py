@@ -707,4 +707,5 @@ def main():
             sys.exit('the transcript is not what this model makes')
 
 
-main()
+if __name__ == '__main__':
+    main()

@@ -55,6 +55,9 @@ def apply(op, message):
         return hashlib.sha1(message).digest()
     if tag == SHA256:
         return hashlib.sha256(message).digest()
+    if tag == RIPEMD160:
+        from format_rows import ripemd160  # (which stands on this script's own words)
+        return ripemd160(message)
     if tag == APPEND:
         return message + argument
     if tag == PREPEND:
