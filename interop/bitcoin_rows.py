@@ -200,8 +200,20 @@ def told_steps(steps):
     return spelled(steps).hex() or '-'
 
 
+def first_of(leaves, count):
+    """The SHA-256 of the root over the first leaves and of the paths of all of them."""
+    first = leaves[:count]
+    return sha256(root_of(first) + b''.join(spelled(path(first, i)) for i in range(count))).hex()
+
+
 def about_tree(question, text):
     leaves, indexes = asked(text)
+    if question == 'first':
+        first = leaves[:indexes[0]]
+        root = root_of(first).hex() if first else 'none'
+        return ' '.join([root] + [told_steps(path(first, i)) for i in indexes[1:]])
+    if question == 'firsts':
+        return ' '.join(first_of(leaves, count) for count in range(1, indexes[0] + 1))
     root = root_of(leaves).hex() if leaves else 'none'
     if leaves:
         # the same, level by level

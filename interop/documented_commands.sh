@@ -1,10 +1,10 @@
 #!/bin/sh
 # Runs the commands that the pages show, as they are written, and compares what each prints with the page:
 #     interop/documented_commands.sh
-# README.md, docs/GUIDE.md, docs/FORMAT.md, docs/OPERATOR.md: in a block between ``` a line that begins with "$ " is a command,
+# README.md, docs/GUIDE.md, docs/FORMAT.md, docs/HTTP.md, docs/OPERATOR.md: in a block between ``` a line that begins with "$ " is a command,
 # and the lines after it, up to the next one, are what it prints. A block of the language sh is one command;
 # its lines "# prints TEXT" are what it prints. Blocks that ask a node are left out. man/ots.1, man/otsd.1, man/otsmirror.1 and
-# man/otsgate.1: the same of their literal blocks. The programs have to be built (./run ots, otsd, otsmirror, otsgate); xxd and openssl have to be there. It ends with 0 where
+# man/otsgate.1: the same of their literal blocks. The programs have to be built (./run ots, otsd, otsmirror, otsgate); xxd, openssl and curl have to be there. It ends with 0 where
 # all is as written, with 1 on a difference, and with 70 where the program is not there.
 set -u
 
@@ -123,6 +123,7 @@ try_page() {
 try_page README.md .
 try_page docs/GUIDE.md .
 try_page docs/FORMAT.md .
+try_page docs/HTTP.md .
 try_page docs/OPERATOR.md .
 try_page man/ots.1 examples
 try_page man/otsd.1 examples

@@ -1,6 +1,6 @@
 -- Where a complete path leads.
 use Rattle.std.proofs.Common.{◌≡◌, ℕ, zero, suc, ◌+◌, ◌<◌, ◌≤◌, Bool, true, false, cond, List, [], ◌∷◌, ◌++◌, length, take, get_or, Option, Some, None, refl, sym, ap, subst, ◌∙◌, append_assoc, length-append, arith}
-use Rattle.std.specs.Prelude.{option_and_then}
+use Rattle.std.specs.Prelude.{option_and_then, Result, Ok, Err, IfOk, OnOk}
 use Rattle.std.proofs.lemmas.Bool.{le-leb}
 use Rattle.std.proofs.lemmas.List.{append-nil, take_more}
 use Rattle.sha2.specs.Sha256.{sha256}
@@ -15,7 +15,7 @@ use Rattle.ots_merkle.specs.CalendarTree.{root_within, root, path}
 use Rattle.ots_merkle.specs.BlockTree.{above, climbed}
 use Rattle.ots_merkle.specs.declared.branch.Side.{Side}
 use Rattle.ots_merkle.specs.declared.branch.Side.TheVariants.{Left, Right}
-use Rattle.ots_anchor.specs.Path.{hashed, before, after, beside, twice, climb, complete_path, led_to, AreSteps}
+use Rattle.ots_anchor.specs.Path.{hashed, before, after, beside, twice, climb, complete_path, complete_way, led_to, AreSteps}
 
 -- ---- the operations
 
@@ -23,10 +23,10 @@ pub climb-append : (a b : List (Side × List ℕ)) → climb (a ++ b) ≡ climb 
 climb-append [] b = refl
 climb-append (step ∷ a) b = ap (λ (ops : List Op). beside step ∷ Sha256 ∷ Sha256 ∷ ops) (climb-append a b)
 
-pub all_added : (commitments : List (List ℕ)) (i : ℕ) (prefix suffix : List ℕ) (branch : List (Side × List ℕ))
-    → ((((((Sha256 ∷ []) ++ path (hashed commitments) i) ++ before prefix) ++ after suffix) ++ twice) ++ climb branch) ≡ complete_path commitments i prefix suffix branch
-unfolding complete_path
-all_added commitments i prefix suffix branch = simp append_assoc
+pub all_added : (way : List Op) (prefix suffix : List ℕ) (branch : List (Side × List ℕ))
+    → ((((((Sha256 ∷ []) ++ way) ++ before prefix) ++ after suffix) ++ twice) ++ climb branch) ≡ complete_way way prefix suffix branch
+unfolding complete_way
+all_added way prefix suffix branch = simp append_assoc
 
 -- one neighbour more
 pub branch_further : (start ops longer : List Op) (branch : List (Side × List ℕ)) (i : ℕ) (d : Side × List ℕ) → i < length branch
@@ -45,16 +45,13 @@ pub steps_further : (branch : List (Side × List ℕ)) (i : ℕ) (d : Side × Li
 steps_further branch i d inside so_far one =
     subst AreSteps (sym (take_more branch i d inside)) (steps_more (take i branch) (get_or branch i d) so_far one)
 
-pub chained : (commitments : List (List ℕ)) (i : ℕ) (prefix suffix : List ℕ) (branch : List (Side × List ℕ)) (leaves : List (List ℕ)) (way o1 o2 o3 o4 o5 o6 : List Op)
-    → leaves ≡ hashed commitments → way ≡ path leaves i → o1 ≡ Sha256 ∷ [] → o2 ≡ o1 ++ way → o3 ≡ o2 ++ before prefix → o4 ≡ o3 ++ after suffix → o5 ≡ o4 ++ twice
-    → o6 ≡ o5 ++ climb branch → o6 ≡ complete_path commitments i prefix suffix branch
-chained commitments i prefix suffix branch leaves way o1 o2 o3 o4 o5 o6 el ew e1 e2 e3 e4 e5 e6 =
-    let w : way ≡ path (hashed commitments) i = ew ∙ ap (λ z. path z i) el in
-    let a2 : o2 ≡ (Sha256 ∷ []) ++ path (hashed commitments) i = e2 ∙ (λ j. e1 j ++ w j) in
-    let a3 : o3 ≡ ((Sha256 ∷ []) ++ path (hashed commitments) i) ++ before prefix = e3 ∙ ap (λ (z : List Op). z ++ before prefix) a2 in
-    let a4 : o4 ≡ (((Sha256 ∷ []) ++ path (hashed commitments) i) ++ before prefix) ++ after suffix = e4 ∙ ap (λ (z : List Op). z ++ after suffix) a3 in
-    let a5 : o5 ≡ ((((Sha256 ∷ []) ++ path (hashed commitments) i) ++ before prefix) ++ after suffix) ++ twice = e5 ∙ ap (λ (z : List Op). z ++ twice) a4 in
-    e6 ∙ ap (λ (z : List Op). z ++ climb branch) a5 ∙ all_added commitments i prefix suffix branch
+pub chained : (prefix suffix : List ℕ) (branch : List (Side × List ℕ)) (way o1 o2 o3 o4 o5 o6 : List Op)
+    → o1 ≡ Sha256 ∷ [] → o2 ≡ o1 ++ way → o3 ≡ o2 ++ before prefix → o4 ≡ o3 ++ after suffix → o5 ≡ o4 ++ twice
+    → o6 ≡ o5 ++ climb branch → o6 ≡ complete_way way prefix suffix branch
+chained prefix suffix branch way o1 o2 o3 o4 o5 o6 e1 e2 e3 e4 e5 e6 =
+    e6 ∙ ap (λ (z : List Op). z ++ climb branch) (e5 ∙ ap (λ (z : List Op). z ++ twice) (e4 ∙ ap (λ (z : List Op). z ++ after suffix)
+    (e3 ∙ ap (λ (z : List Op). z ++ before prefix) (e2 ∙ ap (λ (z : List Op). z ++ way) e1))))
+    ∙ all_added way prefix suffix branch
 
 -- ---- each of them
 
@@ -144,7 +141,7 @@ pub leads : (commitments : List (List ℕ)) (i : ℕ) (prefix suffix : List ℕ)
     → length (get_or commitments i []) ≡ 44 → length prefix + 32 + length suffix ≤ 4096 → AreSteps branch
     → value (path (hashed commitments) i) (get_or (hashed commitments) i []) ≡ Some (root (hashed commitments))
     → value (complete_path commitments i prefix suffix branch) (get_or commitments i []) ≡ Some (led_to commitments prefix suffix branch)
-unfolding complete_path
+unfolding complete_path complete_way
 leads commitments i prefix suffix branch inside long short steps up =
     let c : List ℕ = get_or commitments i [] in
     let leaves : List (List ℕ) = hashed commitments in
@@ -160,3 +157,19 @@ leads commitments i prefix suffix branch inside long short steps up =
     ∙ value_after suffix (prefix ++ r) (twice ++ climb branch) (omega (arith, length-append prefix r))
     ∙ value_twice whole (climb branch) (omega (arith, length-append (prefix ++ r) suffix, length-append prefix r))
     ∙ value_climb branch (double_sha256 whole) steps (length-sha256 (sha256 whole))
+
+-- what is made of a path
+pub path_made : {E : Type 0} (r : Result (List Op) E) (commitments : List (List ℕ)) (i : ℕ) (prefix suffix : List ℕ) (branch : List (Side × List ℕ)) (way : List Op) → way ≡ path (hashed commitments) i
+    → IfOk r (λ ops. ops ≡ complete_way way prefix suffix branch) → IfOk r (λ ops. ops ≡ complete_path commitments i prefix suffix branch)
+unfolding complete_path
+path_made (Ok ops) commitments i prefix suffix branch way is made = made ∙ ap (λ (w : List Op). complete_way w prefix suffix branch) is
+path_made (Err e) commitments i prefix suffix branch way is made = made
+
+pub made_leads : {E : Type 0} (r : Result (List Op) E) (commitments : List (List ℕ)) (i : ℕ) (prefix suffix : List ℕ) (branch : List (Side × List ℕ))
+    → IfOk r (λ ops. ops ≡ complete_path commitments i prefix suffix branch) → OnOk r (AreSteps branch)
+    → i < length commitments → length (get_or commitments i []) ≡ 44 → length prefix + 32 + length suffix ≤ 4096
+    → value (path (hashed commitments) i) (get_or (hashed commitments) i []) ≡ Some (root (hashed commitments))
+    → IfOk r (λ ops. value ops (get_or commitments i []) ≡ Some (led_to commitments prefix suffix branch))
+made_leads (Ok ops) commitments i prefix suffix branch made steps inside long short up =
+    ap (λ (o : List Op). value o (get_or commitments i [])) made ∙ leads commitments i prefix suffix branch inside long short steps up
+made_leads (Err e) commitments i prefix suffix branch made steps inside long short up = steps

@@ -36,11 +36,15 @@ abbrev pub climb : List (Side × List ℕ) → List Op
 climb [] = []
 climb (step ∷ steps) = beside step ∷ Sha256 ∷ Sha256 ∷ climb steps
 
--- From a commitment to the root of the calendar's tree, with it into the transaction between prefix and suffix, to
--- the transaction's id, and up the block's tree.
+-- From a commitment by its SHA-256 and a way to the root of the calendar's tree, with it into the transaction between
+-- prefix and suffix, to the transaction's id, and up the block's tree.
+unfoldable pub complete_way : List Op → List ℕ → List ℕ → List (Side × List ℕ) → List Op
+complete_way way prefix suffix branch =
+    Sha256 ∷ (way ++ (before prefix ++ (after suffix ++ (twice ++ climb branch))))
+
+-- The way is the path of the commitment's leaf.
 unfoldable pub complete_path : List (List ℕ) → ℕ → List ℕ → List ℕ → List (Side × List ℕ) → List Op
-complete_path commitments i prefix suffix branch =
-    Sha256 ∷ (path (hashed commitments) i ++ (before prefix ++ (after suffix ++ (twice ++ climb branch))))
+complete_path commitments i = complete_way (path (hashed commitments) i)
 
 -- what it leads to: where the branch leads from the hash of the transaction
 abbrev pub led_to : List (List ℕ) → List ℕ → List ℕ → List (Side × List ℕ) → List ℕ

@@ -8,4 +8,4 @@ mod standing;
 mod way;
 
 pub use search::{FindError, Found, find};
-pub use way::complete_path;
+pub use way::{complete_path, complete_way, hashed};

@@ -3,7 +3,8 @@ ghost use Rattle.std.specs.Prelude.{◌≡◌, ◌+◌, ◌<◌, ◌≤◌, ◌^
 ghost use Rattle.std.specs.Prelude.{slice_index_or};
 ghost use Rattle.ots_ops.specs.Value.{value};
 ghost use Rattle.ots_ops.specs.declared.op.Op.TheVariants.{Append, Prepend};
-ghost use Rattle.ots_anchor.specs.Path.{hashed, before, after, beside, climb, twice, complete_path, led_to, AreSteps};
+ghost use Rattle.ots_anchor.specs.Path.{hashed, before, after, beside, climb, twice, complete_path, complete_way};
+ghost use Rattle.ots_anchor.specs.Path.{led_to, AreSteps};
 
 use ots_base::{MAX_MESSAGE, OutOfMemory};
 use ots_merkle::{Branch, Side, path};
@@ -35,9 +36,25 @@ pub fn complete_path(
 {
     let leaves = hashed(alloc, commitments)?;
     let way = path(alloc, &leaves, i)?;
+    complete_way(alloc, way.items(), prefix, suffix, branch)
+}
+
+/// The same where the path to the root of the calendar's tree is made already: `way` leads there from
+/// the commitment's SHA-256.
+pub fn complete_way(
+    alloc: Global,
+    way: &[Op],
+    prefix: &[u8],
+    suffix: &[u8],
+    branch: &Branch,
+) -> Result<Ops, OutOfMemory>
+    requires short { length prefix.now + 32 + length suffix.now ≤ MAX_MESSAGE }
+    ensures path { IfOk result (λ ops. ops ≡ complete_way way.now prefix.now suffix.now branch.now) }
+    ensures steps { OnOk result (AreSteps branch.now) }
+{
     let mut ops = Ops::new(alloc);
     ops.push(Op::Sha256)?;
-    ops.extend(way.items())?;
+    ops.extend(way)?;
     add_before(alloc, &mut ops, prefix)?;
     add_after(alloc, &mut ops, suffix)?;
     add_twice(&mut ops)?;
@@ -45,8 +62,8 @@ pub fn complete_path(
     Ok(ops)
 }
 
-/// The SHA-256 of each commitment.
-fn hashed(alloc: Global, commitments: &[[u8; 44]]) -> Result<Vec<[u8; 32]>, OutOfMemory>
+/// The leaves of a calendar's tree: the SHA-256 of each commitment.
+pub fn hashed(alloc: Global, commitments: &[[u8; 44]]) -> Result<Vec<[u8; 32]>, OutOfMemory>
     ensures { IfOk result (λ leaves. leaves.items ≡ hashed commitments.now) }
 {
     let mut leaves = Vec::with_capacity(alloc, commitments.len())?;

@@ -7,14 +7,18 @@
 // | `tree paths N I.. \| LEAVES` | how many paths there are, and these of them |
 // | `tree peaks N \| LEAVES` | the root of peaks to which the leaves were pushed, half of them after room was made |
 // | `tree growing N I.. \| LEAVES` | the count and the root of a tree that grew so too, and the paths of these leaves |
+// | `tree first N K I.. \| LEAVES` | of a tree that grew to N leaves the root over the first K, and these paths to it |
+// | `tree firsts N K \| LEAVES` | for each k from 1 to K the SHA-256 of the root over the first k and of all k paths |
 ghost use Rattle.std.specs.Prelude.{◌≡◌, ◌+◌, ◌*◌, ◌/◌, ◌^◌, ◌<◌, ◌≤◌, ◌++◌, IfOk, OnOk, length, take, drop};
 
 use crate::names::Names;
 use crate::said::Said;
 use crate::words::{arrays_of, bytes_of, numbers_of, split_bar, split_number, split_word};
 use ots_base::OutOfMemory;
-use ots_merkle::{GrowingTree, Peaks, RUN, path, paths, root};
-use ots_ops::{MAX_SPELLED_OP, Op, spell_op};
+use ots_growing_tree::{GrowingTree, RUN};
+use ots_merkle::{Peaks, path, paths, root};
+use ots_ops::{MAX_SPELLED_OP, Op, Ops, spell_op};
+use sha2::{Digest, Sha256};
 use std::alloc::Global;
 
 /// The most leaves of a tree.
@@ -51,6 +55,8 @@ pub fn answer(names: &Names, text: &str, said: &mut Said) {
         "path" => each_path(alloc, &question.leaves, &question.indexes, said),
         "paths" => all_paths(alloc, &question.leaves, &question.indexes, said),
         "peaks" => peaks(alloc, &question.leaves, said),
+        "first" => first(alloc, &question.leaves, &question.indexes, said),
+        "firsts" => firsts(alloc, &question.leaves, &question.indexes, said),
         _ => growing(alloc, &question.leaves, &question.indexes, said),
     }
 }
@@ -72,14 +78,19 @@ fn each_path(alloc: Global, leaves: &[[u8; 32]], indexes: &[usize], said: &mut S
     }
 }
 
-/// Says how operations are spelled, one after the other, `-` where there is none.
-pub fn say_ops(alloc: Global, ops: &[Op], said: &mut Said) {
-    let mut all = Vec::new(alloc);
+/// Adds how operations are spelled, one after the other.
+fn spell_ops(ops: &[Op], all: &mut Vec<u8>) {
     for op in ops {
         let mut spelled = [0; MAX_SPELLED_OP];
         let length = spell_op(op, &mut spelled);
         let _ = all.extend_from_slice(spelled.get(..length).unwrap_or(&[]));
     }
+}
+
+/// Says how operations are spelled, one after the other, `-` where there is none.
+pub fn say_ops(alloc: Global, ops: &[Op], said: &mut Said) {
+    let mut all = Vec::new(alloc);
+    spell_ops(ops, &mut all);
     if ops.is_empty() {
         said.word("-");
     } else {
@@ -160,7 +171,80 @@ fn grown_path(alloc: Global, tree: &GrowingTree, leaves: &[[u8; 32]], i: usize, 
     }
 }
 
-/// The run of a leaf: 64 leaves, or as many as there are.
+fn first(alloc: Global, leaves: &[[u8; 32]], indexes: &[usize], said: &mut Said) {
+    if leaves.len() <= MOST
+        && let Some((count, asked)) = indexes.split_first()
+        && *count <= leaves.len()
+        && let Ok(tree) = grown(alloc, leaves)
+    {
+        said.hash(tree.root_of_first(*count, cut_of(leaves, *count)));
+        for i in asked {
+            if let Some(ops) = first_path(alloc, &tree, leaves, *count, *i) {
+                say_ops(alloc, ops.items(), said);
+            }
+        }
+    }
+}
+
+fn firsts(alloc: Global, leaves: &[[u8; 32]], indexes: &[usize], said: &mut Said) {
+    if leaves.len() <= MOST
+        && let Some(most) = indexes.first()
+        && *most < MOST
+        && let Ok(tree) = grown(alloc, leaves)
+    {
+        for count in 1..*most + 1 {
+            if count <= leaves.len() {
+                said.hash(Some(all_of_first(alloc, &tree, leaves, count)));
+            }
+        }
+    }
+}
+
+/// The SHA-256 of the root over the first leaves of a tree, and of the paths of all of them to it.
+fn all_of_first(alloc: Global, tree: &GrowingTree, leaves: &[[u8; 32]], count: usize) -> [u8; 32]
+    requires leaves { tree.now.leaves ≡ leaves.now }
+    requires most { count ≤ length leaves.now }
+{
+    let mut all = Vec::new(alloc);
+    if let Some(root) = tree.root_of_first(count, cut_of(leaves, count)) {
+        let _ = all.extend_from_slice(root.as_slice());
+    }
+    for i in 0..count {
+        if let Some(ops) = first_path(alloc, tree, leaves, count, i) {
+            spell_ops(ops.items(), &mut all);
+        }
+    }
+    Sha256::digest(&all)
+}
+
+/// The path of a leaf to the root over the first leaves of a tree, where it is one of them.
+fn first_path(
+    alloc: Global,
+    tree: &GrowingTree,
+    leaves: &[[u8; 32]],
+    count: usize,
+    i: usize,
+) -> Option<Ops>
+    requires leaves { tree.now.leaves ≡ leaves.now }
+    requires most { count ≤ length leaves.now }
+{
+    if i >= count {
+        return None;
+    }
+    let run = run_of(&leaves[..count], i);
+    tree.path_of_first(alloc, count, i, run, cut_of(leaves, count))
+        .ok()
+}
+
+/// Those of the first leaves that come after their last whole run.
+fn cut_of(leaves: &[[u8; 32]], count: usize) -> &[[u8; 32]]
+    requires { count ≤ length leaves.now }
+    ensures { result.now ≡ drop (RUN * (count / RUN)) (take count leaves.now) }
+{
+    &leaves[..count][RUN * (count / RUN)..]
+}
+
+/// The run of a leaf: 16 leaves, or as many as there are.
 fn run_of(leaves: &[[u8; 32]], i: usize) -> &[[u8; 32]]
     requires { i < length leaves.now }
     ensures { result.now ≡ take RUN (drop (RUN * (i / RUN)) leaves.now) }

@@ -1,17 +1,22 @@
 -- What is known of the records that are asked for.
-use Rattle.std.proofs.Common.{◌≡◌, ℕ, suc, ◌<◌, ◌≤◌, Bool, true, false, cond, List, [], ◌∷◌, length, refl, sym, ap, subst, ◌∙◌, arith}
+use Rattle.std.proofs.Common.{◌≡◌, ℕ, suc, ◌+◌, ◌-◌, ◌<◌, ◌≤◌, Bool, true, false, cond, List, [], ◌∷◌, length, refl, sym, ap, subst, ◌∙◌, arith}
 use Rattle.std.proofs.lemmas.Bool.{ltb-true, leb-true}
 use Rattle.std.proofs.lemmas.Slice.Eq.{bytes_eq-Decides}
 use Rattle.std.specs.Prelude.{Option, Some, None, find, nat_le, nat_lt, ◌&&◌}
 use Rattle.std.specs.Option.{option_map}
 use Rattle.std.specs.List.{AllByRecursion}
 use Rattle.std.specs.Str.{bytes_eq}
+use Rattle.ots_anchor.specs.Path.{complete_path, complete_way, hashed}
 use Rattle.ots_journal.specs.declared.entry.Entry.{Entry}
+use Rattle.ots_merkle.specs.CalendarTree.{path}
+use Rattle.ots_ops.specs.declared.op.Op.{Op}
 use Rattle.ots_store.specs.declared.anchor.Anchor.{Anchor}
 use Rattle.ots_store.specs.Index.{least}
 use Rattle.ots_store.specs.Order.{commit_in, anchor_in, commits_of, anchors_of, anchor_end, covered_by, covered_of, covers, records_of}
 use Rattle.ots_store.specs.Records.{Record, CommitRecord, TipRecord, AnchorRecord, record_of, HasForm, IsRecord, FitsAnchor}
 use Rattle.ots_store.specs.Store.{InRecords}
+use Rattle.ots_calendar.specs.Answer.{way_in}
+use Rattle.ots_calendar.specs.Values.{span}
 use Rattle.ots_store.proofs.Ordered.{orderly}
 use Rattle.ots_store.proofs.Tipped.{all_append}
 
@@ -94,3 +99,11 @@ covering_records records entries i a same are found =
 
 pub covered_within : (records : List Record) (entries : List Entry) → records ≡ records_of entries → InRecords entries → covered_of records ≤ length (commits_of records)
 covered_within records entries same are = subst (λ (l : List Record). covered_of l ≤ length (commits_of l)) (sym same) (orderly (records_of entries) are.order).within
+
+-- the way of a commitment, made of its path in the tree over the anchor's
+pub way_is : (commits : List (List ℕ)) (i first end : ℕ) (a : Anchor) (way ops : List Op) → first ≡ a.first → end ≡ a.first + a.count → way ≡ path (hashed (span first (end - first) commits)) (i - first)
+    → ops ≡ complete_way way a.prefix a.suffix a.branch → ops ≡ way_in commits i a
+unfolding complete_path
+way_is commits i first end a way ops begins ends path-is is =
+    let count : end - first ≡ a.count = omega (arith, begins, ends) in
+    is ∙ ap (λ (w : List Op). complete_way w a.prefix a.suffix a.branch) (path-is ∙ (λ j. path (hashed (span (begins j) (count j) commits)) (i - begins j)))

@@ -8,7 +8,7 @@ use Rattle.std.specs.List.{AllByRecursion}
 use Rattle.sha2.specs.Sha256.{sha256}
 use Rattle.sha2.proofs.Facts256.{length-sha256}
 use Rattle.ots_base.specs.declared.limits.TheConstants.{MAX_ARGUMENT}
-use Rattle.ots_anchor.specs.Path.{hashed, before, after, twice, climb, complete_path, AreSteps}
+use Rattle.ots_anchor.specs.Path.{hashed, before, after, twice, climb, complete_path, complete_way, AreSteps}
 use Rattle.ots_attest.specs.Attestation.{payload, spell as spell_attestation}
 use Rattle.ots_attest.specs.Uri.{IsUri}
 use Rattle.ots_attest.specs.declared.attestation.Attestation.{Attestation}
@@ -154,7 +154,7 @@ after_size [] few = omega arith
 after_size (b ∷ bytes) few = omega (arith, append_size (b ∷ bytes) few)
 
 complete_size : (commits : List (List ℕ)) (i : ℕ) (a : Anchor) → length commits ≤ 2 ^ 32 → FitsAnchor a → size (complete_path commits i a.prefix a.suffix a.branch) ≤ 6500
-unfolding complete_path
+unfolding complete_path complete_way
 complete_size commits i a few fits =
     let rest = twice ++ climb a.branch in
     omega (

@@ -19,14 +19,14 @@ use Rattle.ots_store.proofs.Spellings.{record_read, is_record}
 use Rattle.ots_calendar.specs.Book.{StandsForBook, Keeps}
 use Rattle.ots_calendar.specs.Tree.{TreeTold, IsOver}
 use Rattle.ots_calendar.specs.Values.{IsTrue, IsTrueTip, IsTrueAnchor, AreTrue}
-use Rattle.ots_calendar.proofs.Spans.{over_more}
+use Rattle.ots_kept_trees.proofs.Leaves.{leaves_more}
 use Rattle.ots_calendar.proofs.Truths.{true_push}
 
 pub commits_more : (xs ys : List Entry) → commits_of (records_of (xs ++ ys)) ≡ commits_of (records_of xs) ++ commits_of (records_of ys)
 commits_more xs ys = ap commits_of (map-append record_of xs ys) ∙ commits_append (records_of xs) (records_of ys)
 
 pub over_entries : (xs ys : List Entry) (t : TreeTold) → IsOver (commits_of (records_of xs)) t → IsOver (commits_of (records_of (xs ++ ys))) t
-over_entries xs ys t over = subst (λ (l : List (List ℕ)). IsOver l t) (sym (commits_more xs ys)) (over_more (commits_of (records_of xs)) (commits_of (records_of ys)) t over)
+over_entries xs ys t over = subst (λ (l : List (List ℕ)). IsOver l t) (sym (commits_more xs ys)) (leaves_more (commits_of (records_of xs)) (commits_of (records_of ys)) t.first t.leaves over)
 
 pub true_entries : (entries : List Entry) (e : Entry) → InRecords entries → AreTrue (records_of entries) → IsTrue (commits_of (records_of entries)) (record_of e) → AreTrue (records_of (entries ++ e ∷ []))
 true_entries entries e are is one =

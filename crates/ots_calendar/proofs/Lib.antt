@@ -10,7 +10,6 @@ mod Climbing
 mod Keeping
 mod Looking
 mod OneTicket
-mod Spans
 mod Standing
 mod Tipping
 mod Truths

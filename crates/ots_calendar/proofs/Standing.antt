@@ -15,6 +15,9 @@ use Rattle.ots_tickets.specs.Calls.{IfSettled, LeadsTo, Takes, Withdraws}
 use Rattle.ots_tickets.specs.Ready.{at_index, IsReady}
 use Rattle.ots_tickets.specs.Tickets.{IsSettled, TicketsTold, TakesOne, settles_from}
 use Rattle.ots_tickets.proofs.Places.{all_joined, settles_index}
+use Rattle.ots_kept_trees.specs.Kept.{AreKept}
+use Rattle.ots_kept_trees.specs.declared.trees.Trees.{Trees}
+use Rattle.ots_kept_trees.proofs.Leaves.{kept_more}
 use Rattle.ots_calendar.specs.Book.{AllStand, StandsAt, Gives, Grows}
 use Rattle.ots_calendar.proofs.Growing.{refreshed, unrefreshed}
 use Rattle.ots_calendar.proofs.Keeping.{commits_more}
@@ -38,6 +41,12 @@ pub stand_grows : {D : Type 0} (old new : JournalTold D) (settled : List Settled
 stand_grows old new settled g all =
     subst (λ (l : List (List ℕ)). AllStand l settled) (sym (ap (λ (l : List _). commits_of (records_of l)) g.entries ∙ commits_more old.entries g.more))
     (stand_more (commits_of (records_of old.entries)) (commits_of (records_of g.more)) settled all)
+
+-- so are the kept trees over their commitments
+pub kept_grows : {D : Type 0} (old new : JournalTold D) (t : Trees) → Grows old new → AreKept (commits_of (records_of old.entries)) t → AreKept (commits_of (records_of new.entries)) t
+kept_grows old new t g are =
+    subst (λ (l : List (List ℕ)). AreKept l t) (sym (ap (λ (l : List _). commits_of (records_of l)) g.entries ∙ commits_more old.entries g.more))
+    (kept_more (commits_of (records_of old.entries)) (commits_of (records_of g.more)) t are)
 
 pub refresh_grows : {D A E : Type 0} (bytes : D → Option (List ℕ)) (old new : JournalTold D) (result : Result A E) → OnOk result (Refreshed bytes old new) → OnErr result (Unrefreshed bytes old new) → Grows old new
 refresh_grows bytes old new (Ok x) ok err = refreshed bytes old new ok

@@ -9,7 +9,7 @@ use Rattle.ots_store.specs.Ranges.{IsWithin, Orderly}
 use Rattle.ots_store.specs.Records.{Record, CommitRecord, TipRecord, AnchorRecord}
 use Rattle.ots_store.proofs.Ordered.{commits_append}
 use Rattle.ots_calendar.specs.Values.{IsTrue, AreTrue, IsTrueAnchor}
-use Rattle.ots_calendar.proofs.Spans.{span_more}
+use Rattle.ots_kept_trees.proofs.Leaves.{span_more}
 
 -- so many commitments are enough for a record
 abbrev pub EndsBy : ℕ → Record → Type 0

@@ -8,7 +8,7 @@ use Rattle.std.specs.Option.{option_map}
 use Rattle.std.specs.Str.{bytes_eq}
 use Rattle.sha2.specs.Sha256.{sha256}
 use Rattle.sha2.proofs.Facts256.{length-sha256}
-use Rattle.ots_anchor.specs.Path.{hashed, before, after, twice, climb, complete_path}
+use Rattle.ots_anchor.specs.Path.{hashed, before, after, twice, climb, complete_path, complete_way}
 use Rattle.ots_anchor.proofs.Paths.{leads}
 use Rattle.ots_journal.specs.declared.entry.Entry.{Entry}
 use Rattle.ots_merkle.specs.Hashes.{AreHashes}
@@ -35,7 +35,7 @@ use Rattle.ots_calendar.specs.declared.answer.Answer.TheVariants.{Complete, Pend
 use Rattle.ots_calendar.specs.Answer.{answer, answer_of, answer_at, way_in}
 use Rattle.ots_calendar.specs.Values.{span, IsTrueAnchor, AreTrue}
 use Rattle.ots_calendar.proofs.Asked.{EndsBy, all_end, all_fit, found_has, covering, all_long, IsLong}
-use Rattle.ots_calendar.proofs.Spans.{span_more}
+use Rattle.ots_kept_trees.proofs.Leaves.{span_more}
 use Rattle.ots_calendar.proofs.Truths.{anchors_true}
 
 -- ---- more records
@@ -180,7 +180,7 @@ climb_long [] = refl
 climb_long (step ∷ branch) = omega (arith, climb_long branch)
 
 complete_few : (commits : List (List ℕ)) (i : ℕ) (prefix suffix : List ℕ) (branch : List (Side × List ℕ)) → length commits ≤ 2 ^ 32 → length branch ≤ 32 → length (complete_path commits i prefix suffix branch) ≤ 165
-unfolding complete_path
+unfolding complete_path complete_way
 complete_few commits i prefix suffix branch few short =
     let up = path_short 32 (hashed commits) i (let n : length (hashed commits) ≤ 2 ^ 32 = omega (arith, length-map commits sha256) in n) in
     let last = before prefix ++ (after suffix ++ (twice ++ climb branch)) in

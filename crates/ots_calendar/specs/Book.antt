@@ -16,6 +16,8 @@ use Rattle.ots_tickets.specs.declared.settled.Settled.{Settled}
 use Rattle.ots_tickets.specs.declared.tickets.Taken.{Taken}
 use Rattle.ots_tickets.specs.declared.tickets.Taken.TheVariants as taken
 use Rattle.ots_tree.specs.declared.token.Token.{Token}
+use Rattle.ots_kept_trees.specs.declared.trees.Trees.{Trees}
+use Rattle.ots_kept_trees.specs.Kept.{AreKept}
 use Rattle.ots_calendar.specs.Tree.{TreeTold, IsOver}
 use Rattle.ots_calendar.specs.Values.{AreTrue}
 
@@ -66,8 +68,10 @@ pub record Keeps {D : Type 0} (journal : JournalTold D) (tree : TreeTold) : Type
   pub over : IsOver (commits_of (records_of journal.entries)) tree
 
 -- The commitment of each settled ticket's receipt stands at its index. That its way leads there, the tickets keep.
-pub record KeepsBook {D : Type 0} (journal : JournalTold D) (tree : TreeTold) (tickets : TicketsTold) : Type 0 where
+pub record KeepsBook {D : Type 0} (journal : JournalTold D) (tree : TreeTold) (trees : Trees)
+    (tickets : TicketsTold) : Type 0 where
   pub records : Keeps journal tree
+  pub kept : AreKept (commits_of (records_of journal.entries)) trees
   pub settled : AllStand (commits_of (records_of journal.entries)) tickets.settled
 
 -- ---- calls that may write

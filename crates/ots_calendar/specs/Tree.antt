@@ -1,8 +1,7 @@
 -- The tree over the commitments that are not covered, of which only the roots of whole parts are kept. It serves the
 -- code alone.
-use Rattle.std.specs.Prelude.{◌≡◌, ◌≤◌, ℕ, ◌+◌, ◌^◌, List, length}
-use Rattle.ots_anchor.specs.Path.{hashed}
-use Rattle.ots_calendar.specs.Values.{span}
+use Rattle.std.specs.Prelude.{◌≤◌, ℕ, ◌^◌, List}
+use Rattle.ots_kept_trees.specs.Kept.{AreLeaves}
 
 pub record TreeTold : Type 0 where
   -- the index of its first commitment
@@ -18,6 +17,5 @@ pub record HasRoom (t : TreeTold) : Type 0 where
   pub anew : 2 ^ 32 ≤ t.spare_anew
 
 -- It is over some of these commitments, from its first one on.
-pub record IsOver (commits : List (List ℕ)) (t : TreeTold) : Type 0 where
-  pub within : t.first + length t.leaves ≤ length commits
-  pub leaves : t.leaves ≡ hashed (span t.first (length t.leaves) commits)
+abbrev pub IsOver : List (List ℕ) → TreeTold → Type 0
+IsOver commits t = AreLeaves commits t.first t.leaves

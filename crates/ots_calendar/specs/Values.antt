@@ -1,16 +1,13 @@
 -- What the values of a calendar's records say of its commitments.
-use Rattle.std.specs.Prelude.{◌≡◌, ◌<◌, ℕ, List, length, take, drop, slice_get, Some}
+use Rattle.std.specs.Prelude.{◌≡◌, ◌<◌, ℕ, List, length, take, slice_get, Some}
 use Rattle.std.specs.List.{AllByRecursion}
 use Rattle.ots_anchor.specs.Path.{hashed, led_to}
 use Rattle.ots_merkle.specs.CalendarTree.{root}
+pub use Rattle.ots_kept_trees.specs.Kept.{span}
 use Rattle.ots_store.specs.declared.anchor.Anchor.{Anchor}
 use Rattle.ots_store.specs.declared.tip.Tip.{Tip}
 use Rattle.ots_store.specs.Order.{commits_of}
 use Rattle.ots_store.specs.Records.{Record, CommitRecord, TipRecord, AnchorRecord}
-
--- `count` of the commitments, from index `first` on
-abbrev pub span : ℕ → ℕ → List (List ℕ) → List (List ℕ)
-span first count commits = take count (drop first commits)
 
 -- A tip's root is that of the calendar's tree over its commitments.
 abbrev pub IsTrueTip : List (List ℕ) → Tip → Type 0

@@ -7,12 +7,14 @@ ghost use Rattle.ots_store.specs.Order.{anchors_of, commits_of, covers};
 ghost use Rattle.ots_tree.specs.Made.{lone};
 ghost use Rattle.ots_tree.specs.Wire.{pre};
 ghost use Rattle.ots_calendar.specs.Answer.{answer, way_in};
+ghost use Rattle.ots_kept_trees.specs.Kept.{AreKept};
 
 use crate::Answer;
-use ots_anchor::complete_path;
+use ots_anchor::complete_way;
 use ots_attest::Attestation;
 use ots_base::OutOfMemory;
 use ots_disk::Disk;
+use ots_kept_trees::Trees;
 use ots_store::{Anchor, Store};
 use ots_tree::{Tree, single};
 use std::alloc::Global;
@@ -24,8 +26,10 @@ const COMMITMENT: usize = 44;
 pub(crate) fn answer_by<D: Disk>(
     alloc: Global,
     store: &Store<D>,
+    trees: &Trees,
     commitment: &[u8],
 ) -> Result<Answer, OutOfMemory>
+    requires kept { AreKept (commits_of store.now.records) trees.now }
     ensures { IfOk result (λ a. a ≡ answer store.now.records commitment.now) }
 {
     let Some(i) = index_of(store, commitment) else {
@@ -33,7 +37,7 @@ pub(crate) fn answer_by<D: Disk>(
     };
     match store.anchor_of(i) {
         None => Ok(Answer::Pending),
-        Some(anchor) => Ok(Answer::Complete(complete(alloc, store, i, anchor)?)),
+        Some(anchor) => Ok(Answer::Complete(complete(alloc, store, trees, i, anchor)?)),
     }
 }
 
@@ -50,23 +54,42 @@ fn index_of<D: Disk>(store: &Store<D>, commitment: &[u8]) -> Option<u64>
     store.index_of(&key)
 }
 
+/// Takes into trees what a store's last anchor covers, and what no anchor covers.
+pub(crate) fn catch_up<D: Disk>(trees: &mut Trees, store: &Store<D>)
+    requires { AreKept (commits_of store.now.records) trees.old }
+    ensures { AreKept (commits_of store.now.records) trees.new }
+{
+    store.stands();
+    let covered = store.covered();
+    if covered > 0
+        && let Some(anchor) = store.anchor_of(covered - 1)
+    {
+        let (first, end) = bounds(store, covered - 1, anchor);
+        trees.keep_anchored(store.commitments(), first, end);
+    }
+    let end = store.commits();
+    trees.keep_newest(store.commitments(), covered as usize, end as usize);
+}
+
 /// The tree of the one path from a commitment to the Merkle root of the block of an anchor that
-/// covers it. It hashes all commitments that the anchor covers.
+/// covers it.
 fn complete<D: Disk>(
     alloc: Global,
     store: &Store<D>,
+    trees: &Trees,
     i: u64,
     anchor: &Anchor,
 ) -> Result<Tree, OutOfMemory>
+    requires kept { AreKept (commits_of store.now.records) trees.now }
     requires covers { find (covers i) (anchors_of store.now.records) ≡ Some anchor.now }
     ensures { IfOk result
         (λ tree. tree ≡ pre (lone (way_in (commits_of store.now.records) i anchor.now) (Bitcoin anchor.now.height))) }
 {
     let (first, end) = bounds(store, i, anchor);
-    let ops = complete_path(
+    let way = trees.path_over(store.commitments(), first, end - first, i as usize - first)?;
+    let ops = complete_way(
         alloc,
-        &store.commitments()[first..end],
-        i as usize - first,
+        way.items(),
         anchor.prefix.items(),
         anchor.suffix.items(),
         &anchor.branch,
@@ -75,7 +98,7 @@ fn complete<D: Disk>(
 }
 
 /// The index of the first commitment of an anchor that covers an index, and the one after its last.
-fn bounds<D: Disk>(store: &Store<D>, i: u64, anchor: &Anchor) -> (usize, usize)
+pub(crate) fn bounds<D: Disk>(store: &Store<D>, i: u64, anchor: &Anchor) -> (usize, usize)
     requires covers { find (covers i) (anchors_of store.now.records) ≡ Some anchor.now }
     ensures first { result.0 ≡ anchor.now.first }
     ensures end { result.1 ≡ anchor.now.first + anchor.now.count }

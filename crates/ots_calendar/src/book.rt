@@ -25,7 +25,7 @@ ghost use Rattle.ots_calendar.specs.Tree.{HasRoom, IsOver};
 ghost use Rattle.ots_calendar.specs.Values.{AreTrue, FirstUntrue};
 
 use crate::anchoring::{check_root, find_anchor, ids_of};
-use crate::answering::answer_by;
+use crate::answering::{answer_by, catch_up};
 use crate::tree::OpenTree;
 use crate::values::first_untrue;
 use crate::{AnchorError, Answer, RefusedBook, TipError};
@@ -34,6 +34,7 @@ use ots_base::OutOfMemory;
 use ots_block::Block;
 use ots_disk::Disk;
 use ots_journal::{AppendError, DiskFault};
+use ots_kept_trees::Trees;
 use ots_outside::Leaf;
 use ots_round::{Key, Ticket};
 use ots_store::{Anchor, Store, StoreError, Tip};
@@ -48,7 +49,9 @@ use std::marker::Model;
 pub struct Book<D: Disk> {
     alloc: Global,
     store: Store<D>,
+    // The tree of the next tip, and those by which is answered.
     tree: OpenTree,
+    kept: Trees,
     tickets: Tickets,
 }
 
@@ -59,7 +62,7 @@ impl<D: Disk> Model for Book<D> {
 
     ghost view = { λ b. record { store = b.store; tickets = b.tickets } };
 
-    ghost invariant = { λ b. KeepsBook b.store.journal b.tree b.tickets };
+    ghost invariant = { λ b. KeepsBook b.store.journal b.tree b.kept b.tickets };
 }
 
 impl<D: Disk> Book<D> {
@@ -76,7 +79,8 @@ impl<D: Disk> Book<D> {
         ensures disk { IfErr result (λ r. r.disk ≡ store.journal.disk) }
     {
         store.stands();
-        match first_untrue(alloc, &store) {
+        let mut kept = Trees::new(alloc);
+        match first_untrue(&store, &mut kept) {
             Ok(None) => {
                 let tree = OpenTree::new(alloc, 0);
                 let tickets = Tickets::new(alloc);
@@ -84,10 +88,10 @@ impl<D: Disk> Book<D> {
                     alloc,
                     store,
                     tree,
+                    kept,
                     tickets,
                 };
-                // Where memory runs out, the next tip catches up.
-                let _ = book.next_tip();
+                book.catch_up();
                 Ok(book)
             }
             Ok(Some(i)) => Err(RefusedBook {
@@ -146,7 +150,8 @@ impl<D: Disk> Book<D> {
     pub fn ask(&self, commitment: &[u8]) -> Result<Answer, OutOfMemory>
         ensures { IfOk result (λ a. a ≡ answer self.now.store.records commitment.now) }
     {
-        answer_by(self.alloc, &self.store, commitment)
+        self.store.stands();
+        answer_by(self.alloc, &self.store, &self.kept, commitment)
     }
 
     /// How many tickets wait.
@@ -220,8 +225,7 @@ impl<D: Disk> Book<D> {
         ensures within { StaysWithin D.clock D.images_since self.old.store.journal self.new.store.journal }
     {
         let closed = self.close_round(second, key);
-        // Where memory runs out, the next tip catches up.
-        let _ = self.next_tip();
+        self.catch_up();
         closed
     }
 
@@ -288,8 +292,7 @@ impl<D: Disk> Book<D> {
         let ids = ids_of(self.alloc, block)?;
         check_root(self.alloc, block, &ids)?;
         let anchored = self.anchor_in(block, &ids, height);
-        // Where memory runs out, the next tip catches up.
-        let _ = self.next_tip();
+        self.catch_up();
         anchored
     }
 
@@ -423,6 +426,16 @@ impl<D: Disk> Book<D> {
     {
         self.store.stands();
         next_tip(&self.store, &mut self.tree)
+    }
+
+    /// Takes into the trees what they lack. Where memory runs out, the next tip catches up, and what an
+    /// anchor covers is hashed for each answer.
+    fn catch_up(&mut self)
+        ensures { self.new ≡ self.old }
+    {
+        let _ = self.next_tip();
+        self.store.stands();
+        catch_up(&mut self.kept, &self.store);
     }
 
     /// Stores the next tip where none over the same commitments is.

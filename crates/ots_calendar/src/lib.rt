@@ -15,9 +15,10 @@
 //! kept counts first. At every moment each image that a crash may leave stands for a book.
 //!
 //! `tip` takes one hash for each 1 of the number of commitments that are not covered, written in
-//! base two, once the tree over them has caught up; after an anchor it is made anew. `ask` hashes
-//! all commitments that the anchor covers. `take` and `withdraw` search by the number, and walk over
-//! the tickets only for one that is not there.
+//! base two, once the tree over them has caught up; after an anchor it is made anew. `ask` takes some
+//! hundred hashes, by trees that a book keeps in 2.7 bytes a commitment (and hashes all commitments
+//! of the anchor where memory for them ran out). `take` and `withdraw` search by the number, and walk
+//! over the tickets only for one that is not there.
 #![tactic(auto)]
 
 mod anchoring;

@@ -1,25 +1,23 @@
 //! Whether the values of records are right.
 ghost use Rattle.std.specs.Prelude.{◌≡◌, ◌+◌, ◌++◌, ◌≤◌, ◌<◌, ◌^◌, ℕ, true, false, length, IfOk, OnOk, MatchOption};
 ghost use Rattle.std.specs.Prelude.{slice_get, Some};
-ghost use Rattle.ots_anchor.specs.Path.{hashed};
 ghost use Rattle.ots_headers.specs.DoubleSha256.{double_sha256};
 ghost use Rattle.ots_merkle.specs.BlockTree.{above_side, climbed};
-ghost use Rattle.ots_merkle.specs.CalendarTree.{root};
 ghost use Rattle.ots_merkle.specs.Hashes.{block_node};
 ghost use Rattle.ots_store.specs.Order.{commits_of};
 ghost use Rattle.ots_store.specs.Records.{Record, TipRecord, AnchorRecord};
 ghost use Rattle.ots_store.specs.declared.anchor.Anchor.{Anchor};
 ghost use Rattle.ots_store.specs.declared.tip.Tip.{Tip};
+ghost use Rattle.ots_kept_trees.specs.Kept.{AreKept};
 ghost use Rattle.ots_calendar.specs.Seen.{IsSeen, IsTipAt, IsAnchorAt};
-ghost use Rattle.ots_calendar.specs.Values.{span, IsTrueTip, IsTrueAnchor, IsTrue, AreTrue, FirstUntrue};
+ghost use Rattle.ots_calendar.specs.Values.{IsTrueTip, IsTrueAnchor, IsTrue, AreTrue, FirstUntrue};
 
-use crate::tree::OpenTree;
 use ots_base::OutOfMemory;
 use ots_disk::Disk;
+use ots_kept_trees::Trees;
 use ots_merkle::{Branch, Side};
 use ots_store::{Anchor, Store, Tip};
 use sha2::{Digest, Sha256};
-use std::alloc::Global;
 
 /// The kinds of entries (`ots_store`): a tip.
 const TIP: u8 = 2;
@@ -36,19 +34,22 @@ pub(crate) struct Seen {
     pub covered: u64,
 }
 
-/// The first record whose values are not right.
+/// The first record whose values are not right. The trees take in what is hashed for that.
 pub(crate) fn first_untrue<D: Disk>(
-    alloc: Global,
     store: &Store<D>,
+    trees: &mut Trees,
 ) -> Result<Option<u64>, OutOfMemory>
-    ensures { IfOk result (λ found. MatchOption found (AreTrue store.now.records) (FirstUntrue store.now.records)) }
+    requires kept { AreKept (commits_of store.now.records) trees.old }
+    ensures kept { AreKept (commits_of store.now.records) trees.new }
+    ensures found { IfOk result
+        (λ found. MatchOption found (AreTrue store.now.records) (FirstUntrue store.now.records)) }
 {
     let mut seen = Seen {
         tips: 0,
         covered: 0,
     };
     for i in 0..store.entries() {
-        if !next_is_true(alloc, store, i, &mut seen)? {
+        if !next_is_true(store, trees, i, &mut seen)? {
             return Ok(Some(i));
         }
     }
@@ -57,14 +58,16 @@ pub(crate) fn first_untrue<D: Disk>(
 
 /// Whether the values of the next record are right, after those that were looked at.
 fn next_is_true<D: Disk>(
-    alloc: Global,
     store: &Store<D>,
+    trees: &mut Trees,
     i: u64,
     seen: &mut Seen,
 ) -> Result<bool, OutOfMemory>
     requires there { i < length store.now.records }
     requires few { i < 2 ^ 32 }
     requires seen { IsSeen store.now.records i seen.old }
+    requires kept { AreKept (commits_of store.now.records) trees.old }
+    ensures kept { AreKept (commits_of store.now.records) trees.new }
     ensures seen { OnOk result (IsSeen store.now.records (i + 1) seen.new) }
     ensures yes { IfOk result (λ yes. yes ≡ true → (r : Record) → slice_get store.now.records i ≡ Some r
         → IsTrue (commits_of store.now.records) r) }
@@ -73,11 +76,11 @@ fn next_is_true<D: Disk>(
 {
     if let Some(tip) = tip_at(store, i, seen) {
         seen.tips += 1;
-        return is_true_tip(alloc, store.commitments(), &tip);
+        return is_true_tip(trees, store.commitments(), &tip);
     }
     if let Some(anchor) = anchor_at(store, i, seen) {
         seen.covered = anchor.first + anchor.count;
-        return is_true_anchor(alloc, store.commitments(), anchor);
+        return is_true_anchor(trees, store.commitments(), anchor);
     }
     Ok(true)
 }
@@ -120,59 +123,40 @@ fn anchor_at<'a, D: Disk>(store: &'a Store<D>, i: u64, seen: &Seen) -> Option<&'
 }
 
 /// Whether a tip's root is that of the tree over its commitments.
-fn is_true_tip(alloc: Global, commitments: &[[u8; 44]], tip: &Tip) -> Result<bool, OutOfMemory>
+fn is_true_tip(trees: &mut Trees, commitments: &[[u8; 44]], tip: &Tip) -> Result<bool, OutOfMemory>
     requires some { 1 ≤ tip.now.count }
     requires within { tip.now.first + tip.now.count ≤ length commitments.now }
     requires few { length commitments.now < 2 ^ 32 }
+    requires kept { AreKept commitments.now trees.old }
+    ensures kept { AreKept commitments.now trees.new }
     ensures yes { IfOk result (λ yes. yes ≡ true → IsTrueTip commitments.now tip.now) }
     ensures no { IfOk result (λ yes. yes ≡ false → IsTrueTip commitments.now tip.now → ⊥) }
 {
-    let root = root_over(alloc, commitments, tip.first, tip.count)?;
+    let (first, count) = (tip.first as usize, tip.count as usize);
+    trees.keep_newest(commitments, first, first + count);
+    let root = trees.root_over(commitments, first, count)?;
     Ok(tip.root == root)
 }
 
 /// Whether an anchor's root is what its path leads to.
 fn is_true_anchor(
-    alloc: Global,
+    trees: &mut Trees,
     commitments: &[[u8; 44]],
     anchor: &Anchor,
 ) -> Result<bool, OutOfMemory>
     requires some { 1 ≤ anchor.now.count }
     requires within { anchor.now.first + anchor.now.count ≤ length commitments.now }
     requires few { length commitments.now < 2 ^ 32 }
+    requires kept { AreKept commitments.now trees.old }
+    ensures kept { AreKept commitments.now trees.new }
     ensures yes { IfOk result (λ yes. yes ≡ true → IsTrueAnchor commitments.now anchor.now) }
     ensures no { IfOk result (λ yes. yes ≡ false → IsTrueAnchor commitments.now anchor.now → ⊥) }
 {
-    let root = root_over(alloc, commitments, anchor.first, anchor.count)?;
+    let (first, count) = (anchor.first as usize, anchor.count as usize);
+    trees.keep_anchored(commitments, first, first + count);
+    let root = trees.root_over(commitments, first, count)?;
     let id = transaction_id(anchor.prefix.items(), &root, anchor.suffix.items());
     Ok(anchor.root == climb(&anchor.branch, id))
-}
-
-/// The root of the tree over `count` commitments from index `first` on.
-fn root_over(
-    alloc: Global,
-    commitments: &[[u8; 44]],
-    first: u64,
-    count: u64,
-) -> Result<[u8; 32], OutOfMemory>
-    requires some { 1 ≤ count }
-    requires within { first + count ≤ length commitments.now }
-    requires few { length commitments.now < 2 ^ 32 }
-    ensures { IfOk result (λ made. made ≡ root (hashed (span first count commitments.now))) }
-{
-    let first = first as usize;
-    root_of(alloc, &commitments[first..first + count as usize])
-}
-
-/// The root of the tree over commitments, at least one.
-fn root_of(alloc: Global, commitments: &[[u8; 44]]) -> Result<[u8; 32], OutOfMemory>
-    requires some { 1 ≤ length commitments.now }
-    requires few { length commitments.now < 2 ^ 32 }
-    ensures { IfOk result (λ made. made ≡ root (hashed commitments.now)) }
-{
-    let mut tree = OpenTree::new(alloc, 0);
-    tree.catch_up(commitments, 0)?;
-    Ok(tree.root().unwrap())
 }
 
 /// The id of a transaction without its witness: the hash of what stands before a root, the root and

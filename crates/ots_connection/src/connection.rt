@@ -20,8 +20,9 @@ use ots_shared::{Pass, Shared};
 use std::alloc::Global;
 use std::sync::Wait;
 
-/// Serves one connection: reads its request, does on the shared book what it asks, writes the reply,
-/// and says that nothing more is written.
+/// Serves one connection: reads its request, does on the shared book what it asks, and writes the reply. It ends each
+/// connection by saying that nothing more is written, also where there was no request, a call failed or memory ran out;
+/// this may wait for the other side, and the book is free.
 ///
 /// For a digest it draws a nonce and reads the clock, puts the digest in one hold of the book, and in a
 /// second takes its tree, where another caller has closed the round, or closes it first for all that
@@ -41,6 +42,45 @@ pub fn serve_connection<L: Link, D: Disk, C: Clock, N: Nonces, R: Wait>(
     requires own { IsPassOf shared.now pass.old }
     requires free { pass.old.holding ≡ false }
     // what is read, done and written, each answer with its cause
+    ensures serves { Serves service.now.uri shared.now.limit
+        (record {
+          pass = pass.old;
+          link = record { told = L.told link.old; faults = L.faults link.old };
+          sources = record { left = N.left nonces.old; faults = N.faults nonces.old; second = C.coming clock.old };
+        })
+        (record {
+          pass = pass.new;
+          link = record { told = L.told link.new; faults = L.faults link.new };
+          sources = record { left = N.left nonces.new; faults = N.faults nonces.new; second = C.coming clock.new };
+        })
+        result }
+    ensures stamped { IfStamped result (λ receipt. StandsAt pass.new.seen receipt.index receipt.commitment) }
+    ensures answered { IsFresh (L.told link.old) (L.faults link.old) → is_answer result ≡ true
+        → IsAnswered (L.told link.new) (L.faults link.new) }
+    ensures own { IsPassOf shared.now pass.new }
+    ensures seat { (pass.new.seat ≡ pass.old.seat) × (pass.new.holding ≡ false) }
+    ensures seen { StartsWith pass.new.seen pass.old.seen }
+    ensures told { pass.new.told ≡ pass.old.told }
+    ensures later { L.faults link.old ≤ L.faults link.new }
+    ensures same { L.same link.old link.new }
+{
+    let served = serve(rt, shared, pass, service, link, clock, nonces);
+    link.finish();
+    served
+}
+
+/// The same, but for the end of the link.
+fn serve<L: Link, D: Disk, C: Clock, N: Nonces, R: Wait>(
+    rt: &R,
+    shared: &Shared<D>,
+    pass: &mut Pass,
+    service: &Service,
+    link: &mut L,
+    clock: &mut C,
+    nonces: &mut N,
+) -> Served
+    requires own { IsPassOf shared.now pass.old }
+    requires free { pass.old.holding ≡ false }
     ensures serves { Serves service.now.uri shared.now.limit
         (record {
           pass = pass.old;

@@ -8,7 +8,7 @@ use crate::due::Due;
 use ots_http::write_reply;
 use ots_outside::Link;
 
-/// Writes what is due, and says that nothing more is written.
+/// Writes what is due.
 pub(crate) fn send<L: Link>(link: &mut L, due: Due) -> Served
     requires { IsReply due.reply }
     ensures sends { Sends due (record { told = L.told link.old; faults = L.faults link.old })
@@ -16,9 +16,7 @@ pub(crate) fn send<L: Link>(link: &mut L, due: Due) -> Served
     ensures later { L.faults link.old ≤ L.faults link.new }
     ensures same { L.same link.old link.new }
 {
-    let written = write_reply(link, &due.reply);
-    link.finish();
-    match written {
+    match write_reply(link, &due.reply) {
         Ok(()) => due.served,
         Err(_) => Served::LinkFault,
     }

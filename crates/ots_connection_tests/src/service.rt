@@ -3,5 +3,7 @@
 mod beside;
 mod connections;
 mod crews;
+mod endings;
 mod tests;
+mod turns;
 mod watching;

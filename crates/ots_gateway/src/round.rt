@@ -3,6 +3,7 @@ ghost use Rattle.std.specs.Prelude.{◌≡◌, ◌≤◌, length, map, IfOk, OnE
 ghost use Rattle.ots_gateway.specs.Arrived.{waiting_in};
 ghost use Rattle.ots_gateway.specs.Round.{EachMayServe, IsRound};
 ghost use Rattle.ots_gateway.specs.Ways.{leaves};
+ghost use Rattle.ots_http.specs.Seen.{LinkSeen};
 
 use crate::answer::ask;
 use crate::arrived::Arrived;
@@ -33,9 +34,38 @@ pub struct Round {
 /// tells. Where these are fewer than `min`, 1 to 16, each digest is answered 503 `upstream`; else with
 /// a tree: its own way to the root, and below it the items of the taken trees.
 ///
+/// To each link it is said that nothing more is written once all replies of the round are, also where memory ran out:
+/// this may wait for the other side, and no other link waits for its reply meanwhile.
+///
 /// After `OutOfMemory` each link has taken nothing, or its whole reply, or a prefix of it where its
 /// count of faults rose.
 pub fn serve_round<L: Link, T: Dialer, N: Nonces>(
+    alloc: Global,
+    links: &mut [L],
+    calendars: &[Address],
+    min: u32,
+    dialer: &mut T,
+    nonces: &mut N,
+) -> Result<Round, OutOfMemory>
+    requires links { length links.old ≤ 1024 }
+    requires min { 1 ≤ min }
+    ensures round { IfOk result (λ round. IsRound T.told T.faults calendars.now min
+        (map (λ l. record { told = L.told l; faults = L.faults l }) links.old)
+        (map (λ l. record { told = L.told l; faults = L.faults l }) links.new)
+        (record { left = N.left nonces.old; faults = N.faults nonces.old })
+        (record { left = N.left nonces.new; faults = N.faults nonces.new }) dialer.old dialer.new round.served.items
+        round.outcomes.items) }
+    ensures broken_off { OnErr result (EachMayServe
+        (map (λ l. record { told = L.told l; faults = L.faults l }) links.old)
+        (map (λ l. record { told = L.told l; faults = L.faults l }) links.new)) }
+{
+    let round = serve_all(alloc, links, calendars, min, dialer, nonces);
+    finish_all(links);
+    round
+}
+
+/// The same, but for the end of the links.
+fn serve_all<L: Link, T: Dialer, N: Nonces>(
     alloc: Global,
     links: &mut [L],
     calendars: &[Address],
@@ -60,6 +90,16 @@ pub fn serve_round<L: Link, T: Dialer, N: Nonces>(
     let (answer, outcomes) = ask(alloc, leaves, calendars, min, dialer)?;
     let served = reply_all(alloc, links, &arrived, &answer)?;
     Ok(Round { served, outcomes })
+}
+
+/// Says to each link that nothing more is written. A link that was told so is done with before the next.
+fn finish_all<L: Link>(links: &mut [L])
+    ensures { map {B = LinkSeen} (λ l. record { told = L.told l; faults = L.faults l }) links.new
+        ≡ map {B = LinkSeen} (λ l. record { told = L.told l; faults = L.faults l }) links.old }
+{
+    for i in 0..links.len() {
+        links[i].finish();
+    }
 }
 
 /// The leaves of the digests that wait, in order.

@@ -7,16 +7,14 @@ use crate::served::GateServed;
 use ots_http::{Reply, write_reply};
 use ots_outside::Link;
 
-/// Writes a reply, and says that nothing more is written.
+/// Writes a reply.
 pub(crate) fn send<L: Link>(link: &mut L, reply: Reply) -> GateServed
     requires { IsReply reply }
     ensures sends { Sends reply (record { told = L.told link.old; faults = L.faults link.old })
         (record { told = L.told link.new; faults = L.faults link.new }) result }
     ensures later { L.faults link.old ≤ L.faults link.new }
 {
-    let written = write_reply(link, &reply);
-    link.finish();
-    match written {
+    match write_reply(link, &reply) {
         Ok(()) => served_by(reply),
         Err(_) => GateServed::LinkFault,
     }

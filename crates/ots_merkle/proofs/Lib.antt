@@ -4,6 +4,3 @@ pub mod PathLaws
 pub mod Extending
 pub mod Blocks
 pub mod Spare
-pub mod RunRoots
-pub mod Levels
-pub mod Closed

@@ -1,7 +1,5 @@
 pub mod Hashes
 pub mod CalendarTree
-pub mod Runs
-pub mod TreeParts
 pub mod BlockTree
 pub mod Row
 pub mod Extended

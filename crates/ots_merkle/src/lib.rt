@@ -4,7 +4,6 @@
 mod block;
 mod branch;
 mod calendar;
-mod growing;
 mod hashes;
 mod laws;
 mod peaks;
@@ -16,10 +15,10 @@ mod ways;
 pub use block::{block_branch, block_root};
 pub use branch::{Branch, Side};
 pub use calendar::root;
-pub use growing::{GrowingTree, RUN};
 pub use laws::{
     block_tree, branch_leads_to_root, calendar_tree, path_is_short, path_leads_to_root,
 };
 pub use peaks::Peaks;
-pub use way::path;
+pub use pushed::Pushed;
+pub use way::{add_path, path};
 pub use ways::{paths, paths_and_root};

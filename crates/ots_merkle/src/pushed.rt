@@ -4,9 +4,9 @@ ghost use Rattle.std.specs.Prelude.{◌≡◌, ℕ, List, [], ◌∷◌, ◌++�
 use std::marker::Model;
 
 /// A list of leaves that only clauses see. It takes no room, and its methods do nothing at run
-/// time. By itself it says nothing: the invariant of the peaks ties it to the hashes that they
-/// keep.
-pub(crate) struct Pushed {
+/// time. By itself it says nothing: the invariant of a tree ties it to the hashes that the tree
+/// keeps.
+pub struct Pushed {
     pub ghost leaves: { List (List ℕ) },
 }
 
@@ -19,14 +19,14 @@ impl Model for Pushed {
 
 impl Pushed {
     /// Nothing yet.
-    pub(crate) fn nothing() -> Pushed
+    pub fn nothing() -> Pushed
         ensures { result.leaves ≡ [] }
     {
         Pushed {}
     }
 
     /// These leaves, then one more.
-    pub(crate) fn and(&self, leaf: &[u8]) -> Pushed
+    pub fn and(&self, leaf: &[u8]) -> Pushed
         ensures { result.leaves ≡ self.now.leaves ++ leaf.now ∷ [] }
     {
         let _ = leaf;

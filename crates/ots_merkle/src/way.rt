@@ -29,8 +29,9 @@ pub fn path(alloc: Global, leaves: &[[u8; 32]], i: usize) -> Result<Ops, OutOfMe
     Ok(ops)
 }
 
-/// Adds the path of the leaf of index `i` in the calendar's tree of these leaves.
-pub(crate) fn add_path(
+/// Adds to these operations the path of the leaf of index `i`, as [`path`] makes it, in memory of
+/// `alloc`. Where memory ran out, a part of it may have been added.
+pub fn add_path(
     alloc: Global,
     ops: &mut Ops,
     leaves: &[[u8; 32]],

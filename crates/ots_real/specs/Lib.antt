@@ -1,3 +1,4 @@
+pub mod AcceptError
 pub mod Counting
 pub mod DirShelf
 pub mod OpenFile
@@ -6,3 +7,4 @@ pub mod SlotTable
 pub mod Sockets
 pub mod StdStreams
 pub mod TcpDialer
+pub mod TimeLimit

@@ -1,27 +1,43 @@
 //! How long a conversation may last.
-ghost use Rattle.std.specs.Prelude.{◌≡◌, ◌-◌, ◌<◌, ◌≤◌, max, MatchOption};
 ghost use Rattle.std.specs.Duration.{as_nanos};
+ghost use Rattle.ots_real.specs.TimeLimit.{IsLeft};
 
 use std::time::Duration;
 
-/// The most seconds that a conversation lasts, from the accept or the connect to its last read or
-/// write. A peer that sends nothing, or a byte now and then, is cut off after them, so that none
-/// holds a worker for ever. The limit is this project's.
+/// The most seconds that a request takes, from our first read of it to the last. A peer that sends
+/// nothing, or a byte now and then, is cut off after them, so that none holds a worker for long: a
+/// request to a calendar is some hundred bytes, and comes within two round trips. The limit is this
+/// project's.
+pub const REQUEST_SECONDS: u64 = 10;
+
+/// The most seconds that a reply takes, from its first write to the last, so that a peer that takes
+/// nothing of it is cut off. The limit is this project's, as long as that of a request.
+pub const REPLY_SECONDS: u64 = 10;
+
+/// The most seconds that a conversation lasts with a host that was called, from the connect to its
+/// last read or write. A calendar may wait with its reply until it has stored what it was sent, so
+/// this is more than a request and a reply take. The limit is this project's.
 pub const CONVERSATION_SECONDS: u64 = 60;
 
 /// The most seconds that one address of a host is given to answer a connect. The limit is this
 /// project's.
 pub const CONNECT_SECONDS: u64 = 10;
 
+/// The most seconds that a finished link waits for the end of what its peer sends. A peer whose reply
+/// has come closes at once, so this is a few round trips. The limit is this project's.
+pub const DRAIN_SECONDS: u64 = 1;
+
+/// The most bytes that a finished link reads and drops of what its peer still sends, as the rest of
+/// a request that was refused early. The limit is this project's.
+pub const DRAIN_BYTES: usize = 8_192;
+
 /// The least that a call waits, in milliseconds. A time limit of 0 would mean none to the system.
 const LEAST_WAIT: u64 = 1;
 
-/// What is left of a limit of which so much has passed, at least a millisecond: `None` exactly
-/// where it has passed whole.
+/// What is left of a limit after this time, at least a millisecond: `None` exactly where it has
+/// passed whole.
 pub fn time_left(limit: Duration, passed: Duration) -> Option<Duration>
-    ensures { MatchOption result (as_nanos limit ≤ as_nanos passed)
-        (λ left. (as_nanos passed < as_nanos limit) × (as_nanos left
-        ≡ max (as_nanos limit - as_nanos passed) 1_000_000)) }
+    ensures { IsLeft limit (as_nanos passed) result }
 {
     let left = limit.saturating_sub(passed);
     if left.is_zero() {

@@ -12,11 +12,17 @@
 //! | `Nonces` | [`RngNonces`], over any random source |
 //! | `Clock` | [`SystemClock`] |
 //!
+//! A connection that was accepted has one time limit for its request, from its first read on, and one
+//! for the reply, from its first write on; a host that is called has one for the whole conversation.
+//! So nobody holds a worker by sending nothing, and none pays for what this process waits itself. A
+//! link that is finished is closed, once the peer can have read the reply.
+//!
 //! They tell nothing of what they hold. Of them it is proved that they are safe, that they return,
-//! that each fault is counted, and that they pass on what std's readers and writers answer; which
-//! bytes a file or a socket gives or takes no contract can say.
+//! that each fault is counted, that they pass on what std's readers and writers answer, and which call
+//! begins which time limit; which bytes a file or a socket gives or takes no contract can say.
 #![tactic(auto)]
 
+mod accept_error;
 mod conversation;
 mod counted;
 mod dir_shelf;
@@ -28,9 +34,13 @@ mod system_clock;
 mod tcp_accepter;
 mod tcp_dialer;
 mod tcp_link;
+mod time_limit;
 mod timed_stream;
 
-pub use conversation::{CONNECT_SECONDS, CONVERSATION_SECONDS};
+pub use conversation::{
+    CONNECT_SECONDS, CONVERSATION_SECONDS, DRAIN_BYTES, DRAIN_SECONDS, REPLY_SECONDS,
+    REQUEST_SECONDS,
+};
 pub use dir_shelf::DirShelf;
 pub use rng_nonces::RngNonces;
 pub use std_sink::StdSink;
@@ -39,3 +49,4 @@ pub use system_clock::SystemClock;
 pub use tcp_accepter::TcpAccepter;
 pub use tcp_dialer::TcpDialer;
 pub use tcp_link::TcpLink;
+pub use time_limit::TimeLimit;

@@ -3,104 +3,122 @@ ghost use Rattle.std.specs.Duration.{as_nanos};
 ghost use Rattle.ots_base.specs.Cause.{HasCause};
 ghost use Rattle.ots_outside.specs.Accepter.{IfAccepted, accepted_after};
 ghost use Rattle.ots_real.specs.Counting.{count_after};
-ghost use Rattle.ots_real.specs.Sockets.{accept_count, accept_faults, accept_limit, is_listening, link_faults};
-ghost use Rattle.ots_real.specs.Sockets.{link_limit};
+ghost use Rattle.ots_real.specs.Sockets.{accept_count, accept_faults, is_listening, link_faults, read_limit};
+ghost use Rattle.ots_real.specs.Sockets.{reply_limit, request_limit, write_limit};
+ghost use Rattle.ots_real.specs.TimeLimit.{IsUnbegun};
 
-use crate::TcpLink;
-use crate::conversation::CONVERSATION_SECONDS;
+use crate::accept_error::AcceptError;
+use crate::conversation::{REPLY_SECONDS, REQUEST_SECONDS};
+use crate::{TcpLink, TimeLimit};
 use ots_outside::{Accepter, Count, Failed};
-use std::io;
 use std::io::ErrorKind;
 use std::net::{Ipv4Addr, Net, OpenListener, TcpListener};
-use std::time::{Clock, Duration, Instant};
+use std::time::{Clock, Duration};
+use std::{io, thread};
 
-/// How many connections in a row may be lost while they are taken, before that is a fault.
-const MAX_LOST: u32 = 65_536;
+/// How many tries of one accept may fail in a row, before that is a fault.
+const MAX_TRIES: u32 = 65_536;
+
+/// How long an accept waits before it tries again, where file descriptors, buffers or memory are
+/// short, in milliseconds: long enough to spare the processor, and short beside a conversation.
+const SHORTNESS_PAUSE: u64 = 10;
+
+/// The most seconds that an accept waits in all for a shortness to end, before that is a fault. This
+/// is more than a request, its reply and the closing of a link take together, after which peers that
+/// send and take nothing have given their descriptors back. The limit is this project's.
+const SHORTNESS_SECONDS: u64 = 30;
+
+/// The pauses of that time.
+const MAX_PAUSES: u64 = SHORTNESS_SECONDS * 1_000 / SHORTNESS_PAUSE;
 
 /// Connections to any of this machine's IPv4 addresses: what is served here is meant for everyone.
-/// Where that is not wanted, a firewall or a proxy stands in front. It tells no list, and is never
+/// Where that is not wanted, a firewall or a proxy stands before it. It tells no list, and is never
 /// at its end.
 ///
-/// A connection that is lost while it is taken is passed over and is no fault; want of file
-/// handles, and a clock that can't be read, are. Each connection has the time limit of one
-/// conversation from here on, so that a peer that sends nothing, or hardly anything, is cut off.
+/// A connection that is lost while it is taken is passed over and is no fault. Where file
+/// descriptors, buffers or memory are short it waits for other connections to give them back, and
+/// counts a fault only after [`SHORTNESS_SECONDS`] of that in a row.
+///
+/// Each connection has one time limit for its request, which begins with our first read, and one
+/// for the reply, which begins with our first write, so that a peer that sends or takes nothing, or
+/// hardly anything, is cut off, and none is for what this process waits itself.
 #[derive(Drop)]
 pub struct TcpAccepter<R: Net + Clock + Copy> {
     rt: R,
     listener: Option<R::Listener>,
-    limit: Duration,
+    request_limit: Duration,
+    reply_limit: Duration,
     accepted: Count,
     faults: Count,
 }
 
 impl<R: Net + Clock + Copy> TcpAccepter<R> {
-    /// An accepter that doesn't listen yet, whose conversations have [`CONVERSATION_SECONDS`].
+    /// An accepter that doesn't listen yet, whose requests have [`REQUEST_SECONDS`] and whose
+    /// replies have [`REPLY_SECONDS`].
     pub fn new(rt: R) -> TcpAccepter<R>
         ensures accepted { accept_count result ≡ 0 }
         ensures faults { accept_faults result ≡ 0 }
-        ensures limit { as_nanos (accept_limit result) ≡ CONVERSATION_SECONDS * 1_000_000_000 }
+        ensures request { as_nanos (request_limit result) ≡ REQUEST_SECONDS * 1_000_000_000 }
+        ensures reply { as_nanos (reply_limit result) ≡ REPLY_SECONDS * 1_000_000_000 }
         ensures listening { is_listening result ≡ false }
     {
-        TcpAccepter::with_limit(rt, Duration::from_secs(CONVERSATION_SECONDS))
+        let request = Duration::from_secs(REQUEST_SECONDS);
+        let reply = Duration::from_secs(REPLY_SECONDS);
+        TcpAccepter::with_limits(rt, request, reply)
     }
 
-    /// An accepter that doesn't listen yet, whose conversations have this limit.
-    pub fn with_limit(rt: R, limit: Duration) -> TcpAccepter<R>
+    /// An accepter that doesn't listen yet, whose requests and replies have these limits.
+    pub fn with_limits(rt: R, request: Duration, reply: Duration) -> TcpAccepter<R>
         ensures accepted { accept_count result ≡ 0 }
         ensures faults { accept_faults result ≡ 0 }
-        ensures limit { accept_limit result ≡ limit }
+        ensures request { request_limit result ≡ request }
+        ensures reply { reply_limit result ≡ reply }
         ensures listening { is_listening result ≡ false }
     {
         TcpAccepter {
             rt,
             listener: None,
-            limit,
+            request_limit: request,
+            reply_limit: reply,
             accepted: Count::new(),
             faults: Count::new(),
         }
     }
 
-    /// The next connection, whose conversation begins now.
+    /// The next connection, whose limits have not begun.
     fn next(&self) -> io::Result<TcpLink<R, R::Stream>>
         ensures fresh { IfOk result (λ link. link_faults link ≡ 0) }
-        ensures limit { IfOk result (λ link. link_limit link ≡ accept_limit self.now) }
+        ensures request { IfOk result (λ link. IsUnbegun (request_limit self.now) (read_limit link)) }
+        ensures reply { IfOk result (λ link. IsUnbegun (reply_limit self.now) (write_limit link)) }
     {
         let Some(listener) = &self.listener else {
             return Err(io::Error::from(ErrorKind::NotConnected));
         };
-        let stream = next_stream(listener)?;
-        let now = Instant::now(&self.rt)?;
-        Ok(TcpLink::new(self.rt, stream, now, self.limit))
+        let stream = next_stream(&self.rt, listener)?;
+        let reads = TimeLimit::new(self.request_limit);
+        let writes = TimeLimit::new(self.reply_limit);
+        Ok(TcpLink::new(self.rt, stream, reads, writes))
     }
 }
 
 /// The next connection that isn't lost while it is taken.
-fn next_stream<L: OpenListener>(listener: &L) -> io::Result<L::Stream> {
-    for _ in 0..MAX_LOST {
-        match listener.accept() {
+fn next_stream<L: OpenListener>(clock: &impl Clock, listener: &L) -> io::Result<L::Stream> {
+    let mut pauses = 0;
+    for _ in 0..MAX_TRIES {
+        let error = match listener.accept() {
             Ok((stream, _)) => return Ok(stream),
-            Err(error) if is_of_one_connection(error.kind()) => {}
-            Err(error) => return Err(error),
+            Err(error) => error,
+        };
+        match AcceptError::of(&error) {
+            AcceptError::OfOneConnection => pauses = 0,
+            AcceptError::Short if pauses < MAX_PAUSES => {
+                pauses += 1;
+                thread::sleep(clock, Duration::from_millis(SHORTNESS_PAUSE));
+            }
+            AcceptError::Short | AcceptError::Other => return Err(error),
         }
     }
     Err(io::Error::from(ErrorKind::ConnectionAborted))
-}
-
-/// Whether an error of an accept is one of the connection that was to be taken, and not of the
-/// listener. Linux passes on the errors that already wait on the new connection, which its page
-/// accept(2) advises to take as no reason to stop, and the firewall's refusal.
-fn is_of_one_connection(kind: ErrorKind) -> bool {
-    matches!(
-        kind,
-        ErrorKind::ConnectionAborted
-            | ErrorKind::ConnectionReset
-            | ErrorKind::HostUnreachable
-            | ErrorKind::Interrupted
-            | ErrorKind::NetworkDown
-            | ErrorKind::NetworkUnreachable
-            | ErrorKind::PermissionDenied
-            | ErrorKind::TimedOut
-    )
 }
 
 impl<R: Net + Clock + Copy + Send> Accepter for TcpAccepter<R>
@@ -122,6 +140,8 @@ where
 
     fn listen(&mut self, port: u16) -> Result<(), Failed>
         ensures listening { is_listening self.new ≡ (is_ok result || is_listening self.old) }
+        ensures request_stays { request_limit self.new ≡ request_limit self.old }
+        ensures reply_stays { reply_limit self.new ≡ reply_limit self.old }
         ensures accepted { accept_count self.new ≡ accept_count self.old }
         ensures cause { HasCause (accept_faults self.old) (accept_faults self.new) result }
         ensures counted { accept_faults self.new ≡ count_after (accept_faults self.old) result }
@@ -141,7 +161,10 @@ where
     fn accept(&mut self) -> Result<Option<TcpLink<R, R::Stream>>, Failed>
         ensures some { IfOk result IsSome }
         ensures fresh { IfAccepted result (λ link. link_faults link ≡ 0) }
-        ensures limit { IfAccepted result (λ link. link_limit link ≡ accept_limit self.old) }
+        ensures request { IfAccepted result (λ link. IsUnbegun (request_limit self.old) (read_limit link)) }
+        ensures reply { IfAccepted result (λ link. IsUnbegun (reply_limit self.old) (write_limit link)) }
+        ensures request_stays { request_limit self.new ≡ request_limit self.old }
+        ensures reply_stays { reply_limit self.new ≡ reply_limit self.old }
         ensures accepted { accept_count self.new ≡ accepted_after (accept_count self.old) result }
         ensures cause { HasCause (accept_faults self.old) (accept_faults self.new) result }
         ensures counted { accept_faults self.new ≡ count_after (accept_faults self.old) result }

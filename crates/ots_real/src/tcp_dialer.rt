@@ -6,11 +6,11 @@ ghost use Rattle.ots_base.specs.Cause.{HasCause, HasCauseWhere};
 ghost use Rattle.ots_outside.specs.Dialer.{unconnected, is_connected, place_sent, reply_of, Connects};
 ghost use Rattle.ots_outside.specs.Dialer.{KeepsConversations, ReplyReads, SameButConnection, SameButSent};
 ghost use Rattle.ots_real.specs.Counting.{count_after, count_after_connect};
-ghost use Rattle.ots_real.specs.Sockets.{link_limit};
 ghost use Rattle.ots_real.specs.TcpDialer.{dialer_told, dial_faults, dial_limit, link_at, of_stream};
+ghost use Rattle.ots_real.specs.TcpDialer.{HasOneLimit};
 
-use crate::TcpLink;
 use crate::conversation::{CONNECT_SECONDS, CONVERSATION_SECONDS, time_left};
+use crate::{TcpLink, TimeLimit};
 use ots_outside::{Count, DialError, Dialer, Failed, Link, Slot};
 use std::alloc::Global;
 use std::io;
@@ -21,7 +21,7 @@ use std::time::{Clock, Duration, Instant};
 /// Connections to hosts, each a dotted IPv4 address or a name, which the system's resolver looks
 /// up. It tells nothing of replies and of what was sent, and counts each fault.
 ///
-/// Each conversation has a time limit from its connect on, and each address of a host is tried for
+/// Each conversation has one time limit for all its calls, from its connect on, and each address of a host is tried for
 /// at most [`CONNECT_SECONDS`]. A name's look-up alone has no limit here but the resolver's own;
 /// what it took counts to the conversation.
 #[derive(Drop)]
@@ -58,7 +58,7 @@ impl<R: Net + Clock + Copy> TcpDialer<R> {
 
     /// A connection to the first address of the host that answers in time.
     fn dial(&self, host: &str, port: u16) -> io::Result<TcpLink<R, R::Stream>>
-        ensures { IfOk result (λ link. link_limit link ≡ dial_limit self.now) }
+        ensures { IfOk result (HasOneLimit (dial_limit self.now)) }
     {
         let began = Instant::now(&self.rt)?;
         let mut last = io::Error::from(ErrorKind::NotFound);
@@ -69,7 +69,10 @@ impl<R: Net + Clock + Copy> TcpDialer<R> {
             };
             let most = left.min(Duration::from_secs(CONNECT_SECONDS));
             match TcpStream::connect_timeout(&self.rt, &address, most) {
-                Ok(stream) => return Ok(TcpLink::new(self.rt, stream, began, self.limit)),
+                Ok(stream) => {
+                    let limit = TimeLimit::since(began, self.limit);
+                    return Ok(TcpLink::new(self.rt, stream, limit, limit));
+                }
                 Err(error) => last = error,
             }
         }

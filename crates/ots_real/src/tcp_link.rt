@@ -1,21 +1,31 @@
-ghost use Rattle.std.specs.Prelude.{◌≡◌, ◌<◌, length, IfOk};
+ghost use Rattle.std.specs.Prelude.{◌≡◌, ◌<◌, length, IfOk, None, Some};
 ghost use Rattle.std.specs.Io.{ReadsAtMost, WritesAtMost};
 ghost use Rattle.std.specs.Io.KnownBytes.{ReadConsumes, WriteAppends};
 ghost use Rattle.ots_base.specs.Cause.{HasCause};
 ghost use Rattle.ots_real.specs.Counting.{count_after};
-ghost use Rattle.ots_real.specs.Sockets.{link_stream, link_faults, link_limit};
+ghost use Rattle.ots_real.specs.Sockets.{link_faults, link_stream, open_bytes, read_limit, write_limit, KeepsTime};
 
-use crate::counted::{read_counted, write_counted};
+use crate::TimeLimit;
 use crate::timed_stream::TimedStream;
 use ots_outside::{Count, Failed, Link};
-use std::io::{Read, Write};
+use std::io::{ErrorKind, Read, Write};
 use std::net::OpenStream;
-use std::time::{Clock, Duration, Instant};
+use std::time::Clock;
 
 /// One connection. It tells nothing of its bytes, and counts each fault: an error of the system, a
-/// write that takes nothing of a piece that isn't empty, and each call after the time limit of the
-/// whole conversation. A fault, as a reset by the peer, is one of this link alone. The connection
-/// is closed where the link is let go.
+/// write that takes nothing of a piece that isn't empty, each call after the time limit of its way,
+/// and each call once the link is finished. A fault, as a reset by the peer, is one of this link
+/// alone.
+///
+/// Its reads have a time limit, and its writes one: the first read begins the one and the first
+/// write the other, where they had not begun before. What happens between these calls, as a wait
+/// for other work of this process, counts to a limit only once that has begun. A peer that sends or
+/// takes nothing is cut off at most a tenth of the limit, and at most a second, after its end.
+///
+/// `finish` closes the connection. So that no reset takes a reply that the peer hasn't read yet, it
+/// first says that nothing more is written, and reads and drops what the peer still sends, up to its
+/// end, [`DRAIN_BYTES`](crate::DRAIN_BYTES) or [`DRAIN_SECONDS`](crate::DRAIN_SECONDS). A link that
+/// counts a fault is closed at once.
 ///
 /// What a stream that knows its bytes has left and holds is `S.remaining` and `S.contents` of the
 /// stream: clauses of `read` and `write` here say what became of them.
@@ -25,22 +35,22 @@ pub struct TcpLink<C: Clock, S: Read + Write + OpenStream> {
     faults: Count,
 }
 
-impl<C: Clock, S: Read + Write + OpenStream> TcpLink<C, S> {
-    /// A link over this stream. The conversation began at `began` by this clock, and lasts at most
-    /// as long as `limit`.
-    pub fn new(clock: C, stream: S, began: Instant, limit: Duration) -> TcpLink<C, S>
-        ensures stream { link_stream result ≡ stream }
+impl<C: Clock, S: Read + Write + OpenStream + Drop> TcpLink<C, S> {
+    /// A link over this stream, whose reads and writes have these limits by this clock.
+    pub fn new(clock: C, stream: S, reads: TimeLimit, writes: TimeLimit) -> TcpLink<C, S>
+        ensures stream { link_stream result ≡ Some stream }
         ensures faults { link_faults result ≡ 0 }
-        ensures limit { link_limit result ≡ limit }
+        ensures reads { read_limit result ≡ reads }
+        ensures writes { write_limit result ≡ writes }
     {
         TcpLink {
-            stream: TimedStream::new(clock, stream, began, limit),
+            stream: TimedStream::new(clock, stream, reads, writes),
             faults: Count::new(),
         }
     }
 }
 
-impl<C: Clock, S: Read + Write + OpenStream> Link for TcpLink<C, S> {
+impl<C: Clock, S: Read + Write + OpenStream + Drop> Link for TcpLink<C, S> {
     ghost use Rattle.std.specs.Prelude.{None};
     ghost use Rattle.ots_real.specs.Sockets.{link_faults};
 
@@ -54,28 +64,60 @@ impl<C: Clock, S: Read + Write + OpenStream> Link for TcpLink<C, S> {
 
     ghost same_trans = { λ s t u first second. tt };
 
+    #[tactic(auto, using(crate::proofs::Time::times))]
     fn read(&mut self, buf: &mut [u8]) -> Result<usize, Failed>
         ensures bound { ReadsAtMost result buf.new }
-        ensures stream { ReadConsumes (S.remaining (link_stream self.old)) (S.remaining (link_stream self.new)) result
-            buf.new }
+        ensures stream { ReadConsumes (open_bytes S.remaining (link_stream self.old))
+            (open_bytes S.remaining (link_stream self.new)) result buf.new }
+        ensures time { KeepsTime (link_stream self.old) (link_stream self.new) (read_limit self.old)
+            (read_limit self.new) (write_limit self.old) (write_limit self.new) result }
         ensures cause { HasCause (link_faults self.old) (link_faults self.new) result }
         ensures counted { link_faults self.new ≡ count_after (link_faults self.old) result }
     {
-        read_counted(&mut self.stream, &mut self.faults, buf)
+        // A call that a signal cut short is made again, with what is left of its limit.
+        for _ in 0..u64::MAX {
+            match self.stream.read(buf) {
+                Ok(count) => return Ok(count),
+                Err(error) if error.kind() == ErrorKind::Interrupted => {}
+                Err(_) => break,
+            }
+        }
+        self.faults.rise();
+        Err(Failed)
     }
 
+    #[tactic(auto, using(crate::proofs::Time::times))]
     fn write(&mut self, piece: &[u8]) -> Result<usize, Failed>
         ensures bound { WritesAtMost result piece.now }
         ensures some { 0 < length piece.now → IfOk result (λ count. 0 < count) }
-        ensures stream { WriteAppends (S.contents (link_stream self.old)) (S.contents (link_stream self.new)) result
-            piece.now }
+        ensures stream { WriteAppends (open_bytes S.contents (link_stream self.old))
+            (open_bytes S.contents (link_stream self.new)) result piece.now }
+        ensures time { KeepsTime (link_stream self.old) (link_stream self.new) (write_limit self.old)
+            (write_limit self.new) (read_limit self.old) (read_limit self.new) result }
         ensures cause { HasCause (link_faults self.old) (link_faults self.new) result }
         ensures counted { link_faults self.new ≡ count_after (link_faults self.old) result }
     {
-        write_counted(&mut self.stream, &mut self.faults, piece)
+        for _ in 0..u64::MAX {
+            match self.stream.write(piece) {
+                Ok(count) if count > 0 || piece.is_empty() => return Ok(count),
+                Err(error) if error.kind() == ErrorKind::Interrupted => {}
+                _ => break,
+            }
+        }
+        self.faults.rise();
+        Err(Failed)
     }
 
-    fn finish(&mut self) {
-        self.stream.finish();
+    fn finish(&mut self)
+        ensures closed { link_stream self.new ≡ None }
+        ensures faults { link_faults self.new ≡ link_faults self.old }
+        ensures reads { read_limit self.new ≡ read_limit self.old }
+        ensures writes { write_limit self.new ≡ write_limit self.old }
+    {
+        if self.faults.value() == 0 {
+            self.stream.finish();
+        } else {
+            self.stream.close();
+        }
     }
 }

@@ -1,75 +1,133 @@
-ghost use Rattle.std.specs.Prelude.{◌≡◌};
-ghost use Rattle.ots_real.specs.Sockets.{inner_limit, inner_stream};
+ghost use Rattle.std.specs.Prelude.{◌≡◌, None, Some};
+ghost use Rattle.std.specs.Io.{ReadsAtMost, WritesAtMost};
+ghost use Rattle.std.specs.Io.KnownBytes.{ReadConsumes, WriteAppends};
+ghost use Rattle.ots_real.specs.Sockets.{inner_reads, inner_stream, inner_writes, open_bytes, KeepsTime};
 
-use crate::conversation::time_left;
+use crate::conversation::{DRAIN_BYTES, DRAIN_SECONDS};
+use crate::time_limit::TimeLimit;
 use std::io;
 use std::io::{ErrorKind, Read, Write};
 use std::net::{OpenStream, Shutdown};
-use std::time::{Clock, Duration, Instant};
+use std::time::{Clock, Duration};
 
-/// A stream of a conversation that is to end in time. A call waits for its peer no longer than
-/// what is left of the whole conversation, and where nothing is left it is `TimedOut` at once, and
-/// the system isn't asked.
+/// A stream of a conversation each way of which is to end in time. A call waits for its peer no
+/// longer than what is left of its way's limit, or a tenth of that limit and at most a second more,
+/// which saves calls of the system. Where nothing is left it is `TimedOut` at once, and the system
+/// isn't asked.
+///
+/// Once it is closed each call is `NotConnected`.
 #[derive(Drop)]
 pub struct TimedStream<C: Clock, S: Read + Write + OpenStream> {
     clock: C,
-    stream: S,
-    began: Instant,
-    limit: Duration,
+    stream: Option<S>,
+    reads: TimeLimit,
+    writes: TimeLimit,
 }
 
-impl<C: Clock, S: Read + Write + OpenStream> TimedStream<C, S> {
-    /// A stream whose conversation began at this time, and has this limit.
-    pub fn new(clock: C, stream: S, began: Instant, limit: Duration) -> TimedStream<C, S>
-        ensures stream { inner_stream result ≡ stream }
-        ensures limit { inner_limit result ≡ limit }
+impl<C: Clock, S: Read + Write + OpenStream + Drop> TimedStream<C, S> {
+    /// A stream whose reads and writes have these limits.
+    pub fn new(clock: C, stream: S, reads: TimeLimit, writes: TimeLimit) -> TimedStream<C, S>
+        ensures stream { inner_stream result ≡ Some stream }
+        ensures reads { inner_reads result ≡ reads }
+        ensures writes { inner_writes result ≡ writes }
     {
         TimedStream {
             clock,
-            stream,
-            began,
-            limit,
+            stream: Some(stream),
+            reads,
+            writes,
         }
     }
 
-    /// What is left of the conversation.
-    fn left(&self) -> io::Result<Duration> {
-        let passed = self.began.elapsed(&self.clock)?;
-        match time_left(self.limit, passed) {
-            Some(left) => Ok(left),
-            None => Err(io::Error::from(ErrorKind::TimedOut)),
-        }
+    /// Closes the stream.
+    pub fn close(&mut self)
+        ensures closed { inner_stream self.new ≡ None }
+        ensures reads { inner_reads self.new ≡ inner_reads self.old }
+        ensures writes { inner_writes self.new ≡ inner_writes self.old }
+    {
+        self.stream = None;
     }
 
-    /// Says that nothing more is written. An error is dropped, since the peer that it comes of is
-    /// gone or meets the end when the stream is closed.
-    pub fn finish(&self) {
-        let _ = self.stream.shutdown(Shutdown::Write);
+    /// Says that nothing more is written, reads and drops what the peer still sends, and closes the
+    /// stream. An error is dropped, since the peer that it comes of is gone.
+    pub fn finish(&mut self)
+        ensures closed { inner_stream self.new ≡ None }
+        ensures reads { inner_reads self.new ≡ inner_reads self.old }
+        ensures writes { inner_writes self.new ≡ inner_writes self.old }
+    {
+        let Some(stream) = self.stream.take() else {
+            return;
+        };
+        if stream.shutdown(Shutdown::Write).is_ok() {
+            let limit = TimeLimit::new(Duration::from_secs(DRAIN_SECONDS));
+            drain(&mut TimedStream::new(&self.clock, stream, limit, limit));
+        }
+    }
+}
+
+/// Reads and drops what a reader still gives, at most [`DRAIN_BYTES`]. A socket that is closed with
+/// bytes unread sends its peer a reset, at which the peer may lose a reply that it has not read yet
+/// (RFC 9112 section 9.6).
+fn drain<R: Read>(reader: &mut R) {
+    let mut dropped = [0; DRAIN_BYTES];
+    let mut count = 0;
+    for _ in 0..DRAIN_BYTES {
+        match reader.read(&mut dropped[count..]) {
+            Ok(more) if more > 0 => count += more,
+            _ => return,
+        }
     }
 }
 
 impl<C: Clock, S: Read + Write + OpenStream> Read for TimedStream<C, S> {
-    ghost use Rattle.ots_real.specs.Sockets.{inner_stream};
+    ghost use Rattle.ots_real.specs.Sockets.{inner_stream, open_bytes};
 
-    ghost remaining = { λ s. S.remaining (inner_stream s) };
+    ghost remaining = { λ s. open_bytes S.remaining (inner_stream s) };
 
-    fn read(&mut self, buf: &mut [u8]) -> io::Result<usize> {
-        self.stream.set_read_timeout(Some(self.left()?))?;
-        self.stream.read(buf)
+    fn read(&mut self, buf: &mut [u8]) -> io::Result<usize>
+        ensures bound { ReadsAtMost result buf.new }
+        ensures bytes { ReadConsumes (open_bytes S.remaining (inner_stream self.old))
+            (open_bytes S.remaining (inner_stream self.new)) result buf.new }
+        ensures time { KeepsTime (inner_stream self.old) (inner_stream self.new) (inner_reads self.old)
+            (inner_reads self.new) (inner_writes self.old) (inner_writes self.new) result }
+    {
+        let Some(stream) = &mut self.stream else {
+            return Err(io::Error::from(ErrorKind::NotConnected));
+        };
+        if let Some(timeout) = self.reads.new_timeout(&self.clock)? {
+            stream.set_read_timeout(Some(timeout))?;
+            self.reads.set_timeout(timeout);
+        }
+        stream.read(buf)
     }
 }
 
 impl<C: Clock, S: Read + Write + OpenStream> Write for TimedStream<C, S> {
-    ghost use Rattle.ots_real.specs.Sockets.{inner_stream};
+    ghost use Rattle.ots_real.specs.Sockets.{inner_stream, open_bytes};
 
-    ghost contents = { λ s. S.contents (inner_stream s) };
+    ghost contents = { λ s. open_bytes S.contents (inner_stream s) };
 
-    fn write(&mut self, piece: &[u8]) -> io::Result<usize> {
-        self.stream.set_write_timeout(Some(self.left()?))?;
-        self.stream.write(piece)
+    fn write(&mut self, piece: &[u8]) -> io::Result<usize>
+        ensures bound { WritesAtMost result piece.now }
+        ensures bytes { WriteAppends (open_bytes S.contents (inner_stream self.old))
+            (open_bytes S.contents (inner_stream self.new)) result piece.now }
+        ensures time { KeepsTime (inner_stream self.old) (inner_stream self.new) (inner_writes self.old)
+            (inner_writes self.new) (inner_reads self.old) (inner_reads self.new) result }
+    {
+        let Some(stream) = &mut self.stream else {
+            return Err(io::Error::from(ErrorKind::NotConnected));
+        };
+        if let Some(timeout) = self.writes.new_timeout(&self.clock)? {
+            stream.set_write_timeout(Some(timeout))?;
+            self.writes.set_timeout(timeout);
+        }
+        stream.write(piece)
     }
 
     fn flush(&mut self) -> io::Result<()> {
-        self.stream.flush()
+        match &mut self.stream {
+            Some(stream) => stream.flush(),
+            None => Err(io::Error::from(ErrorKind::NotConnected)),
+        }
     }
 }

@@ -7,7 +7,13 @@ mod cut_short;
 #[cfg(test)]
 mod failures;
 #[cfg(test)]
+mod fake_net;
+#[cfg(test)]
 mod files;
+#[cfg(test)]
+mod finishing;
+#[cfg(test)]
+mod limits;
 #[cfg(test)]
 mod lost;
 #[cfg(test)]

@@ -1,115 +1,63 @@
-// Connections that are lost while they are taken, by a network that answers by a list.
-use super::sockets::{is_cut_off, next_link};
+// Accepts that fail, by a network in memory.
+use super::fake_net::{FakeNet, Outside};
 use ots_io::{Accepter, Failed, TcpAccepter};
-use std::cell::Cell;
-use std::io;
-use std::io::{ErrorKind, Read, Write};
-use std::net::{Ipv4Addr, Net, OpenListener, OpenStream, SocketAddr};
-use std::os::fd::{AsRawFd, RawFd};
 use std::test::Fail;
-use std::time::{Clock, Duration};
 
-/// What the accepts answer in turn: `None` is a connection. Past the last one each fails as one
-/// does for which the process has no file handle left.
-const ANSWERS: [Option<ErrorKind>; 4] = [
-    Some(ErrorKind::ConnectionAborted),
-    Some(ErrorKind::PermissionDenied),
-    None,
-    Some(ErrorKind::NetworkDown),
-];
+/// Errors of one connection, by their numbers on Linux: EPERM, EINTR, EAGAIN, ENONET, EPROTO,
+/// ENOPROTOOPT, EOPNOTSUPP, ENETDOWN, ENETUNREACH, ECONNABORTED, ECONNRESET, ETIMEDOUT, EHOSTDOWN
+/// and EHOSTUNREACH.
+const PASSING: [i32; 14] = [1, 4, 11, 64, 71, 92, 95, 100, 101, 103, 104, 110, 112, 113];
 
-#[derive(Clone, Copy)]
-struct ListedNet;
+/// ENOMEM, ENFILE, EMFILE and ENOBUFS.
+const SHORT: [i32; 4] = [12, 23, 24, 105];
 
-#[derive(Drop)]
-struct ListedListener {
-    made: Cell<usize>,
+/// EBADF, EACCES, EFAULT, EINVAL, ENOSYS, ENOTSOCK, and an error that Linux doesn't have.
+const LASTING: [i32; 7] = [9, 13, 14, 22, 38, 88, 9_999];
+
+/// Whether a connection is accepted where this many accepts of the system fail first, with the error
+/// of this number, and the time that it takes, in milliseconds.
+fn accept_after(number: i32, failures: u64) -> (bool, u64) {
+    let outside = Outside::failing(number, failures);
+    let mut accepter = TcpAccepter::new(FakeNet { outside: &outside });
+    if accepter.listen(1) != Ok(()) {
+        return (false, 0);
+    }
+    let is_accepted = matches!(accepter.accept(), Ok(Some(_))) && accepter.accepted() == 1;
+    (is_accepted, outside.now())
 }
 
-/// A stream that takes no time limit.
-#[derive(Drop)]
-struct EmptyStream;
-
-impl Clock for ListedNet {
-    fn monotonic(&self) -> io::Result<Duration> {
-        Ok(Duration::ZERO)
-    }
-
-    fn since_1970(&self) -> io::Result<Duration> {
-        Ok(Duration::ZERO)
-    }
-}
-
-impl Net for ListedNet {
-    type Stream = EmptyStream;
-
-    type Listener = ListedListener;
-
-    fn bind(&self, _addr: SocketAddr) -> io::Result<ListedListener> {
-        Ok(ListedListener { made: Cell::new(0) })
-    }
-
-    fn connect(&self, _addr: SocketAddr) -> io::Result<EmptyStream> {
-        Ok(EmptyStream)
-    }
-}
-
-impl OpenListener for ListedListener {
-    type Stream = EmptyStream;
-
-    fn accept(&self) -> io::Result<(EmptyStream, SocketAddr)> {
-        let made = self.made.get();
-        self.made.set(made.saturating_add(1));
-        match ANSWERS.get(made) {
-            Some(None) => Ok((EmptyStream, SocketAddr::from((Ipv4Addr::LOCALHOST, 1)))),
-            Some(Some(kind)) => Err(io::Error::from(*kind)),
-            None => Err(io::Error::from(ErrorKind::Uncategorized)),
-        }
-    }
-}
-
-impl AsRawFd for ListedListener {
-    fn as_raw_fd(&self) -> RawFd {
-        -1
-    }
-}
-
-impl OpenStream for EmptyStream {}
-
-impl AsRawFd for EmptyStream {
-    fn as_raw_fd(&self) -> RawFd {
-        -1
-    }
-}
-
-impl Read for EmptyStream {
-    fn read(&mut self, _buf: &mut [u8]) -> io::Result<usize> {
-        Ok(0)
-    }
-}
-
-impl Write for EmptyStream {
-    fn write(&mut self, buf: &[u8]) -> io::Result<usize> {
-        Ok(buf.len())
-    }
-
-    fn flush(&mut self) -> io::Result<()> {
-        Ok(())
-    }
+#[test]
+fn an_accepter_that_does_not_listen_fails(rt: HostRuntime) -> Result<(), Fail> {
+    let outside = Outside::failing(0, 0);
+    let mut accepter = TcpAccepter::new(FakeNet { outside: &outside });
+    assert!(rt; matches!(accepter.accept(), Err(Failed)));
+    Ok(())
 }
 
 #[test]
 fn a_lost_connection_is_passed_over(rt: HostRuntime) -> Result<(), Fail> {
-    let mut accepter = TcpAccepter::new(ListedNet);
-    // It doesn't listen yet.
-    assert!(rt; matches!(accepter.accept(), Err(Failed)));
-    assert_eq!(rt; accepter.listen(1), Ok(()));
-    let mut link = next_link(&mut accepter)?;
-    // A call that can't be limited in time isn't made.
-    assert!(rt; is_cut_off(&mut link));
-    accepter.give_back(link);
-    // The next one is lost, and then no file handle is left.
-    assert!(rt; matches!(accepter.accept(), Err(Failed)));
-    assert_eq!(rt; accepter.accepted(), 1);
+    for number in PASSING {
+        assert_eq!(rt; accept_after(number, 3), (true, 0));
+    }
+    // There is an end to it.
+    assert_eq!(rt; accept_after(103, u64::MAX), (false, 0));
+    Ok(())
+}
+
+#[test]
+fn a_shortness_is_waited_for(rt: HostRuntime) -> Result<(), Fail> {
+    for number in SHORT {
+        assert_eq!(rt; accept_after(number, 3), (true, 30));
+        assert_eq!(rt; accept_after(number, 3_000), (true, 30_000));
+        assert_eq!(rt; accept_after(number, 3_001), (false, 30_000));
+    }
+    Ok(())
+}
+
+#[test]
+fn any_other_error_is_a_fault(rt: HostRuntime) -> Result<(), Fail> {
+    for number in LASTING {
+        assert_eq!(rt; accept_after(number, 1), (false, 0));
+    }
     Ok(())
 }

@@ -10,7 +10,7 @@ use std::time::{Duration, Instant};
 fn is_sent<T: Send>(_value: &T) {}
 
 /// Listens on the first free port of a range.
-fn listen_from<A: Accepter>(accepter: &mut A, base: u16) -> Result<u16, Fail> {
+pub fn listen_from<A: Accepter>(accepter: &mut A, base: u16) -> Result<u16, Fail> {
     for more in 0..200 {
         let port = base.saturating_add(more);
         if accepter.listen(port).is_ok() {
@@ -45,7 +45,7 @@ fn gives<L: Link>(link: &mut L, bytes: &[u8]) -> bool {
 }
 
 /// Whether a link takes all of these bytes.
-fn takes<L: Link>(link: &mut L, bytes: &[u8]) -> bool {
+pub fn takes<L: Link>(link: &mut L, bytes: &[u8]) -> bool {
     write_all(&mut LinkSink::new(link), bytes).is_ok()
 }
 
@@ -61,15 +61,15 @@ pub fn is_cut_off<L: Link>(link: &mut L) -> bool {
     link.read(&mut [0; 4]) == Err(Failed) && link.write(b"a") == Err(Failed)
 }
 
-/// Whether a read of a link fails before some time has passed.
-fn fails_in_time<L: Link>(rt: &HostRuntime, link: &mut L) -> Result<bool, Fail> {
+/// How long a read of a link takes that fails; `None` where it doesn't.
+fn time_to_fault<L: Link>(rt: &HostRuntime, link: &mut L) -> Result<Option<Duration>, Fail> {
     let began = Instant::now(rt)?;
     let failed = link.read(&mut [0; 4]) == Err(Failed);
     let passed = began.elapsed(rt)?;
-    Ok(failed && passed < Duration::from_secs(20))
+    Ok(if failed { Some(passed) } else { None })
 }
 
-/// How many bytes a link gives before it fails, at most so many.
+/// How many bytes a link gives before it fails; `None` where it gives as many as `most`.
 fn given_before_fault<L: Link>(link: &mut L, most: u64) -> Option<u64> {
     for given in 0..most {
         if link.read(&mut [0]) == Err(Failed) {
@@ -80,7 +80,7 @@ fn given_before_fault<L: Link>(link: &mut L, most: u64) -> Option<u64> {
 }
 
 /// A caller's dialer. Its time limit is longer than any test, and ends one that would hang.
-fn make_dialer(rt: &HostRuntime) -> TcpDialer<&HostRuntime> {
+pub fn make_dialer(rt: &HostRuntime) -> TcpDialer<&HostRuntime> {
     TcpDialer::with_limit(rt, rt.alloc(), Duration::from_secs(10))
 }
 
@@ -108,7 +108,7 @@ fn drips_along<L: Link>(rt: &HostRuntime, link: &mut L, most: u64) -> bool {
 }
 
 /// A caller that sends a byte now and then, until it is cut off.
-fn drips(rt: &HostRuntime, port: u16, most: u64) -> bool {
+pub fn drips(rt: &HostRuntime, port: u16, most: u64) -> bool {
     let mut dialer = make_dialer(rt);
     let Ok(slot) = dialer.connect("127.0.0.1", port) else {
         return false;
@@ -127,9 +127,9 @@ fn bytes_go_both_ways(rt: HostRuntime) -> Result<(), Fail> {
     is_sent(&accepter);
     is_sent(&link);
     assert!(rt; replies(&mut link));
-    // The caller meets the end while the link is still held.
+    // The caller met the end, and the link is closed while it is still held.
     assert!(rt; caller.join(&rt));
-    assert!(rt; link.read(&mut [0; 3]) == Ok(0));
+    assert!(rt; is_cut_off(&mut link));
     accepter.give_back(link);
     assert_eq!(rt; accepter.accepted(), 1);
     Ok(())
@@ -137,13 +137,19 @@ fn bytes_go_both_ways(rt: HostRuntime) -> Result<(), Fail> {
 
 #[test]
 fn a_silent_peer_is_cut_off(rt: HostRuntime) -> Result<(), Fail> {
-    let mut accepter = TcpAccepter::with_limit(&rt, Duration::from_millis(300));
+    let limit = Duration::from_millis(300);
+    let mut accepter = TcpAccepter::with_limits(&rt, limit, limit);
     let port = listen_from(&mut accepter, 47_400)?;
     let caller = thread::spawn(&rt, move || asks(&rt, port, b"", b""))?;
     let mut link = next_link(&mut accepter)?;
-    assert!(rt; fails_in_time(&rt, &mut link)?);
-    // Nothing is left of the conversation: the next calls fail at once.
-    assert!(rt; is_cut_off(&mut link));
+    // What passes before the first read is no part of the request's time.
+    thread::sleep(&rt, Duration::from_millis(400));
+    let Some(passed) = time_to_fault(&rt, &mut link)? else {
+        return Err(Fail::new("the peer was not cut off"));
+    };
+    assert!(rt; passed > Duration::from_millis(250) && passed < Duration::from_secs(20));
+    // Nothing is left of it: the next read fails at once.
+    assert_eq!(rt; link.read(&mut [0; 4]), Err(Failed));
     accepter.give_back(link);
     assert!(rt; caller.join(&rt));
     Ok(())
@@ -151,12 +157,32 @@ fn a_silent_peer_is_cut_off(rt: HostRuntime) -> Result<(), Fail> {
 
 #[test]
 fn a_slow_peer_is_cut_off(rt: HostRuntime) -> Result<(), Fail> {
-    let mut accepter = TcpAccepter::with_limit(&rt, Duration::from_millis(300));
+    let limit = Duration::from_millis(300);
+    let mut accepter = TcpAccepter::with_limits(&rt, limit, limit);
     let port = listen_from(&mut accepter, 47_600)?;
     let caller = thread::spawn(&rt, move || drips(&rt, port, 100))?;
     let mut link = next_link(&mut accepter)?;
     assert!(rt; given_before_fault(&mut link, 100).is_some());
-    accepter.give_back(link);
+    // It failed, so that it is closed at once.
+    link.finish();
     assert!(rt; caller.join(&rt));
+    accepter.give_back(link);
+    Ok(())
+}
+
+#[test]
+fn the_time_of_a_reply_begins_with_its_first_write(rt: HostRuntime) -> Result<(), Fail> {
+    let limit = Duration::from_millis(300);
+    let mut accepter = TcpAccepter::with_limits(&rt, Duration::from_secs(10), limit);
+    let port = listen_from(&mut accepter, 47_800)?;
+    let caller = thread::spawn(&rt, move || asks(&rt, port, b"abc", b"defgh"))?;
+    let mut link = next_link(&mut accepter)?;
+    thread::sleep(&rt, Duration::from_millis(400));
+    assert!(rt; gives_next(&mut link, b"abc") && takes(&mut link, b"defgh"));
+    thread::sleep(&rt, Duration::from_millis(400));
+    assert_eq!(rt; link.write(b"i"), Err(Failed));
+    link.finish();
+    assert!(rt; caller.join(&rt));
+    accepter.give_back(link);
     Ok(())
 }

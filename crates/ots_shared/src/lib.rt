@@ -14,6 +14,7 @@
 //! may wait. Nothing is said of when a caller that waits is served.
 #![tactic(auto)]
 
+mod bells;
 mod held;
 mod known;
 mod laws;

@@ -5,6 +5,7 @@ ghost use Rattle.ots_shared.specs.Rows.{latest, row};
 ghost use Rattle.ots_shared.specs.Told.{IsPassOf, IsHeldOf, IsTakenWith};
 ghost use Rattle.ots_shared.specs.declared.limits.TheConstants.{MAX_CALLERS};
 
+use crate::bells::Bells;
 use crate::held::Held;
 use crate::pass::Pass;
 use crate::plays::Cut;
@@ -24,6 +25,7 @@ use std::sync::Wait;
 /// Contracts see how many callers it is for, and the limit of the book's journal.
 pub struct Shared<D: Disk> {
     table: Board<D>,
+    bells: Bells,
 }
 
 impl<D: Disk> Model for Shared<D> {
@@ -77,7 +79,10 @@ impl<D: Disk> Shared<D> {
         }
         slots.push_reserved(Some(book));
         match Table::new(alloc, &[0, 0, records], slots, &terms) {
-            Ok((table, place)) => Ok((Shared { table }, Pass::of(place, Rows::none(), 0))),
+            Ok((table, place)) => {
+                let bells = Bells::new();
+                Ok((Shared { table, bells }, Pass::of(place, Rows::none(), 0)))
+            }
             Err(Refused { mut slots }) => {
                 let Some(Some(book)) = slots.pop() else {
                     unreachable!()
@@ -144,7 +149,7 @@ impl<D: Disk> Shared<D> {
         ensures found { result.found ≡ result.book }
     {
         let mut place = pass.rise();
-        let (book, number) = hold_place(rt, &self.table.shared, &mut place);
+        let (book, number) = hold_place(rt, &self.table.shared, &self.bells, &mut place);
         pass.number = number;
         let numbers = Numbers::of(&book);
         let found = Snapshot::of(&book);
@@ -178,7 +183,7 @@ impl<D: Disk> Shared<D> {
             found: _,
         } = held;
         let left = Numbers::of(&book);
-        give(&self.table.shared, &mut place, book);
+        give(&self.table.shared, &self.bells, &mut place, book);
         pass.sit(place);
         pass.rows.add(Row::of(numbers, left));
         pass.made = pass.made.saturating_add(1);
@@ -210,7 +215,7 @@ impl<D: Disk> Shared<D> {
         ensures told { pass.told ≤ length result.store.records }
         ensures limit { result.store.journal.limit ≡ self.limit }
     {
-        let Shared { table } = self;
+        let Shared { table, bells: _ } = self;
         let mut pass = pass;
         take_back(table, pass.rise())
     }

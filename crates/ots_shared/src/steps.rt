@@ -1,11 +1,12 @@
 //! The atomic steps of a caller, each on its own seat.
-ghost use Rattle.std.specs.Prelude.{◌≡◌, ℕ, ◌%◌, ◌^◌, ◌<◌, ◌≤◌, List, [], length, ◌⊎◌, MatchResult};
+ghost use Rattle.std.specs.Prelude.{◌≡◌, ℕ, ◌%◌, ◌^◌, ◌<◌, ◌≤◌, List, [], length, ◌⊎◌, MatchOption};
 ghost use Rattle.ots_store.specs.Records.{Record};
 ghost use Rattle.ots_shared.specs.Records.{StartsWith};
 ghost use Rattle.ots_shared.specs.Steps.{at_stage, released, informed, settled, both, Fits, Holding, IsSameSeat};
 ghost use Rattle.ots_shared.specs.Steps.{IsSeatOf, Takes};
 ghost use Rattle.ots_shared.specs.declared.view.Stage.TheVariants.{Idle, Waits};
 
+use crate::bells::Bells;
 use crate::plays::{Count, Draw, Glue, Look, Publish, Serve, Settle};
 use crate::row::count_records;
 use crate::rule::{Board, Place, Top};
@@ -16,7 +17,7 @@ use std::sync::Wait;
 /// The word with the next number to draw.
 pub(crate) const DRAWN: usize = 0;
 
-/// The word with the number served, on which those that wait rest.
+/// The word with the number served.
 pub(crate) const SERVED: usize = 1;
 
 /// The word with the count of records.
@@ -34,28 +35,29 @@ pub(crate) fn draw<D: Disk>(top: &Top<D>, place: &mut Place<D>) -> u64
     top.fetch_add::<Draw>(place, DRAWN, 1)
 }
 
-/// Takes the book where the caller's number is served, and answers the number served where it is not.
-pub(crate) fn take<D: Disk>(top: &Top<D>, place: &mut Place<D>, number: u64) -> Result<Book<D>, u64>
+/// Takes the book where the caller's number is served.
+pub(crate) fn take<D: Disk>(top: &Top<D>, place: &mut Place<D>, number: u64) -> Option<Book<D>>
     requires own { IsSeatOf top.now.table_id place.old }
     requires drawn { (n : ℕ) × (place.old.me.0.stage ≡ Waits n) × (number ≡ n % 2 ^ 64) }
     requires none { place.old.me.1 ≡ [] }
     ensures same { IsSameSeat place.old place.new }
-    ensures taken { MatchResult result (Takes place.old.me place.new.me) (λ _. place.new.me ≡ place.old.me) }
+    ensures taken { MatchOption result (place.new.me ≡ place.old.me) (Takes place.old.me place.new.me) }
 {
     let served = top.load::<Look>(place, SERVED);
     if served != number {
-        return Err(served);
+        return None;
     }
     match top.exchange(place, 0, None) {
-        Some(book) => Ok(book),
+        Some(book) => Some(book),
         None => unreachable!(),
     }
 }
 
-/// Draws a number, and rests until it is served.
+/// Draws a number, and sleeps at its bell until it is served.
 pub(crate) fn hold_place<D: Disk, R: Wait>(
     rt: &R,
     top: &Top<D>,
+    bells: &Bells,
     place: &mut Place<D>,
 ) -> (Book<D>, u64)
     requires own { IsSeatOf top.now.table_id place.old }
@@ -68,16 +70,19 @@ pub(crate) fn hold_place<D: Disk, R: Wait>(
     let number = draw(top, place);
     for _ in rt.forever() {
         match take(top, place, number) {
-            Ok(book) => return (book, number),
-            Err(served) => top.park(rt, SERVED, (served % (1 << 32)) as u32),
+            Some(book) => {
+                bells.leave(number);
+                return (book, number);
+            }
+            None => bells.wait(rt, number),
         }
     }
     unreachable!()
 }
 
 /// Gives the book back: it is in its slot before the others are told of its records, and they are
-/// told before the next number is served.
-pub(crate) fn give<D: Disk>(top: &Top<D>, place: &mut Place<D>, book: Book<D>)
+/// told before the next number is served, whose bell is rung then.
+pub(crate) fn give<D: Disk>(top: &Top<D>, bells: &Bells, place: &mut Place<D>, book: Book<D>)
     requires own { IsSeatOf top.now.table_id place.old }
     requires held { (l : List Record) × Holding place.old.me l × StartsWith book.store.records l }
     requires limit { book.store.journal.limit ≡ place.old.me.0.limit }
@@ -90,8 +95,8 @@ pub(crate) fn give<D: Disk>(top: &Top<D>, place: &mut Place<D>, book: Book<D>)
         Some(_) => unreachable!(),
     }
     top.store::<Publish>(place, COUNT, count);
-    top.fetch_add::<Serve>(place, SERVED, 1);
-    top.wake_all(SERVED);
+    let served = top.fetch_add::<Serve>(place, SERVED, 1);
+    bells.ring(served.wrapping_add(1));
 }
 
 /// How many records there are, at least.

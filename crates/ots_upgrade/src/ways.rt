@@ -1,5 +1,6 @@
 //! Leaves under one root, and the ways to it.
-ghost use Rattle.std.specs.Prelude.{◌≡◌, ◌≤◌, ◌<◌, ◌+◌, ◌⊎◌, ◌∷◌, ◌++◌, ℕ, length, map, slice_index_or, [], IfOk, OnErr};
+ghost use Rattle.std.specs.Prelude.{◌≡◌, ◌≤◌, ◌<◌, ◌+◌, ◌⊎◌, ◌∷◌, ◌++◌, ℕ, length, map, slice_index_or, [], IfOk};
+ghost use Rattle.std.specs.Prelude.{OnErr};
 ghost use Rattle.sha2.specs.Sha256.{sha256};
 ghost use Rattle.ots_merkle.specs.CalendarTree.{path, root};
 ghost use Rattle.ots_upgrade.specs.Conversation.{Converse, ConverseUpTo};

@@ -14,7 +14,7 @@ use std::alloc::{AllocError, Global};
 use std::sync::Wait;
 
 /// The request.
-const REQUEST: &[u8] = b"POST /digest HTTP/1.1\r\nContent-Length: 32\r\n\r\n\
+pub const REQUEST: &[u8] = b"POST /digest HTTP/1.1\r\nContent-Length: 32\r\n\r\n\
     \x01\x01\x01\x01\x01\x01\x01\x01\x01\x01\x01\x01\x01\x01\x01\x01\x01\x01\x01\x01\x01\x01\x01\x01\
     \x01\x01\x01\x01\x01\x01\x01\x01";
 
@@ -64,7 +64,7 @@ pub fn close<D: Disk + Drop>(shared: Shared<D>, pass: Pass) -> (u64, u64)
 
 /// Serves a connection over any link. What its clauses say is left here.
 #[expect(clippy::too_many_arguments)]
-fn serve_over<L: Link, D: Disk, C: Clock, N: Nonces, R: Wait>(
+pub fn serve_over<L: Link, D: Disk, C: Clock, N: Nonces, R: Wait>(
     rt: &R,
     alloc: Global,
     shared: &Shared<D>,

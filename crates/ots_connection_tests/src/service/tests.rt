@@ -2,8 +2,10 @@ ghost use Rattle.std.specs.Prelude.{◌<◌, ◌≤◌};
 
 use crate::books::{AMPLE, book_on, new_disk, service};
 use crate::service::beside::{Beside, serve_beside};
-use crate::service::connections::{Ended, Told, serve_alone};
+use crate::service::connections::{Ended, REQUEST, Told, serve_alone};
 use crate::service::crews::{Ends, serve_all};
+use crate::service::endings::serve_noting;
+use crate::service::turns::take_turns;
 use crate::service::watching::watch_while_added;
 use hex::decode;
 use ots_calendar::{Leaf, Receipt};
@@ -197,5 +199,58 @@ fn watched<D: Disk + Send + Drop, R: Threads + Wait + Sync>(
 fn no_caller_finds_fewer_records_than_it_was_told_of(rt: HostRuntime) -> Result<(), Fail> {
     let alloc = rt.alloc();
     assert_eq!(rt; watched(&rt, alloc, new_disk(alloc)?)?, (true, 100));
+    Ok(())
+}
+
+/// So many callers hold a new book so many times each. A wake-up that is lost leaves some of them asleep for ever.
+fn turns_are_taken<R: Threads + Wait + Sync + Abort>(
+    rt: &R,
+    alloc: Global,
+    callers: u32,
+    times: u32,
+) -> Result<(), Fail>
+    requires { (0 < callers) × (callers ≤ 65) }
+{
+    let book = book_on(alloc, new_disk(alloc)?, AMPLE)?;
+    assert_eq!(rt; take_turns(rt, alloc, book, callers, times)?, (true, 0));
+    Ok(())
+}
+
+#[test]
+fn no_wake_up_is_lost_among_sixty_five_callers(rt: HostRuntime) -> Result<(), Fail> {
+    turns_are_taken(&rt, rt.alloc(), 65, 1540)
+}
+
+#[test]
+fn no_wake_up_is_lost_among_four_callers(rt: HostRuntime) -> Result<(), Fail> {
+    turns_are_taken(&rt, rt.alloc(), 4, 50_000)
+}
+
+/// How a connection with this request ends over a new book, where the calls of its link with these numbers fail. Its
+/// link is finished once, after all that it takes.
+fn ended<R: Wait + Abort>(
+    rt: &R,
+    alloc: Global,
+    request: &[u8],
+    failing: &[u64],
+) -> Result<Served, Fail> {
+    let service = service(alloc)?;
+    let book = book_on(alloc, new_disk(alloc)?, AMPLE)?;
+    let noted = serve_noting(rt, alloc, book, &service, request, failing)?;
+    assert_eq!(rt; (noted.finishes, noted.taken_then), (1, noted.taken));
+    Ok(noted.served)
+}
+
+#[test]
+fn a_link_is_finished_in_each_ending(rt: HostRuntime) -> Result<(), Fail> {
+    let alloc = rt.alloc();
+    let stamped = ended(&rt, alloc, REQUEST, &[])?;
+    assert!(rt; matches!(stamped, Served::Stamped(_)));
+    let query = b"GET /timestamp/00 HTTP/1.1\r\n\r\n";
+    assert_eq!(rt; ended(&rt, alloc, query, &[])?, Served::Replied(404));
+    assert_eq!(rt; ended(&rt, alloc, b"", &[])?, Served::Closed);
+    // The read fails, and then the first write.
+    assert_eq!(rt; ended(&rt, alloc, query, &[1])?, Served::LinkFault);
+    assert_eq!(rt; ended(&rt, alloc, query, &[2])?, Served::LinkFault);
     Ok(())
 }

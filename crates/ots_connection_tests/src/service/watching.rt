@@ -25,7 +25,12 @@ fn finds_as_told<D: Disk, R: Wait>(rt: &R, shared: &Shared<D>, pass: &mut Pass) 
 }
 
 /// Looks so many times: whether no fewer records were found than were told of, each time.
-fn watch<D: Disk, R: Wait>(rt: &R, shared: &Shared<D>, mut pass: Pass, times: u32) -> (Pass, bool)
+pub fn watch<D: Disk, R: Wait>(
+    rt: &R,
+    shared: &Shared<D>,
+    mut pass: Pass,
+    times: u32,
+) -> (Pass, bool)
     requires own { IsPassOf shared.now pass }
     requires free { pass.holding ≡ false }
     ensures seat { (result.0.seat ≡ pass.seat) × (result.0.holding ≡ false) }

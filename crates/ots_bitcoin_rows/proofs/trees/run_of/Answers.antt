@@ -6,8 +6,8 @@ use Rattle.ots_bitcoin_rows.proofs.trees.run_of.Goals as goal
 pub returns-then-rest-lt-RUN : goal.returns-then-rest-lt-RUN
 returns-then-rest-lt-RUN c =
     let leaves = c.args.leaves.now in
-    let start = 64 * (c.args.i / 64) in
+    let start = 16 * (c.args.i / 16) in
     let left = length-drop start leaves in
     let few = c.if-rest-lt-RUN.true in
     let all = take_all (length leaves - start) (drop start leaves) (omega (arith, left)) in
-    all ∙ sym (take_all 64 (drop start leaves) (omega (arith, left, few)))
+    all ∙ sym (take_all 16 (drop start leaves) (omega (arith, left, few)))

@@ -7,5 +7,5 @@ use Rattle.ots_gateway.proofs.sending.send.Goals as goal
 pub returns-in-Err-clause-sends : goal.returns-in-Err-clause-sends
 returns-in-Err-clause-sends g c =
     let prefix = c.in-Err.ensures.written.prefix in
-    cut prefix.0 prefix.1 refl (rw c.finish.ensures.faults c.in-Err.ensures.cause.failed)
-    (rw c.finish.ensures.told (takes (take prefix.0 (reply_bytes c.args.reply)) _ _ prefix.2))
+    cut prefix.0 prefix.1 refl c.in-Err.ensures.cause.failed
+    (takes (take prefix.0 (reply_bytes c.args.reply)) _ _ prefix.2)

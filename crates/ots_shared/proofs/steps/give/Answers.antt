@@ -13,8 +13,8 @@ store-requires g c =
     let stage = ap (λ (m : Sat g.row.D.Denot). m.0.stage) x.3 ∙ ap (λ (m : Sat g.row.D.Denot). m.0.stage) h.1.1 in
     (x.0 ∙ c.requires.own.0, omega arith, publishes _ _ _ _ _ h.1.0 h.0 c.args.book _ stage out h.2 c.count_records-count.ensures)
 
-pub fetch_add-requires : goal.fetch_add-requires
-fetch_add-requires g c =
+pub fetch_add-served-requires : goal.fetch_add-served-requires
+fetch_add-served-requires g c =
     let three = c.requires.own.1 in
     let h = c.requires.held in
     let x = c.exchange.ensures in
@@ -34,5 +34,5 @@ returns-clause-given g c =
     let book = c.args.book in
     let out = ap (λ (m : Sat g.row.D.Denot). m.1) x.3 ∙ ap (λ (m : Sat g.row.D.Denot). (0, Some book) ∷ rest m.1) h.1.1 in
     let told = c.store.ensures.2 h.1.0 h.0 book (ap (λ (m : Sat g.row.D.Denot). m.0.stage) x.3 ∙ ap (λ (m : Sat g.row.D.Denot). m.0.stage) h.1.1) out in
-    c.fetch_add.ensures.2 h.1.0 book.store.records (ap (λ (m : Sat g.row.D.Denot). m.0.stage) told)
+    c.fetch_add-served.ensures.2 h.1.0 book.store.records (ap (λ (m : Sat g.row.D.Denot). m.0.stage) told)
     ∙ (ap (λ (m : Sat g.row.D.Denot). (released m.0 book.store.records, [])) told ∙ ap (λ (m : Sat g.row.D.Denot). (released m.0 book.store.records, [])) x.3)

@@ -1,7 +1,7 @@
 use Rattle.std.proofs.Common.{arith}
 use Rattle.ots_calendar.proofs.Growing.{adds}
 use Rattle.ots_calendar.proofs.Keeping.{adds_keeps, adds_readable}
-use Rattle.ots_calendar.proofs.Standing.{stand_grows}
+use Rattle.ots_calendar.proofs.Standing.{kept_grows, stand_grows}
 use Rattle.ots_calendar.proofs.book.Book.add_commit.Goals as goal
 
 pub invariant_of-self : goal.invariant_of-self
@@ -11,6 +11,7 @@ invariant_of-self g c =
     let new = c.add_commit.new.self.journal in
     record {
       records = adds_keeps d.bytes d.images d.clock d.images_since s new c.self.inside.tree c.args.commitment.now c.self.invariant.records c.stands.ensures c.add_commit.result c.add_commit.ensures.adds;
+      kept = kept_grows s.journal new c.self.inside.kept (adds d.bytes d.clock d.images_since s.journal new _ c.add_commit.result c.add_commit.ensures.adds) c.self.invariant.kept;
       settled = stand_grows s.journal new c.self.inside.tickets.settled (adds d.bytes d.clock d.images_since s.journal new _ c.add_commit.result c.add_commit.ensures.adds) c.self.invariant.settled;
     }
 

@@ -29,6 +29,7 @@ invariant_of-self-in-Ok-Some-2 g c =
     ∙ ap (λ (b : BookTold g.row.D.Denot). length (commits_of (records_of b.store.journal.entries))) (sym told) in
     record {
       records = c.self-in-Ok-Some.invariant.records;
+      kept = c.self-in-Ok-Some.invariant.kept;
       settled = settle_stands (commits_of (records_of new.entries)) c.args.key.now c.args.second _ _ c.in-Ok-Some.field-0 made index c.self-in-Ok-Some.inside.tickets.settled c.settle.new.self.settled
           c.in-Ok-Some.ensures.ready c.in-Ok-Some.field-0-is (stands_added d.bytes d.clock d.images_since old new made.commitment index adds last) c.self-in-Ok-Some.invariant.settled c.settle.ensures.settled;
     }

@@ -1,4 +1,4 @@
-use Rattle.ots_calendar.proofs.Standing.{stand_grows}
+use Rattle.ots_calendar.proofs.Standing.{kept_grows, stand_grows}
 use Rattle.ots_calendar.proofs.Tipping.{finds_grows, finds_keeps, finds_readable, keeps_over}
 use Rattle.ots_calendar.proofs.book.Book.find_tip.Goals as goal
 
@@ -11,6 +11,7 @@ invariant_of-self g c =
     record {
       records = keeps_over new c.self.inside.tree c.find_tip.new.tree c.find_tip.new.store.records c.find_tip.ensures.records c.find_tip.ensures.over
           (finds_keeps d.bytes d.clock d.images_since old new c.self.inside.tree c.self.invariant.records result c.find_tip.ensures.finds);
+      kept = kept_grows old new c.self.inside.kept (finds_grows d.bytes d.clock d.images_since old new result c.find_tip.ensures.finds) c.self.invariant.kept;
       settled = stand_grows old new c.self.inside.tickets.settled (finds_grows d.bytes d.clock d.images_since old new result c.find_tip.ensures.finds) c.self.invariant.settled;
     }
 

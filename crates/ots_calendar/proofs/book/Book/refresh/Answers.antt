@@ -1,5 +1,5 @@
 use Rattle.ots_calendar.proofs.Keeping.{refresh_keeps, refresh_readable}
-use Rattle.ots_calendar.proofs.Standing.{refresh_grows, stand_grows}
+use Rattle.ots_calendar.proofs.Standing.{kept_grows, refresh_grows, stand_grows}
 use Rattle.ots_calendar.proofs.book.Book.refresh.Goals as goal
 
 pub invariant_of-self : goal.invariant_of-self
@@ -8,6 +8,7 @@ invariant_of-self g c =
     let new = c.refresh.new.self.journal in
     record {
       records = refresh_keeps g.D.Disk.bytes old new c.self.inside.tree c.self.invariant.records c.refresh.result c.refresh.ensures.ok c.refresh.ensures.err;
+      kept = kept_grows old new c.self.inside.kept (refresh_grows g.D.Disk.bytes old new c.refresh.result c.refresh.ensures.ok c.refresh.ensures.err) c.self.invariant.kept;
       settled = stand_grows old new c.self.inside.tickets.settled (refresh_grows g.D.Disk.bytes old new c.refresh.result c.refresh.ensures.ok c.refresh.ensures.err) c.self.invariant.settled;
     }
 

@@ -5,7 +5,7 @@ use Rattle.ots_calendar.specs.Book.{BookTold}
 use Rattle.ots_calendar.specs.Values.{IsTrueAnchor}
 use Rattle.ots_calendar.proofs.Growing.{added}
 use Rattle.ots_calendar.proofs.Keeping.{add_keeps, add_readable, anchor_more, anchor_records}
-use Rattle.ots_calendar.proofs.Standing.{stand_grows}
+use Rattle.ots_calendar.proofs.Standing.{kept_grows, stand_grows}
 use Rattle.ots_calendar.proofs.book.Book.store_anchor.Goals as goal
 
 pub invariant_of-self : goal.invariant_of-self
@@ -17,6 +17,7 @@ invariant_of-self g c =
     record {
       records = add_keeps g.D.Disk.clock g.D.Disk.images_since s.journal new c.self.inside.tree (entry_of (AnchorRecord c.args.anchor.now)) sure c.stands.ensures.are c.self.invariant.records
           (anchor_more s.records s.journal.entries c.args.anchor.now c.stands.ensures.records c.requires.may_stand.fits is_true) c.add_anchor.result c.add_anchor.ensures.added;
+      kept = kept_grows s.journal new c.self.inside.kept (added g.D.Disk.clock g.D.Disk.images_since s.journal new _ c.add_anchor.result c.add_anchor.ensures.added) c.self.invariant.kept;
       settled = stand_grows s.journal new c.self.inside.tickets.settled (added g.D.Disk.clock g.D.Disk.images_since s.journal new _ c.add_anchor.result c.add_anchor.ensures.added) c.self.invariant.settled;
     }
 

@@ -5,7 +5,7 @@ use Rattle.ots_calendar.specs.Book.{BookTold}
 use Rattle.ots_calendar.specs.Values.{IsTrueTip}
 use Rattle.ots_calendar.proofs.Growing.{added}
 use Rattle.ots_calendar.proofs.Keeping.{add_keeps, add_readable, tip_more, tip_records}
-use Rattle.ots_calendar.proofs.Standing.{stand_grows}
+use Rattle.ots_calendar.proofs.Standing.{kept_grows, stand_grows}
 use Rattle.ots_calendar.proofs.book.Book.store_tip.Goals as goal
 
 pub invariant_of-self : goal.invariant_of-self
@@ -17,6 +17,7 @@ invariant_of-self g c =
     record {
       records = add_keeps g.D.Disk.clock g.D.Disk.images_since s.journal new c.self.inside.tree (entry_of (TipRecord c.args.tip.now)) sure c.stands.ensures.are c.self.invariant.records
           (tip_more s.records s.journal.entries c.args.tip.now c.stands.ensures.records c.requires.fits is_true) c.add_tip.result c.add_tip.ensures.added;
+      kept = kept_grows s.journal new c.self.inside.kept (added g.D.Disk.clock g.D.Disk.images_since s.journal new _ c.add_tip.result c.add_tip.ensures.added) c.self.invariant.kept;
       settled = stand_grows s.journal new c.self.inside.tickets.settled (added g.D.Disk.clock g.D.Disk.images_since s.journal new _ c.add_tip.result c.add_tip.ensures.added) c.self.invariant.settled;
     }
 

@@ -10,6 +10,7 @@ invariant_of-self g c =
     let s = c.self.inside.store in
     record {
       records = c.self.invariant.records;
+      kept = c.self.invariant.kept;
       settled = take_stands (commits_of (records_of s.journal.entries)) c.args.ticket.now c.args.uri.now c.self.inside.tickets c.take.new.self c.self.invariant.settled c.take.result c.take.ensures.takes c.take.ensures.err;
     }
 

@@ -7,5 +7,6 @@ pub invariant_of-self : goal.invariant_of-self
 invariant_of-self g c =
     record {
       records = c.self.invariant.records;
+      kept = c.self.invariant.kept;
       settled = withdraw_stands (commits_of (records_of c.self.inside.store.journal.entries)) c.args.ticket.now [] c.self.inside.tickets c.withdraw.new.self c.self.invariant.settled c.withdraw.result c.withdraw.ensures;
     }

@@ -1,0 +1,3 @@
+pub mod RunRoots
+pub mod Levels
+pub mod Closed

@@ -1,0 +1,126 @@
+//! One tree over commitments from one index on.
+ghost use Rattle.std.specs.Prelude.{◌≡◌, ◌+◌, ◌*◌, ◌/◌, ◌≤◌, ◌<◌, ◌^◌, ◌++◌, ◌∷◌, [], IfOk, length, take, drop};
+ghost use Rattle.std.specs.Prelude.{is_ok, true, if◌then◌else◌};
+ghost use Rattle.ots_anchor.specs.Path.{hashed};
+ghost use Rattle.ots_merkle.specs.CalendarTree.{root, path};
+ghost use Rattle.ots_kept_trees.specs.Kept.{IsKept, span};
+
+use ots_anchor::hashed;
+use ots_base::OutOfMemory;
+use ots_growing_tree::{GrowingTree, RUN};
+use ots_ops::Ops;
+use sha2::{Digest, Sha256};
+use std::alloc::Global;
+
+/// The tree over the SHA-256 of commitments from one index on.
+#[derive(Drop)]
+pub struct KeptTree {
+    /// The index of the first commitment.
+    pub first: usize,
+    /// Its leaves are the SHA-256 of the commitments.
+    pub tree: GrowingTree,
+}
+
+impl KeptTree {
+    /// No commitment yet, and those that come begin with this index.
+    pub(crate) fn new(alloc: Global, first: usize) -> Result<KeptTree, OutOfMemory>
+        ensures first { IfOk result (λ kept. kept.first ≡ first) }
+        ensures leaves { IfOk result (λ kept. kept.tree.leaves ≡ []) }
+    {
+        Ok(KeptTree {
+            first,
+            tree: GrowingTree::new(alloc)?,
+        })
+    }
+
+    /// Takes in the commitments up to this index that it has not, as many of them as memory allows.
+    pub(crate) fn grow(&mut self, commitments: &[[u8; 44]], end: usize)
+        requires few { length commitments.now < 2 ^ 32 }
+        requires within { end ≤ length commitments.now }
+        requires kept { IsKept commitments.now self.old }
+        ensures kept { IsKept commitments.now self.new }
+    {
+        let begin = self.first + self.tree.len();
+        if self.tree.reserve(end.saturating_sub(begin)).is_err() {
+            return;
+        }
+        for place in begin..end {
+            if self.push(&commitments[place]).is_err() {
+                return;
+            }
+        }
+    }
+
+    /// Adds a commitment after the others. Where memory ran out they are as before.
+    fn push(&mut self, commitment: &[u8; 44]) -> Result<(), OutOfMemory>
+        requires { length self.old.tree.leaves + 1 < 2 ^ 32 }
+        ensures first { self.new.first ≡ self.old.first }
+        ensures leaves { self.new.tree.leaves ≡ (if is_ok result
+            then self.old.tree.leaves ++ hashed (commitment.now ∷ []) else self.old.tree.leaves) }
+    {
+        self.tree.push(Sha256::digest(commitment.as_slice()))
+    }
+
+    /// The leaves of the run of an index among the first `count` of them.
+    fn run_of(
+        &self,
+        alloc: Global,
+        commitments: &[[u8; 44]],
+        count: usize,
+        i: usize,
+    ) -> Result<Vec<[u8; 32]>, OutOfMemory>
+        requires kept { IsKept commitments.now self.now }
+        requires few { length commitments.now < 2 ^ 32 }
+        requires enough { count ≤ length self.now.tree.leaves }
+        requires within { i ≤ count }
+        ensures { IfOk result (λ run. run.items ≡ take RUN (drop (RUN * (i / RUN)) (take count self.now.tree.leaves))) }
+    {
+        let begin = RUN * (i / RUN);
+        let end = (begin + RUN).min(count);
+        hashed(alloc, &commitments[self.first + begin..self.first + end])
+    }
+
+    /// The root over the first `count` commitments, at least one.
+    pub(crate) fn root_of_first(
+        &self,
+        alloc: Global,
+        commitments: &[[u8; 44]],
+        count: usize,
+    ) -> Result<[u8; 32], OutOfMemory>
+        requires kept { IsKept commitments.now self.now }
+        requires few { length commitments.now < 2 ^ 32 }
+        requires enough { count ≤ length self.now.tree.leaves }
+        requires some { 1 ≤ count }
+        ensures { IfOk result (λ made. made ≡ root (hashed (span self.now.first count commitments.now))) }
+    {
+        let cut = self.run_of(alloc, commitments, count, count)?;
+        Ok(self.tree.root_of_first(count, &cut).unwrap())
+    }
+
+    /// The path of the commitment of index `i` among the first `count`.
+    pub(crate) fn path_of_first(
+        &self,
+        alloc: Global,
+        commitments: &[[u8; 44]],
+        count: usize,
+        i: usize,
+    ) -> Result<Ops, OutOfMemory>
+        requires kept { IsKept commitments.now self.now }
+        requires few { length commitments.now < 2 ^ 32 }
+        requires enough { count ≤ length self.now.tree.leaves }
+        requires within { i < count }
+        ensures { IfOk result (λ ops. ops ≡ path (hashed (span self.now.first count commitments.now)) i) }
+    {
+        let run = self.run_of(alloc, commitments, count, i)?;
+        let cut = self.run_of(alloc, commitments, count, count)?;
+        self.tree.path_of_first(alloc, count, i, &run, &cut)
+    }
+
+    /// Whether it begins with this commitment and has as many.
+    pub(crate) fn has(&self, first: usize, count: usize) -> bool
+        ensures first { result ≡ true → self.now.first ≡ first }
+        ensures enough { result ≡ true → count ≤ length self.now.tree.leaves }
+    {
+        self.first == first && count <= self.tree.len()
+    }
+}

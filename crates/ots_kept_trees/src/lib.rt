@@ -1,0 +1,8 @@
+//! The trees by which a calendar answers fast: over the commitments of its anchors, and over the newest.
+#![tactic(auto)]
+
+mod kept;
+mod trees;
+
+pub use kept::KeptTree;
+pub use trees::Trees;

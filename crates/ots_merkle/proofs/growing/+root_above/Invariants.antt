@@ -1,6 +1,0 @@
-use Rattle.std.proofs.Common.{length}
-use Rattle.ots_merkle.proofs.growing.+root_above.Given as goal
-
--- Each turn leaves one level.
-abbrev pub decreases-root_above : goal.decreases-root_above
-decreases-root_above l = length l.above.now

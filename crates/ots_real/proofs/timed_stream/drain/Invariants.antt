@@ -1,0 +1,6 @@
+-- What was read fits in the buffer.
+use Rattle.std.proofs.Common.{◌≡◌, ◌≤◌, length}
+use Rattle.ots_real.proofs.timed_stream.drain.Given as goal
+
+abbrev pub invariant-loop : goal.invariant-loop
+invariant-loop g l = (l.count ≤ 8192) × (length l.dropped ≡ 8192)

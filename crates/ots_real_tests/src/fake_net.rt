@@ -1,0 +1,181 @@
+// A network and a clock in memory. Its first accepts fail with one error of the system, and each
+// later one gives a stream without an end.
+use std::io;
+use std::io::{Read, Write};
+use std::net::{Ipv4Addr, Net, OpenListener, OpenStream, Shutdown, SocketAddr};
+use std::os::fd::{AsRawFd, RawFd};
+use std::sync::atomic::{AtomicU64, Ordering};
+use std::time::{Clock, Duration};
+
+/// What is outside, and what was asked of it. Times are in milliseconds.
+#[derive(Drop)]
+pub struct Outside {
+    /// The number of the error with which accepts fail, and how many are still to fail.
+    number: i32,
+    failures: AtomicU64,
+    /// The time, which a sleep moves on.
+    now: AtomicU64,
+    /// The most bytes that a read gives, and how long it takes.
+    piece: usize,
+    pace: u64,
+    /// How many timeouts sockets were given, and how many bytes reads gave.
+    timeouts: AtomicU64,
+    given: AtomicU64,
+}
+
+impl Outside {
+    /// This many accepts fail, with the error of this number.
+    pub fn failing(number: i32, failures: u64) -> Outside {
+        Outside {
+            number,
+            failures: AtomicU64::new(failures),
+            now: AtomicU64::new(0),
+            piece: 1_000,
+            pace: 0,
+            timeouts: AtomicU64::new(0),
+            given: AtomicU64::new(0),
+        }
+    }
+
+    /// Peers send pieces of this length, each after this time.
+    pub fn sending(piece: usize, pace: u64) -> Outside {
+        Outside {
+            number: 0,
+            failures: AtomicU64::new(0),
+            now: AtomicU64::new(0),
+            piece,
+            pace,
+            timeouts: AtomicU64::new(0),
+            given: AtomicU64::new(0),
+        }
+    }
+
+    /// Lets this time pass.
+    pub fn wait(&self, millis: u64) {
+        self.now.fetch_add(millis, Ordering::SeqCst);
+    }
+
+    pub fn now(&self) -> u64 {
+        self.now.load(Ordering::SeqCst)
+    }
+
+    pub fn timeouts(&self) -> u64 {
+        self.timeouts.load(Ordering::SeqCst)
+    }
+
+    pub fn given(&self) -> u64 {
+        self.given.load(Ordering::SeqCst)
+    }
+}
+
+/// The network and the clock.
+#[derive(Clone, Copy)]
+pub struct FakeNet<'a> {
+    pub outside: &'a Outside,
+}
+
+#[derive(Drop)]
+pub struct FakeListener<'a> {
+    outside: &'a Outside,
+}
+
+#[derive(Drop)]
+pub struct FakeStream<'a> {
+    outside: &'a Outside,
+}
+
+impl<'a> Clock for FakeNet<'a> {
+    fn monotonic(&self) -> io::Result<Duration> {
+        Ok(Duration::from_millis(self.outside.now()))
+    }
+
+    fn since_1970(&self) -> io::Result<Duration> {
+        Ok(Duration::ZERO)
+    }
+
+    fn sleep(&self, duration: Duration) {
+        let millis = u64::try_from(duration.as_millis()).unwrap_or(u64::MAX);
+        self.outside.wait(millis);
+    }
+}
+
+impl<'a> Net for FakeNet<'a> {
+    type Stream = FakeStream<'a>;
+
+    type Listener = FakeListener<'a>;
+
+    fn bind(&self, _addr: SocketAddr) -> io::Result<FakeListener<'a>> {
+        Ok(FakeListener {
+            outside: self.outside,
+        })
+    }
+
+    fn connect(&self, _addr: SocketAddr) -> io::Result<FakeStream<'a>> {
+        Ok(FakeStream {
+            outside: self.outside,
+        })
+    }
+}
+
+impl<'a> OpenListener for FakeListener<'a> {
+    type Stream = FakeStream<'a>;
+
+    fn accept(&self) -> io::Result<(FakeStream<'a>, SocketAddr)> {
+        let failures = self.outside.failures.load(Ordering::SeqCst);
+        if failures > 0 {
+            self.outside.failures.store(failures - 1, Ordering::SeqCst);
+            return Err(io::Error::from_raw_os_error(self.outside.number));
+        }
+        let stream = FakeStream {
+            outside: self.outside,
+        };
+        Ok((stream, SocketAddr::from((Ipv4Addr::LOCALHOST, 1))))
+    }
+}
+
+impl<'a> AsRawFd for FakeListener<'a> {
+    fn as_raw_fd(&self) -> RawFd {
+        -1
+    }
+}
+
+impl<'a> OpenStream for FakeStream<'a> {
+    fn shutdown(&self, _how: Shutdown) -> io::Result<()> {
+        Ok(())
+    }
+
+    fn set_read_timeout(&self, _timeout: Option<Duration>) -> io::Result<()> {
+        self.outside.timeouts.fetch_add(1, Ordering::SeqCst);
+        Ok(())
+    }
+
+    fn set_write_timeout(&self, _timeout: Option<Duration>) -> io::Result<()> {
+        self.outside.timeouts.fetch_add(1, Ordering::SeqCst);
+        Ok(())
+    }
+}
+
+impl<'a> AsRawFd for FakeStream<'a> {
+    fn as_raw_fd(&self) -> RawFd {
+        -1
+    }
+}
+
+impl<'a> Read for FakeStream<'a> {
+    fn read(&mut self, buf: &mut [u8]) -> io::Result<usize> {
+        let count = buf.len().min(self.outside.piece);
+        self.outside.wait(self.outside.pace);
+        self.outside.given.fetch_add(count as u64, Ordering::SeqCst);
+        Ok(count)
+    }
+}
+
+impl<'a> Write for FakeStream<'a> {
+    fn write(&mut self, piece: &[u8]) -> io::Result<usize> {
+        Ok(piece.len())
+    }
+
+    fn flush(&mut self) -> io::Result<()> {
+        Ok(())
+    }
+}
