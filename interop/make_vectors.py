@@ -370,7 +370,7 @@ def journals(rng):
     for length in range(0, len(data), 2):
         put_journal(f'the first {length} bytes of a journal', data[:length])
     for place in range(0, len(data), 3):
-        put_journal(f'byte {place} of a journal made 01', data[:place] + b'\1' + data[place + 1:]) if place < 40 else None
+        put_journal(f'byte {place} of a journal made 01', data[:place] + b'\1' + data[place + 1:]) if place < 20 else None
     for k in range(12):
         for name, spoilt in spoilt_journals(rng):
             put_journal(f'{name}, {k}', spoilt)
