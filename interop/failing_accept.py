@@ -85,7 +85,7 @@ def ends(error):
     with tempfile.TemporaryDirectory() as folder:
         process, port = started(folder, error, '1+')
         try:
-            process.wait(30)
+            process.wait(60)
         except subprocess.TimeoutExpired:
             os.killpg(process.pid, signal.SIGKILL)
         out = process.stdout.read()
