@@ -7,10 +7,11 @@ set -eu
 here=$(cd "$(dirname "$0")" && pwd)
 work=$(mktemp -d)
 trap 'rm -rf "$work"' EXIT
+cp "$here/../HANDLES" "$work"
 mkdir -p "$work/crates/anchor_speed/src" "$work/crates/anchor_speed/specs"
 for name in $("$here/check.py" --names ots_anchor); do
     (cd "$here/.." && tar -c --exclude=out "crates/$name") | tar -x -C "$work"
-    grep "^$name:" "$here/../crates.txt" >> "$work/crates.txt"
+    grep "^$name[ :]" "$here/../crates.txt" >> "$work/crates.txt"
 done
 echo 'anchor_speed: ots_anchor ots_block ots_headers sha2 anyhow' >> "$work/crates.txt"
 cp "$here/anchor/main.rt.in" "$work/crates/anchor_speed/src/main.rt"

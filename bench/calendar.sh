@@ -8,11 +8,12 @@ set -eu
 here=$(cd "$(dirname "$0")" && pwd)
 work=$(mktemp -d -p "${1:-${TMPDIR:-/tmp}}")
 trap 'rm -rf "$work"' EXIT
+cp "$here/../HANDLES" "$work"
 speed="$work/crates/calendar_speed"
 mkdir -p "$speed/src" "$speed/specs"
 for name in $("$here/check.py" --names ots_file ots_calendar); do
     (cd "$here/.." && tar -c --exclude=out "crates/$name") | tar -x -C "$work"
-    grep "^$name:" "$here/../crates.txt" >> "$work/crates.txt"
+    grep "^$name[ :]" "$here/../crates.txt" >> "$work/crates.txt"
 done
 echo 'calendar_speed: ots_calendar ots_store ots_journal ots_disk ots_file ots_attest anyhow' >> "$work/crates.txt"
 cp "$here/calendar/main.rt.in" "$speed/src/main.rt"

@@ -6,10 +6,11 @@ set -eu
 here=$(cd "$(dirname "$0")" && pwd)
 work=$(mktemp -d)
 trap 'rm -rf "$work"' EXIT
+cp "$here/../HANDLES" "$work"
 mkdir -p "$work/crates/canonical_speed/src" "$work/crates/canonical_speed/specs"
 for name in $("$here/check.py" --names ots_io ots_detached ots_canon); do
     (cd "$here/.." && tar -c --exclude=out "crates/$name") | tar -x -C "$work"
-    grep "^$name:" "$here/../crates.txt" >> "$work/crates.txt"
+    grep "^$name[ :]" "$here/../crates.txt" >> "$work/crates.txt"
 done
 echo 'canonical_speed: ots_canon ots_detached ots_tree ots_io anyhow' >> "$work/crates.txt"
 cp "$here/canonical/main.rt.in" "$work/crates/canonical_speed/src/main.rt"

@@ -6,10 +6,11 @@ set -eu
 here=$(cd "$(dirname "$0")" && pwd)
 work=$(mktemp -d)
 trap 'rm -rf "$work"' EXIT
+cp "$here/../HANDLES" "$work"
 mkdir -p "$work/crates/hashing_speed/src" "$work/crates/hashing_speed/specs"
 for name in $("$here/check.py" --names ots_io ots_detached); do
     (cd "$here/.." && tar -c --exclude=out "crates/$name") | tar -x -C "$work"
-    grep "^$name:" "$here/../crates.txt" >> "$work/crates.txt"
+    grep "^$name[ :]" "$here/../crates.txt" >> "$work/crates.txt"
 done
 echo 'hashing_speed: ots_detached ots_ops ots_io sha2 hex anyhow' >> "$work/crates.txt"
 cp "$here/hashing/main.rt.in" "$work/crates/hashing_speed/src/main.rt"

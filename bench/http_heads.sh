@@ -7,10 +7,11 @@ set -eu
 here=$(cd "$(dirname "$0")" && pwd)
 work=$(mktemp -d)
 trap 'rm -rf "$work"' EXIT
+cp "$here/../HANDLES" "$work"
 mkdir -p "$work/crates/http_heads_speed/src" "$work/crates/http_heads_speed/specs"
 for name in $("$here/check.py" --names ots_io ots_http); do
     (cd "$here/.." && tar -c --exclude=out "crates/$name") | tar -x -C "$work"
-    grep "^$name:" "$here/../crates.txt" >> "$work/crates.txt"
+    grep "^$name[ :]" "$here/../crates.txt" >> "$work/crates.txt"
 done
 echo 'http_heads_speed: ots_http ots_io anyhow' >> "$work/crates.txt"
 cp "$here/http_heads/main.rt.in" "$work/crates/http_heads_speed/src/main.rt"

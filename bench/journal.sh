@@ -6,10 +6,11 @@ set -eu
 here=$(cd "$(dirname "$0")" && pwd)
 work=$(mktemp -d -p "${1:-${TMPDIR:-/tmp}}")
 trap 'rm -rf "$work"' EXIT
+cp "$here/../HANDLES" "$work"
 mkdir -p "$work/crates/journal_speed/src" "$work/crates/journal_speed/specs"
 for name in $("$here/check.py" --names ots_file ots_journal); do
     (cd "$here/.." && tar -c --exclude=out "crates/$name") | tar -x -C "$work"
-    grep "^$name:" "$here/../crates.txt" >> "$work/crates.txt"
+    grep "^$name[ :]" "$here/../crates.txt" >> "$work/crates.txt"
 done
 echo 'journal_speed: ots_journal ots_file anyhow' >> "$work/crates.txt"
 cp "$here/journal/main.rt.in" "$work/crates/journal_speed/src/main.rt"

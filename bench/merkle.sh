@@ -6,10 +6,11 @@ set -eu
 here=$(cd "$(dirname "$0")" && pwd)
 work=$(mktemp -d)
 trap 'rm -rf "$work"' EXIT
+cp "$here/../HANDLES" "$work"
 mkdir -p "$work/crates/merkle_speed/src" "$work/crates/merkle_speed/specs"
 for name in $("$here/check.py" --names ots_merkle); do
     (cd "$here/.." && tar -c --exclude=out "crates/$name") | tar -x -C "$work"
-    grep "^$name:" "$here/../crates.txt" >> "$work/crates.txt"
+    grep "^$name[ :]" "$here/../crates.txt" >> "$work/crates.txt"
 done
 echo 'merkle_speed: ots_merkle ots_ops sha2 anyhow' >> "$work/crates.txt"
 cp "$here/merkle/main.rt.in" "$work/crates/merkle_speed/src/main.rt"

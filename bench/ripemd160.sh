@@ -5,10 +5,11 @@ set -eu
 here=$(cd "$(dirname "$0")" && pwd)
 work=$(mktemp -d)
 trap 'rm -rf "$work"' EXIT
+cp "$here/../HANDLES" "$work"
 mkdir "$work/crates"
 for name in $("$here/check.py" --names ots_ripemd); do
     (cd "$here/.." && tar -c --exclude=out "crates/$name") | tar -x -C "$work"
-    grep "^$name:" "$here/../crates.txt" >> "$work/crates.txt"
+    grep "^$name[ :]" "$here/../crates.txt" >> "$work/crates.txt"
 done
 mkdir -p "$work/crates/ripemd160_speed/src" "$work/crates/ripemd160_speed/proofs/fed_pieces"
 cp "$here/ripemd160/main.rt.in" "$work/crates/ripemd160_speed/src/main.rt"

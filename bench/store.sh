@@ -7,10 +7,11 @@ set -eu
 here=$(cd "$(dirname "$0")" && pwd)
 work=$(mktemp -d -p "${1:-${TMPDIR:-/tmp}}")
 trap 'rm -rf "$work"' EXIT
+cp "$here/../HANDLES" "$work"
 mkdir -p "$work/crates/store_speed/src" "$work/crates/store_speed/specs"
 for name in $("$here/check.py" --names ots_file ots_store); do
     (cd "$here/.." && tar -c --exclude=out "crates/$name") | tar -x -C "$work"
-    grep "^$name:" "$here/../crates.txt" >> "$work/crates.txt"
+    grep "^$name[ :]" "$here/../crates.txt" >> "$work/crates.txt"
 done
 echo 'store_speed: ots_store ots_journal ots_disk ots_file anyhow' >> "$work/crates.txt"
 cp "$here/store/main.rt.in" "$work/crates/store_speed/src/main.rt"

@@ -6,11 +6,12 @@ set -eu
 here=$(cd "$(dirname "$0")" && pwd)
 work=$(mktemp -d)
 trap 'rm -rf "$work"' EXIT
+cp "$here/../HANDLES" "$work"
 crate="$work/crates/tree_pieces"
 mkdir -p "$crate/src" "$crate/specs" "$crate/proofs/fed_by"
 for name in $("$here/check.py" --names ots_reader); do
     (cd "$here/.." && tar -c --exclude=out "crates/$name") | tar -x -C "$work"
-    grep "^$name:" "$here/../crates.txt" >> "$work/crates.txt"
+    grep "^$name[ :]" "$here/../crates.txt" >> "$work/crates.txt"
 done
 echo 'tree_pieces: ots_reader ots_tree anyhow' >> "$work/crates.txt"
 cp "$here/tree_pieces/main.rt.in" "$crate/src/main.rt"

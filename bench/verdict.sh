@@ -7,10 +7,11 @@ set -eu
 here=$(cd "$(dirname "$0")" && pwd)
 work=$(mktemp -d)
 trap 'rm -rf "$work"' EXIT
+cp "$here/../HANDLES" "$work"
 mkdir -p "$work/crates/verdict_speed/src" "$work/crates/verdict_speed/specs"
 for name in $("$here/check.py" --names ots_io ots_detached ots_verdicts); do
     (cd "$here/.." && tar -c --exclude=out "crates/$name") | tar -x -C "$work"
-    grep "^$name:" "$here/../crates.txt" >> "$work/crates.txt"
+    grep "^$name[ :]" "$here/../crates.txt" >> "$work/crates.txt"
 done
 echo 'verdict_speed: ots_verdicts ots_headers ots_detached ots_tree ots_io anyhow' >> "$work/crates.txt"
 cp "$here/verdict/main.rt.in" "$work/crates/verdict_speed/src/main.rt"
