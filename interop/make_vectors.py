@@ -47,7 +47,8 @@ def numbers(rng):
         data = number(value)
         put('numbers', 'number', f'{value} in its shortest form', bytes=data.hex(), value=str(value), length=len(data))
         put('numbers', 'number', f'{value}, and a byte after it', bytes=(data + b'\x2a').hex(), value=str(value), length=len(data))
-        put('numbers', 'number', f'{value} in one byte more', bytes=(data[:-1] + bytes([data[-1] | 0x80, 0])).hex(), fault='padded')
+        put('numbers', 'number', f'{value} in one byte more', bytes=(data[:-1] + bytes([data[-1] | 0x80, 0])).hex(),
+            fault='padded' if len(data) < 10 else 'large')
         if len(data) > 1:
             put('numbers', 'number', f'{value} without its last byte', bytes=data[:-1].hex(), fault='short')
     for data in (b'', b'\xff' * 9 + b'\x02', b'\x80' * 10, b'\xff' * 10, b'\x80' * 9):

@@ -230,7 +230,7 @@ def row_of(case):
     """The program, the line and how its answer begins, of a vector that no command shows."""
     kind = case['kind']
     if kind == 'number':
-        wanted = f'{case["value"]} in {case["length"]} ' if 'value' in case else {'padded': 'padded', 'short': 'truncated', 'large': 'too large'}[case['fault']]
+        wanted = f'{case["value"]} in {case["length"]} ' if 'value' in case else {'padded': 'not minimal', 'short': 'short', 'large': 'too large'}[case['fault']]
         return 'ots_format_rows', f'number read {case["bytes"] or "-"}', wanted
     if kind == 'hash':
         pieces = [case['bytes'][at:at + 2000] or '-' for at in range(0, max(len(case['bytes']), 1), 2000)]
