@@ -1,18 +1,25 @@
 #!/usr/bin/python3
-"""Processor time and peak of memory of `ots upgrade` on proofs that are made to hurt, at a quarter of
-their size and whole: many pairs of a URI and a message, many places of one pair, and many URIs at one
-message of 4096 bytes, of six characters and, so that most of them fit, of three. No address of the list
-has their URI, so nobody is asked. build/ots has to be there.
+"""Processor time and peak of memory of `ots upgrade` on proofs that are made to hurt.
+
+    bench/upgrade.py [PROGRAM]
+
+Nobody is asked, since no address of the list has their URI: many pairs of a URI and a message, many places of
+one pair, and many URIs at one message of 4096 bytes, of six characters and, so that most of them fit, of three;
+each at a quarter of its size and whole. Then a calendar that this script serves answers one message with a tree
+of almost 10,000 bytes, and the proof has that message at 64, 1,024 and 16,384 places: at 64 the result is a proof
+file, and at the others it is too big for one. PROGRAM is build/ots where none is given.
 """
 
+import http.server
 import itertools
 import os
 import string
 import sys
 import tempfile
+import threading
 
 TOP = os.path.dirname(os.path.dirname(os.path.abspath(__file__)))
-PROGRAM = os.path.join(TOP, 'build', 'ots')
+PROGRAM = sys.argv[1] if len(sys.argv) > 1 else os.path.join(TOP, 'build', 'ots')
 PREFIX = b'\x00OpenTimestamps\x00\x00Proof\x00\xbf\x89\xe2\xe8\x84\xe8\x92\x94\x01\x08' + bytes(32)
 PENDING = b'\x00' + bytes.fromhex('83dfe30d2ef90c8e')
 # Append 4064 bytes to the digest's 32.
@@ -47,7 +54,32 @@ def short_uris(count):
     return PREFIX + LONG + forked([end(''.join(uri).encode()) for uri in three])
 
 
-def run(name, proof, folder):
+def one_message(left, uri):
+    """The message that `left` letters make of the digest, once for each way to append them in pieces."""
+    if left == 0:
+        return end(uri)
+    return forked([b'\xf0' + bytes([piece]) + b'a' * piece + one_message(left - piece, uri)
+                   for piece in range(1, left + 1)])
+
+
+def answer():
+    """A tree of almost 10,000 bytes, most of whose tokens have one byte: 48 paths of 190 hashes each."""
+    return forked([b'\xf0\x01' + bytes([i]) + b'\x08' * 190 + end(b'u') for i in range(48)])
+
+
+class Calendar(http.server.BaseHTTPRequestHandler):
+    def do_GET(self):
+        body = answer()
+        self.send_response(200)
+        self.send_header('Content-Length', str(len(body)))
+        self.end_headers()
+        self.wfile.write(body)
+
+    def log_message(self, *_):
+        pass
+
+
+def run(name, proof, folder, calendar='http://127.0.0.1:9', expected=1):
     old, new = os.path.join(folder, 'old'), os.path.join(folder, 'new')
     with open(old, 'wb') as file:
         file.write(proof)
@@ -56,18 +88,19 @@ def run(name, proof, folder):
         nowhere = os.open(os.devnull, os.O_RDWR)
         os.dup2(nowhere, 0)
         os.dup2(nowhere, 1)
-        os.execv(PROGRAM, [PROGRAM, 'upgrade', '--calendars', 'http://127.0.0.1:9', old, new])
+        os.execv(PROGRAM, [PROGRAM, 'upgrade', '--calendars', calendar, old, new])
     _, status, used = os.wait4(child, 0)
     ended = os.waitstatus_to_exitcode(status)
-    if ended != 1:
+    if ended != expected:
         sys.exit(f'{name}: status {ended}')
-    os.remove(new)
+    if os.path.exists(new):
+        os.remove(new)
     print(f'{name}: {len(proof)} bytes, {used.ru_utime + used.ru_stime:.2f} s, {used.ru_maxrss // 1024} MB')
 
 
 def main():
     if not os.access(PROGRAM, os.X_OK):
-        sys.exit('build/ots is not there: ./run ots builds it')
+        sys.exit(f'{PROGRAM} is not there: ./run ots builds it')
     with tempfile.TemporaryDirectory() as folder:
         for count in (25000, 100000):
             run(f'{count} pairs', pairs(count), folder)
@@ -77,6 +110,12 @@ def main():
             run(f'{count} URIs at one message of 4096 bytes', uris(count), folder)
         for count in (69750, 279000):
             run(f'{count} URIs of three characters at it', short_uris(count), folder)
+        server = http.server.HTTPServer(('127.0.0.1', 0), Calendar)
+        threading.Thread(target=server.serve_forever, daemon=True).start()
+        calendar = f'http://127.0.0.1:{server.server_port}'
+        for letters, expected in ((7, 1), (11, 8), (15, 8)):
+            proof = PREFIX + one_message(letters, calendar.encode())
+            run(f'an answer of {len(answer())} bytes at {2 ** (letters - 1)} places', proof, folder, calendar, expected)
 
 
 if __name__ == '__main__':
