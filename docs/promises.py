@@ -5,8 +5,9 @@
 
 Of docs/PROMISES.md and docs/promises/ each word between backquotes that is a name, as `run_client`, `Shared::hold`,
 `ends` or `IsUpgradeOf`, must be a function, a type, a variant, a field, a clause, a definition of specs/, a crate, a
-test or a file of this repository. It prints each that is none with its page and line, and each cell of a table with
-more than 40 words, and ends with status 1 where there is one.
+test or a file of this repository. Words in italics after the name of a crate of rows must stand in a comment of its
+script. It prints each that is none with its page and line, and each cell of a table with more than 40 words, and ends
+with status 1 where there is one.
 """
 
 import os
@@ -64,12 +65,27 @@ def wrong_in(line, names):
                 yield word
 
 
+def comments_of(crate):
+    """The comments of a crate of rows, each in one line."""
+    with open(f'{TOP}/crates/{crate}/stdin', encoding='utf8') as file:
+        return re.sub(r'\n# ', ' ', '\n'.join(line.rstrip('\n') for line in file if line.startswith('#')))
+
+
+def absent_rows(line):
+    """The words in italics that no comment of the rows which are named before them has."""
+    crate = None
+    for name, words in re.findall(r'`(\w+)`|\*([^*]+)\*', line) if line.startswith('|') else ():
+        crate = name or crate
+        if words and crate and crate.endswith('_rows') and words not in comments_of(crate):
+            yield f'{words}, of {crate},'
+
+
 def main():
     names, bad = known(), 0
     for page in pages():
         with open(f'{TOP}/{page}', encoding='utf8') as file:
             for number, line in enumerate(file, 1):
-                for word in wrong_in(line, names):
+                for word in [*wrong_in(line, names), *absent_rows(line)]:
                     print(f'{page}:{number}: {word} is nowhere in the sources')
                     bad += 1
                 cells = line.strip().strip('|').split(' | ') if line.startswith('|') else []

@@ -4,10 +4,11 @@
     interop/calendar_rows.py [--write]
 
 reads the script crates/ots_calendar_rows/stdin, whose language the head of that crate describes, and compares the
-crate's stdout with what this model says of each line. With --write it writes that file. It does what each line says by the calendar of `calendar_model.py`, and runs nothing of this repository: it reads words,
-keys, digests and blocks, makes commitments, tips, anchors and trees, answers requests, and counts the calls of the disk,
-the shelf, the sink, the nonces, the accepter and the links, of which any may fail. It is run by hand, and takes some
-seconds.
+crate's stdout with what this model says of each line. With --write it writes that file. It does what each line says by
+the calendar of `calendar_model.py`, and runs nothing of this repository: it reads words, keys, digests and blocks, makes
+commitments, tips, anchors and trees, answers requests, and counts the calls of the disk, the shelf, the sink, the
+nonces, the accepter and the links, of which any may fail. Requests are read by http_rows.py. What completes the proofs
+of the rows of the client is compared with what is answered here. It is run by hand, and takes some seconds.
 """
 
 import os
@@ -15,9 +16,11 @@ import re
 import struct
 import sys
 
+import http_rows
 from calendar_model import (ANCHOR, COMMIT, TIP, Anchor, Book, Calls, Failed, FileDisk, Journal, MemoryDisk, Reader,
                             Refused, anchored_in, applied, bad_record, bitcoin, levels, merkle_path, open_records,
                             pending, read_version_1, sha256, spelled)
+from client_rows import Script
 
 TOP = os.path.dirname(os.path.dirname(os.path.abspath(__file__)))
 
@@ -172,59 +175,38 @@ def reply(status, body):
     return [head, body] if status == 200 else [head + body]
 
 
-class Link:
-    """A connection: a read gives all that is left, and each piece of a reply is one write."""
+REFUSALS = {400: 'bad request', 404: 'not found', 405: 'method not allowed', 411: 'length required', 413: 'too large'}
+
+
+class Link(http_rows.Link):
+    """A connection: what it sends comes as fast as it is read, and each piece of a reply is one write."""
 
     def __init__(self, data):
-        self.data, self.failing, self.taken = data, [], b''
+        super().__init__(data)
+        self.failing, self.taken = [], b''
+
+    def read(self, most):
+        self.counted.call()
+        return super().read(most)
 
     def serve(self, answer):
         """Reads a request, and writes what is answered."""
-        calls = Calls(self.failing)
-        calls.call()
-        if self.data:
-            head, end, body = self.data.partition(b'\r\n\r\n')
-            if not end:
-                calls.call()
-            said = self.said(head.decode().split('\r\n'), body, calls, answer) if end else reply(400, 'bad request')
-            for piece in said:
-                calls.call()
-                self.taken += piece
+        self.counted = Calls(self.failing)
+        word, _, rest = http_rows.read_request(self).partition(' ')
+        for piece in self.said(word, rest, answer):
+            self.counted.call()
+            self.taken += piece
 
     @staticmethod
-    def said(head, body, calls, answer):
-        """The reply to a head of the plain form that these rows have, and a body."""
-        method, target, version = head[0].split(' ')
-        assert version == 'HTTP/1.1' and len(head) <= 2
-        if target == '/digest':
-            if method != 'POST':
-                return reply(405, 'method not allowed')
-            if len(head) == 1:
-                return reply(411, 'length required')
-            name, length = head[1].split(': ')
-            assert name == 'Content-Length' and length.isdigit()
-            if int(length) > 64:
-                return reply(413, 'too large')
-            if len(body) < int(length):
-                calls.call()
-            if not 0 < int(length) <= len(body):
-                return reply(400, 'bad request')
-            return answer.stamp(body[:int(length)])
-        if target.startswith('/records/'):
-            if method != 'GET':
-                return reply(405, 'method not allowed')
-            digits = target[len('/records/'):]
-            return answer.page(int(digits)) if is_number(digits, 0, 2 ** 63 - 1) else reply(400, 'bad request')
-        if not target.startswith('/timestamp/'):
-            return reply(404, 'not found')
-        if method != 'GET':
-            return reply(405, 'method not allowed')
-        digits = target[len('/timestamp/'):]
-        if len(digits) > 128:
-            return reply(404, 'not found')
-        if not re.fullmatch('(?:[0-9A-Fa-f]{2})+', digits):
-            return reply(400, 'bad request')
-        return answer.ask(bytes.fromhex(digits))
+    def said(word, rest, answer):
+        """The pieces of the reply to a request."""
+        if word == 'closed':
+            return []
+        if word == 'refused':
+            return reply(int(rest), REFUSALS[int(rest)])
+        if word == 'records':
+            return answer.page(int(rest))
+        return (answer.stamp if word == 'digest' else answer.ask)(bytes.fromhex(rest))
 
 
 class Answers:
@@ -564,10 +546,22 @@ def transcript(script):
     return b''.join(told)
 
 
+def is_the_clients(made):
+    """Whether the reply that completes proofs in the rows of the client is answered here."""
+    client = Script()
+    with open(os.path.join(TOP, 'crates', 'ots_client_rows', 'stdin'), encoding='utf8') as lines:
+        for line in lines:
+            if line.startswith('let '):
+                client.obey(line.rstrip('\n'))
+    return b'= reply ' + escaped(client.named['CYCLE_REPLY']) + b'\n' in made
+
+
 def main():
     crate = os.path.join(TOP, 'crates', 'ots_calendar_rows')
     with open(os.path.join(crate, 'stdin'), encoding='utf8') as script:
         made = transcript(script.read())
+    if not is_the_clients(made):
+        sys.exit('the rows of the client have another reply')
     if sys.argv[1:] == ['--write']:
         with open(os.path.join(crate, 'stdout'), 'wb') as file:
             file.write(made)

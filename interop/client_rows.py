@@ -327,6 +327,7 @@ class Outside:
     def ask(self, address, request, length, depth):
         """The words for what a calendar answers, and its tree where that is good."""
         reply = self.replies.pop(0) if self.replies else b''
+        assert b'Content-Length' in reply or not self.dialer.failing, 'a body without a length takes more reads'
         if self.dialer.fails():
             return 'unreachable', None
         host, _, port = address[len('http://'):].partition(':')

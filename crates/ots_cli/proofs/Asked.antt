@@ -1,6 +1,6 @@
 -- What is asked, whether or not it comes to an end.
-use Rattle.std.proofs.Common.{◌≡◌, ◌⊎◌, ℕ, Bool, Bor, length, List, [], ◌∷◌, Option, Some, None, inl, inr, refl, sym, ap, subst, ◌∙◌, arith}
-use Rattle.std.proofs.lemmas.List.{length-map}
+use Rattle.std.proofs.Common.{◌≡◌, ◌⊎◌, ◌<◌, ℕ, Bool, Bor, length, List, [], ◌∷◌, Option, Some, None, inl, inr, refl, sym, ap, subst, ◌∙◌, arith}
+use Rattle.std.proofs.lemmas.List.{length-append, length-map}
 use Rattle.std.specs.Prelude.{◌↔◌, IsTrue, IfOk, Result, Ok, Err}
 use Rattle.ots_base.specs.declared.out_of_memory.OutOfMemory.{OutOfMemory as NoMemory}
 use Rattle.ots_cli.specs.Answer.{CompletesAs, Decides, DecidesAs, PrintsInfo, TellsVerdict, WritesAsked, asked_made}
@@ -16,12 +16,14 @@ use Rattle.ots_cli.specs.declared.ending.Text.TheVariants as text
 use Rattle.ots_verdicts.specs.declared.verdicts.Verdict.{Verdict}
 use Rattle.ots_client_text.specs.declared.status.Status.{Status}
 use Rattle.ots_client_text.specs.declared.status.Status.TheVariants.{Done}
-use Rattle.ots_detached.specs.File.{IsFileOf, file_of}
+use Rattle.ots_base.specs.declared.limits.TheConstants.{MAX_PROOF_FILE}
+use Rattle.ots_detached.specs.File.{IsFileOf, file_of, header}
 use Rattle.ots_pending.specs.Bitcoin.{HasBitcoin}
 use Rattle.ots_upgrade.specs.declared.asking.AskedAt.{AskedAt}
 use Rattle.ots_outside.specs.Dialer.{DialerTold}
 use Rattle.ots_outside.specs.Shelf.{Names}
 use Rattle.ots_tree.specs.declared.detached.Detached.{Detached}
+use Rattle.ots_tree.specs.Wire.{spelled}
 use Rattle.ots_address.specs.Address.{AddressParts}
 use Rattle.ots_upgrade.specs.Conversation.{Converse, ConverseUpTo, Question}
 use Rattle.ots_upgrade.specs.Upgrading.{UpgradesProof, UpgradesUpTo, outcomes, questions}
@@ -255,6 +257,11 @@ asked_ends asked to p complete s e is bitcoin file h =
     asked_made complete bitcoin file
     (ending_is e (complete_status complete) (prints (asked_text asked) ∷ makes to.now (file_of p) ∷ prints (complete_text complete) ∷ []) (h.status ∙ is)
     (h.acts.2 ∙ ap (λ (z : List ℕ). prints z ∷ makes to.now (file_of p) ∷ prints (complete_text complete) ∷ []) h.acts.1))
+
+-- a file is longer than the tree in it
+pub longer : (p : Detached) → MAX_PROOF_FILE < length (spelled p.tree) → MAX_PROOF_FILE < length (file_of p)
+unfolding file_of
+longer p h = omega (arith, length-append (header p.hash p.digest) (spelled p.tree))
 
 -- the text of a proof is printed
 pub printed_verdict : (v : Verdict) (s : Status) (e : Ending) → s ≡ verdict_status v → IsEndingOf (record { status = s; acts = Print (text.Verdict v) }) e → TellsVerdict v e

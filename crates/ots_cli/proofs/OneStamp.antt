@@ -11,7 +11,7 @@ use Rattle.ots_tree.specs.declared.detached.Detached.{Detached}
 use Rattle.ots_tree.specs.declared.token.Token.{Token}
 use Rattle.ots_upgrade.specs.declared.outcome.Outcome.{Outcome}
 use Rattle.ots_upgrade.specs.declared.target.Target.{Target}
-use Rattle.ots_upgrade.specs.Stamped.{Gathers, IsStampOf, good_trees}
+use Rattle.ots_upgrade.specs.Stamped.{GathersForm, IsStampOf, good_trees}
 use Rattle.ots_cli.specs.CarriedOut.{CarriesOn, DoesOrEnds, PrintsLast}
 use Rattle.ots_cli.specs.Ending.{makes, makes_stamp, prints}
 use Rattle.ots_client_text.specs.Refusal.{refusal_text}
@@ -25,13 +25,13 @@ some_at [] i less = absurd (omega arith)
 some_at (x ∷ xs) zero less = (x, refl)
 some_at (x ∷ xs) (suc i) less = some_at xs i (omega arith)
 
-pub stamp_of : (s : StampedFiles) (calendars : List AddressParts) (outcomes : List Outcome) (files : List (List ℕ)) (targets : List Target) (good : List Token) (i : ℕ)
+pub stamp_of : (s : StampedFiles) (calendars : List AddressParts) (outcomes : List Outcome) (files : List (List ℕ)) (targets : List Target) (form : List Token) (i : ℕ)
     (r : Result Detached NoMemory) → record { calendars = calendars; outcomes = outcomes; files = files; targets = targets } ≡ s
-    → KeepsStamped files targets outcomes good → i < length s.files
-    → IfOk r (λ p. (t : Target) (trees : List (List Token)) → slice_get targets i ≡ Some t → Gathers trees good → IsStampOf targets i t trees p)
+    → KeepsStamped files targets outcomes form → i < length s.files
+    → IfOk r (λ p. (t : Target) (trees : List (List Token)) → slice_get targets i ≡ Some t → GathersForm trees form → IsStampOf targets i t trees p)
     → IfOk r (IsStampAt s.targets (good_trees s.outcomes) i)
-stamp_of s calendars outcomes files targets good i (Err e) is keeps less h = tt
-stamp_of s calendars outcomes files targets good i (Ok p) is keeps less h =
+stamp_of s calendars outcomes files targets form i (Err e) is keeps less h = tt
+stamp_of s calendars outcomes files targets form i (Ok p) is keeps less h =
     let same : length files ≡ length s.files = ap (λ (z : StampedFiles). length z.files) is in
     let count : length files ≡ length targets = keeps.count in
     let at = some_at targets i (omega (arith, less, same, count)) in

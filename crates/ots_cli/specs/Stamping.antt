@@ -11,7 +11,7 @@ use Rattle.ots_tree.specs.declared.detached.Detached.{Detached}
 use Rattle.ots_tree.specs.declared.token.Token.{Token}
 use Rattle.ots_upgrade.specs.declared.outcome.Outcome.{Outcome}
 use Rattle.ots_upgrade.specs.declared.target.Target.{Target}
-use Rattle.ots_upgrade.specs.Stamped.{Gathers, IsSoundBelow, IsStampOf, good_trees, leaves}
+use Rattle.ots_upgrade.specs.Stamped.{GathersForm, IsSoundBelow, IsStampOf, good_trees, leaves}
 use Rattle.ots_upgrade.specs.Ways.{IsDepth}
 use Rattle.ots_upgrade.specs.Stamping.{to_stamp}
 use Rattle.ots_cli.specs.Asking.{Outside}
@@ -76,10 +76,10 @@ pub data Stamps (o : Outside) (least : ℕ) (files : List (List ℕ)) (calendars
 
 -- ---- for the code
 
--- What is kept of files that calendars timestamped: one tree has the paths of all good answers, and is sound below the
--- root.
+-- What is kept of files that calendars timestamped: one canonical tree has the paths of all good answers, and is sound
+-- below the root.
 pub record KeepsStamped (files : List (List ℕ)) (targets : List Target) (outcomes : List Outcome)
-    (good : List Token) : Type 0 where
+    (form : List Token) : Type 0 where
   pub count : length files ≡ length targets
-  pub sound : IsSoundBelow targets good
-  pub gathers : Gathers (good_trees outcomes) good
+  pub sound : IsSoundBelow targets form
+  pub gathers : GathersForm (good_trees outcomes) form

@@ -5,8 +5,9 @@ ghost use Rattle.ots_detached.specs.File.{file_of};
 ghost use Rattle.ots_cli.specs.Answer.{CompletesAs, DecidesAs, Merges, Samples, Writes, WritesAsked};
 ghost use Rattle.ots_cli.specs.Asking.{Happens, Hears};
 ghost use Rattle.ots_cli.specs.Gathered.{AsksFor, DrawsOf};
-ghost use Rattle.ots_upgrade.specs.Upgrading.{UpgradesUpTo};
+ghost use Rattle.ots_upgrade.specs.Upgrading.{IsProofWithin, UpgradesUpTo};
 ghost use Rattle.ots_cli.specs.Decided.{EndsAs};
+ghost use Rattle.ots_tree.specs.declared.detached.Detached.{Detached};
 ghost use Rattle.ots_verdicts.specs.declared.verdicts.Verdict.{Verdict};
 ghost use Rattle.ots_client_text.specs.declared.status.Status.TheVariants.{Differs};
 
@@ -25,7 +26,7 @@ use ots_outside::{Dialer, Nonces};
 use ots_pending::has_bitcoin;
 use ots_sample::sample;
 use ots_tree::Detached;
-use ots_upgrade::{AskedList, Upgraded, upgrade_with};
+use ots_upgrade::{AskedList, UpgradedWithin, upgrade_within};
 use std::alloc::Global;
 
 /// How the command ends that has these inputs.
@@ -136,9 +137,9 @@ fn upgraded<'a, D: Dialer>(
         (EndsAs (CompletesAs (Hears D.told D.faults dialer.old dialer.new) calendars.now proof.now to.entry.now)) }
     ensures asks { UpgradesUpTo D.told D.faults calendars.now proof.now dialer.old dialer.new }
 {
-    let upgraded = upgrade_with(alloc, dialer, calendars, proof)?;
-    let Upgraded { proof, asked } = upgraded;
-    Ok(completed(asked, proof, to))
+    let most = MAX_PROOF_FILE as u32;
+    let UpgradedWithin { proof, asked } = upgrade_within(alloc, dialer, calendars, proof, most)?;
+    Ok(completed_within(asked, proof, to))
 }
 
 /// The file of a proof that calendars were asked to complete is made, unless it would be too long for
@@ -147,16 +148,35 @@ fn completed(asked: AskedList, proof: Detached, to: &str) -> Ending<'_>
     ensures { EndsAs (WritesAsked asked to.entry.now proof) result }
 {
     written_file(&proof);
-    let asked = Text::Asked(asked);
     if is_too_long(&proof) {
-        return Ending {
-            status: Status::TooBig,
-            acts: Acts::RefuseAfter(asked, to),
-        };
+        return too_long(asked, to);
     }
+    let asked = Text::Asked(asked);
     let complete = has_bitcoin(&proof.tree);
     Ending {
         status: complete_status(complete),
         acts: Acts::MakeAfter(asked, to, proof, complete),
+    }
+}
+
+/// The same of a proof that is told where its tree is not longer than a proof file.
+fn completed_within(asked: AskedList, proof: Option<Detached>, to: &str) -> Ending<'_>
+    ensures { (made : Detached) → IsProofWithin MAX_PROOF_FILE made proof
+        → EndsAs (WritesAsked asked to.entry.now made) result }
+{
+    match proof {
+        Some(proof) => completed(asked, proof, to),
+        None => too_long(asked, to),
+    }
+}
+
+/// What calendars made of a proof is too long for a proof file.
+fn too_long(asked: AskedList, to: &str) -> Ending<'_>
+    ensures { (proof : Detached) → MAX_PROOF_FILE < length (file_of proof)
+        → EndsAs (WritesAsked asked to.entry.now proof) result }
+{
+    Ending {
+        status: Status::TooBig,
+        acts: Acts::RefuseAfter(Text::Asked(asked), to),
     }
 }

@@ -2,7 +2,7 @@
 ghost use Rattle.std.specs.Prelude.{◌≡◌, ◌<◌, [], length, slice_index_or, IfOk};
 ghost use Rattle.ots_cli.specs.Stamping.{IsStampAt};
 ghost use Rattle.ots_arguments.specs.Values.{texts};
-ghost use Rattle.ots_upgrade.specs.Stamped.{Gathers, IsSoundBelow, good_trees};
+ghost use Rattle.ots_upgrade.specs.Stamped.{GathersForm, IsSoundBelow, good_trees};
 
 use ots_address::Address;
 use ots_base::OutOfMemory;
@@ -28,7 +28,7 @@ pub struct Stamped<'a> {
     replies: Replies,
     files: Vec<&'a str>,
     batch: Batch,
-    good: Tree,
+    form: Tree,
 }
 
 impl<'a> Model for Stamped<'a> {
@@ -44,16 +44,16 @@ impl<'a> Model for Stamped<'a> {
       targets = s.batch;
     } };
 
-    ghost invariant = { λ s. KeepsStamped (texts s.files.items) s.batch s.replies.outcomes.items s.good };
+    ghost invariant = { λ s. KeepsStamped (texts s.files.items) s.batch s.replies.outcomes.items s.form };
 }
 
 impl<'a> Stamped<'a> {
     /// Files of a batch that were timestamped, where the good trees of all calendars are gathered in
-    /// one.
-    pub fn new(replies: Replies, files: Vec<&'a str>, batch: Batch, good: Tree) -> Stamped<'a>
+    /// one, and that is in canonical form.
+    pub fn new(replies: Replies, files: Vec<&'a str>, batch: Batch, form: Tree) -> Stamped<'a>
         requires count { length files.items ≡ length batch }
-        requires sound { IsSoundBelow batch good }
-        requires gathers { Gathers (good_trees replies.outcomes.items) good }
+        requires sound { IsSoundBelow batch form }
+        requires gathers { GathersForm (good_trees replies.outcomes.items) form }
         ensures { result ≡ record {
           calendars = replies.calendars.items;
           outcomes = replies.outcomes.items;
@@ -65,7 +65,7 @@ impl<'a> Stamped<'a> {
             replies,
             files,
             batch,
-            good,
+            form,
         }
     }
 
@@ -97,6 +97,6 @@ impl<'a> Stamped<'a> {
         requires { i < length self.now.files }
         ensures { IfOk result (IsStampAt self.now.targets (good_trees self.now.outcomes) i) }
     {
-        self.batch.proof(alloc, i, &self.good)
+        self.batch.proof_below(alloc, i, &self.form)
     }
 }

@@ -15,6 +15,7 @@ use crate::ending::{Acts, Ending};
 use crate::inputs::Submission;
 use crate::replies::{Replies, Stamped};
 use ots_base::OutOfMemory;
+use ots_canon::canon;
 use ots_client_text::Status;
 use ots_ops::Digest;
 use ots_outside::{Dialer, Failed, Nonces};
@@ -120,11 +121,12 @@ fn asked<'a, D: Dialer>(
 {
     let batch = Batch::new(alloc, targets)?;
     let outcomes = batch.ask(alloc, dialer, &submission.calendars)?;
-    answered(submission, batch, outcomes)
+    answered(alloc, submission, batch, outcomes)
 }
 
 /// How it ends that calendars were asked to timestamp files, by what came of asking each.
 fn answered<'a>(
+    alloc: Global,
     submission: Submission<'a>,
     batch: Batch,
     outcomes: Vec<Outcome>,
@@ -141,10 +143,13 @@ fn answered<'a>(
         outcomes,
     };
     match good {
-        Some(good) if got >= submission.least as usize => Ok(Ending {
-            status: Status::Done,
-            acts: Acts::MakeStamps(Stamped::new(replies, submission.files, batch, good)),
-        }),
+        Some(good) if got >= submission.least as usize => {
+            let form = canon(alloc, &good)?;
+            Ok(Ending {
+                status: Status::Done,
+                acts: Acts::MakeStamps(Stamped::new(replies, submission.files, batch, form)),
+            })
+        }
         _ => Ok(Ending {
             status: Status::TooFew {
                 got: got as u32,

@@ -12,9 +12,10 @@ use crate::names::Names;
 use crate::tokens::say_tree;
 use crate::trees::read;
 use crate::words::{split_bar, split_word};
-use ots_pending::{Pairs, are_sound_for, completed, has_bitcoin, pending_pairs};
+use ots_canon::equal;
+use ots_pending::{Pairs, are_sound_for, completed, completed_within, has_bitcoin, pending_pairs};
 use ots_row_words::Said;
-use ots_tree::{Detached, Tree};
+use ots_tree::{Detached, Tree, spelled_length};
 
 /// Answers a question about pairs.
 pub fn answer(names: &Names, text: &str, said: &mut Said) {
@@ -87,12 +88,23 @@ fn complete(names: &Names, text: &str, said: &mut Said) {
     }
 }
 
-/// Says a proof's tree with these trees at the places of its pairs.
+/// Says a proof's tree with these trees at the places of its pairs, where it is told within its own length and
+/// none within one byte less.
 fn say_completed(names: &Names, proof: &Detached, trees: &[Option<Tree>], said: &mut Said) {
     if let Ok(pairs) = pending_pairs(names.allocator(), proof)
         && trees.len() == pairs.len()
         && are_sound_for(&pairs, trees)
         && let Ok(tree) = completed(names.allocator(), proof, &pairs, trees)
+        && let Ok(most) = u32::try_from(spelled_length(&tree))
+        && let Ok(Some(told)) = completed_within(names.allocator(), proof, &pairs, trees, most)
+        && let Ok(true) = equal(names.allocator(), &told, &tree)
+        && let Ok(None) = completed_within(
+            names.allocator(),
+            proof,
+            &pairs,
+            trees,
+            most.saturating_sub(1),
+        )
     {
         say_tree(names, &tree, said);
     }

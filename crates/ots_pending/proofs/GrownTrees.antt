@@ -24,7 +24,7 @@ use Rattle.ots_pending.specs.Completed.{answer_to, paths_after, gained}
 use Rattle.ots_pending.specs.Grown.{forked, put, grown}
 use Rattle.ots_pending.proofs.Putting.{joined_pre}
 
-abbrev Messages : Type 0
+abbrev pub Messages : Type 0
 Messages = List (List ℕ)
 
 -- ---- the messages by their depths
@@ -33,13 +33,13 @@ first_of : (x : Option (List ℕ)) → slice_get (option_to_list x) 0 ≡ x
 first_of None = refl
 first_of (Some m) = refl
 
-after_depth : (f : List ℕ → Option (List ℕ)) (ms : Messages) (d : ℕ)
+pub after_depth : (f : List ℕ → Option (List ℕ)) (ms : Messages) (d : ℕ)
     → slice_get (take (suc d) ms ++ option_to_list (option_and_then f (slice_get ms d))) (suc d) ≡ option_and_then f (slice_get ms d)
 after_depth f [] d = refl
 after_depth f (m ∷ ms) zero = first_of (f m)
 after_depth f (m ∷ ms) (suc d) = after_depth f ms d
 
-up_to_depth : (f : List ℕ → Option (List ℕ)) (ms : Messages) (d : ℕ)
+pub up_to_depth : (f : List ℕ → Option (List ℕ)) (ms : Messages) (d : ℕ)
     → take (suc d) (take (suc d) ms ++ option_to_list (option_and_then f (slice_get ms d))) ≡ take (suc d) ms
 up_to_depth f [] d = refl
 up_to_depth f (m ∷ ms) zero = refl
@@ -56,16 +56,16 @@ taken_twice (m ∷ ms) zero = refl
 taken_twice (m ∷ ms) (suc d) = ap (λ (z : Messages). m ∷ z) (taken_twice ms d)
 
 -- up to depth d they are the same
-record Same (d : ℕ) (old new : Messages) : Type 0 where
-  is : take (suc d) new ≡ take (suc d) old
+pub record Same (d : ℕ) (old new : Messages) : Type 0 where
+  pub is : take (suc d) new ≡ take (suc d) old
 
-here_still : (d : ℕ) (old new : Messages) (m : Option (List ℕ)) → slice_get old d ≡ m → Same d old new → slice_get new d ≡ m
+pub here_still : (d : ℕ) (old new : Messages) (m : Option (List ℕ)) → slice_get old d ≡ m → Same d old new → slice_get new d ≡ m
 here_still d old new m here s = sym (at_depth_taken new d) ∙ ap (λ (z : Messages). slice_get z d) s.is ∙ at_depth_taken old d ∙ here
 
-same_above : (d : ℕ) (old new : Messages) → Same (suc d) old new → Same d old new
+pub same_above : (d : ℕ) (old new : Messages) → Same (suc d) old new → Same d old new
 same_above d old new s = record { is = sym (taken_twice new d) ∙ ap (λ (z : Messages). take (suc d) z) s.is ∙ taken_twice old d }
 
-cap-low : (d : ℕ) → d ≤ 255 → min d (2 ^ 32 - 1) ≡ d
+pub cap-low : (d : ℕ) → d ≤ 255 → min d (2 ^ 32 - 1) ≡ d
 cap-low d low = omega arith
 
 no_operation : (m : Option (List ℕ)) → option_and_then (value []) m ≡ m
@@ -78,39 +78,39 @@ first_operation o ops (Some x) = refl
 
 -- ---- an item with the items of a tree that was given for it
 
-abbrev last_with : Option Node → Item → Node
+abbrev pub last_with : Option Node → Item → Node
 last_with None i = last i
 last_with (Some t) i = joined t (last i)
 
-abbrev joined_with : Option Node → Node → Node
+abbrev pub joined_with : Option Node → Node → Node
 joined_with None u = u
 joined_with (Some t) u = joined t u
 
 -- its tokens, after a fork or not
-abbrev item_tokens : Bool → Option Node → Item → List Token
+abbrev pub item_tokens : Bool → Option Node → Item → List Token
 item_tokens b None i = pre_item i
 item_tokens false (Some t) i = forked t ++ pre_item i
 item_tokens true (Some t) i = pre_item i ++ forked t
 
-last_tokens : (a : Option Node) (i : Item) → item_tokens false a i ≡ pre (last_with a i)
+pub last_tokens : (a : Option Node) (i : Item) → item_tokens false a i ≡ pre (last_with a i)
 last_tokens None i = refl
 last_tokens (Some t) i = sym (joined_pre t (last i))
 
-more_tokens : (a : Option Node) (i : Item) (u : Node) → item_tokens true a i ++ pre u ≡ pre_item i ++ pre (joined_with a u)
+pub more_tokens : (a : Option Node) (i : Item) (u : Node) → item_tokens true a i ++ pre u ≡ pre_item i ++ pre (joined_with a u)
 more_tokens None i u = refl
 more_tokens (Some t) i u = append_assoc (pre_item i) (forked t) (pre u) ∙ ap (λ (z : List Token). pre_item i ++ z) (sym (joined_pre t u))
 
-put_attested : (b : Bool) (a : Attestation) (t : Option Node) → put b (token.Attestation a) t ≡ item_tokens b t (attested a)
+pub put_attested : (b : Bool) (a : Attestation) (t : Option Node) → put b (token.Attestation a) t ≡ item_tokens b t (attested a)
 put_attested false a None = refl
 put_attested true a None = refl
 put_attested false a (Some t) = refl
 put_attested true a (Some t) = refl
 
-put_none : (b : Bool) (x : Token) → put b x None ≡ x ∷ []
+pub put_none : (b : Bool) (x : Token) → put b x None ≡ x ∷ []
 put_none false x = refl
 put_none true x = refl
 
-no_answer : (b : Bool) (i : Item) → item_tokens b None i ≡ pre_item i
+pub no_answer : (b : Bool) (i : Item) → item_tokens b None i ≡ pre_item i
 no_answer false i = refl
 no_answer true i = refl
 
@@ -209,11 +209,11 @@ module _ (pairs : List PairAt) (given : List (Option Node)) where
   abbrev pub Gains : Option (List ℕ) → List Path → Path → Type 0
   Gains m ps p = Has ps p ⊎ HasGain m ps p
 
-  abbrev HasAnswer : Option Node → Path → Type 0
+  abbrev pub HasAnswer : Option Node → Path → Type 0
   HasAnswer None p = ⊥
   HasAnswer (Some t) p = Has (paths t) p
 
-  gains_append : (m : Option (List ℕ)) (ps qs : List Path) (p : Path) → (Gains m ps p ⊎ Gains m qs p) ↔ Gains m (ps ++ qs) p
+  pub gains_append : (m : Option (List ℕ)) (ps qs : List Path) (p : Path) → (Gains m ps p ⊎ Gains m qs p) ↔ Gains m (ps ++ qs) p
   gains_append m ps qs p = (
     λ h. elim h [
       | inl a ↦ elim a [
@@ -251,7 +251,7 @@ module _ (pairs : List PairAt) (given : List (Option Node)) where
       ap (λ (z : Option (List ℕ)). paths_after (o ∷ q.ops) (answer_to pairs given q.end z)) (first_operation o q.ops m)
       ∙ answer_before o q.ops (answer_to pairs given q.end (option_and_then (value q.ops) (option_and_then (apply o) m)))
 
-  gains_below : (o : Op) (m : Option (List ℕ)) (ps : List Path) (p : Path) → Gains (option_and_then (apply o) m) ps p → Gains m (map (below o) ps) (below o p)
+  pub gains_below : (o : Op) (m : Option (List ℕ)) (ps : List Path) (p : Path) → Gains (option_and_then (apply o) m) ps p → Gains m (map (below o) ps) (below o p)
   gains_below o m ps p (inl h) = inl (has_below o ps p h)
   gains_below o m ps p (inr g) = inr (record {
     from = below o g.from;
@@ -287,7 +287,7 @@ module _ (pairs : List PairAt) (given : List (Option Node)) where
   end_of a m p q (inl is) h = subst (λ (z : Path). Has (gained pairs given m z) p) (sym is) h
   end_of a m p q (inr none) h = absurd none
 
-  end_paths : (a : Attestation) (m : Option (List ℕ)) (p : Path) → (Has (paths_of_item (attested a)) p ⊎ HasAnswer (answer_to pairs given a m) p) ↔ Gains m (paths_of_item (attested a)) p
+  pub end_paths : (a : Attestation) (m : Option (List ℕ)) (p : Path) → (Has (paths_of_item (attested a)) p ⊎ HasAnswer (answer_to pairs given a m) p) ↔ Gains m (paths_of_item (attested a)) p
   end_paths a m p =
       let e = end_gain a m (answer_to pairs given a m) p refl in (
         λ h. elim h [
@@ -300,14 +300,14 @@ module _ (pairs : List PairAt) (given : List (Option Node)) where
         ],
       )
 
-  with_last : (a : Option Node) (i : Item) (p : Path) → Has (paths (last_with a i)) p ↔ (Has (paths_of_item i) p ⊎ HasAnswer a p)
+  pub with_last : (a : Option Node) (i : Item) (p : Path) → Has (paths (last_with a i)) p ↔ (Has (paths_of_item i) p ⊎ HasAnswer a p)
   with_last None i p = ((λ h. inl h), (λ h. elim h [ inl x ↦ x | inr y ↦ absurd y ]))
   with_last (Some t) i p = (
     (λ h. elim ((has_append (paths t) (paths_of_item i) p).1 (subst (λ (z : List Path). Has z p) (paths-joined t (last i)) h)) [ inl x ↦ inr x | inr y ↦ inl y ]),
     (λ h. subst (λ (z : List Path). Has z p) (sym (paths-joined t (last i))) ((has_append (paths t) (paths_of_item i) p).0 (elim h [ inl x ↦ inr x | inr y ↦ inl y ]))),
   )
 
-  with_more : (a : Option Node) (u : Node) (p : Path) → Has (paths (joined_with a u)) p ↔ (HasAnswer a p ⊎ Has (paths u) p)
+  pub with_more : (a : Option Node) (u : Node) (p : Path) → Has (paths (joined_with a u)) p ↔ (HasAnswer a p ⊎ Has (paths u) p)
   with_more None u p = ((λ h. inr h), (λ h. elim h [ inl x ↦ absurd x | inr y ↦ y ]))
   with_more (Some t) u p = (
     (λ h. (has_append (paths t) (paths u) p).1 (subst (λ (z : List Path). Has z p) (paths-joined t u) h)),

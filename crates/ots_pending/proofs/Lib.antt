@@ -7,7 +7,12 @@ mod Once
 mod FoundPairs
 mod Putting
 mod GrownTrees
+mod PartGrown
+mod Shorter
 mod Completion
 mod Askable
 mod SoundTrees
+mod Existing
+mod Within
+mod SameForms
 mod Fits

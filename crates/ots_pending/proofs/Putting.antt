@@ -14,7 +14,7 @@ use Rattle.ots_tree.specs.Wire.{Node, last, more, attested, pre, pre_item}
 use Rattle.ots_tree.proofs.Determined.{same_pre}
 use Rattle.ots_tree.proofs.Numbered.{beside_at, length-beside}
 use Rattle.ots_pending.specs.Pairs.{PairAt}
-use Rattle.ots_pending.specs.Grown.{forked, answer_at, put, is_fork, grown, IsReady, IsReadyAt, AreReady, AreReadyTo, AreTrees, IsTree, IsPairOf, Grows, last_first, turned, put_ready, tree_at}
+use Rattle.ots_pending.specs.Grown.{forked, answer_at, put, is_fork, grown, GrowsInPart, MayBe, IsReady, IsReadyAt, AreReady, AreReadyTo, AreTrees, IsTree, IsPairOf, IsPutFor, last_first, turned, put_ready, tree_at}
 use Rattle.ots_pending.proofs.Maps.{get_last, in_range}
 use Rattle.ots_pending.proofs.Lists.{some_same, none_some}
 
@@ -144,12 +144,32 @@ put_for pairs trees ready b x depth messages (Some i) all is given e =
     let h = all.each given e i is.pair (answer_at pairs given x depth messages) low is.place (is.answer given (given_long given trees e ∙ all.long)) in
     ready_or_not b x is.pair.pair.uri (answer_at pairs given x depth messages) (slice_get ready i) is.pending h
 
-pub grows : (pairs : List PairAt) (trees ready : List (Option (List Token))) (b : Bool) (x : Token) (depth : ℕ) (messages : List (List ℕ)) (place : Option ℕ)
-    (tree : Option (List Token)) (old new : List Token)
-    → IsPairOf pairs x depth messages place → tree ≡ tree_at ready place → new ≡ old ++ put_ready b x tree → AreReady pairs trees ready → Grows pairs trees x depth b messages old new
-grows pairs trees ready b x depth messages place tree old new is tree_is made all = record {
-  is = λ given e. made ∙ ap (λ (z : Option (List Token)). old ++ put_ready b x z) tree_is ∙ ap (λ (z : List Token). old ++ z) (put_for pairs trees ready b x depth messages place all is given e);
+-- what is put, with room or without
+pub record Puts (pairs : List PairAt) (given : List (Option Node)) (b : Bool) (x : Token) (depth : ℕ) (messages : List (List ℕ)) (tree : Option (List Token)) : Type 0 where
+  pub node : Option Node
+  pub may : MayBe (answer_at pairs given x depth messages) node
+  pub is : put_ready b x tree ≡ put b x node
+
+pub puts_whole : (pairs : List PairAt) (trees ready : List (Option (List Token))) (b : Bool) (x : Token) (depth : ℕ) (messages : List (List ℕ)) (room : Bool) (tree : Option (List Token))
+    → AreReady pairs trees ready → room ≡ true → IsPutFor pairs ready x depth messages room tree → (given : List (Option Node)) → map (option_map pre) given ≡ trees
+    → put_ready b x tree ≡ put b x (answer_at pairs given x depth messages)
+puts_whole pairs trees ready b x depth messages true tree all has_room h given e =
+    ap (put_ready b x) h.tree_is ∙ put_for pairs trees ready b x depth messages h.place all h.is given e
+puts_whole pairs trees ready b x depth messages false tree all has_room h given e = absurd cc
+
+pub puts : (pairs : List PairAt) (trees ready : List (Option (List Token))) (b : Bool) (x : Token) (depth : ℕ) (messages : List (List ℕ)) (room : Bool) (tree : Option (List Token))
+    → AreReady pairs trees ready → IsPutFor pairs ready x depth messages room tree → (given : List (Option Node)) → map (option_map pre) given ≡ trees
+    → Puts pairs given b x depth messages tree
+puts pairs trees ready b x depth messages true tree all h given e = record {
+  node = answer_at pairs given x depth messages;
+  may = inr refl;
+  is = puts_whole pairs trees ready b x depth messages true tree all refl h given e;
 }
+puts pairs trees ready b x depth messages false tree all h given e = record { node = None; may = inl refl; is = ap (put_ready b x) h ∙ none_put b x }
+  where
+    none_put : (b : Bool) (x : Token) → put_ready b x None ≡ put b x None
+    none_put false x = refl
+    none_put true x = refl
 
 -- ---- the loop
 
@@ -173,3 +193,27 @@ pub grown_ends : (pairs : List PairAt) (given : List (Option Node)) (tokens : Li
 grown_ends pairs given tokens depths i b messages made all same over walk =
     let none : drop i (beside tokens depths) ≡ [] = drop_all i (beside tokens depths) (omega (arith, length-beside tokens depths same)) in
     sym (append-nil made) ∙ ap (λ (z : List TokenAt). made ++ grown pairs given b messages z) (sym none) ∙ walk
+
+-- the same, where trees may be left out: whatever the tokens that are left become stands after what is made
+pub part_goes : (pairs : List PairAt) (given : List (Option Node)) (tokens : List Token) (depths : List ℕ) (i : ℕ) (b after : Bool) (x : Token) (messages next : List (List ℕ))
+    (tree : Option (List Token)) (made more_made : List Token) (All : List Token → Type 0)
+    → after ≡ is_fork x → length depths ≡ length tokens → i < length tokens → x ≡ get_or tokens i x
+    → Puts pairs given b x (get_or depths i 0) messages tree → more_made ≡ made ++ put_ready b x tree → next ≡ followed x (get_or depths i 0) messages
+    → ((others : List Token) → GrowsInPart pairs given b messages (drop i (beside tokens depths)) others → All (made ++ others))
+    → (others : List Token) → GrowsInPart pairs given after next (drop (i + 1) (beside tokens depths)) others → All (more_made ++ others)
+part_goes pairs given tokens depths i b after x messages next tree made more_made All after_is same in_range is puts put_is moved walk others h =
+    let d = get_or depths i 0 in
+    let rest = drop (i + 1) (beside tokens depths) in
+    let here : GrowsInPart pairs given (is_fork x) (followed x d messages) rest others =
+    subst (λ (z : List (List ℕ)). GrowsInPart pairs given (is_fork x) z rest others) moved (subst (λ (z : Bool). GrowsInPart pairs given z next rest others) after_is h) in
+    let one : GrowsInPart pairs given b messages (record { token = x; depth = d } ∷ rest) (put b x puts.node ++ others) =
+    record { tree = puts.node; others = others; may = puts.may; are = refl; follow = here } in
+    let all = walk (put b x puts.node ++ others) (subst (λ (z : List TokenAt). GrowsInPart pairs given b messages z (put b x puts.node ++ others)) (sym (beside_at tokens depths i x same in_range is)) one) in
+    subst All (sym (ap (λ (z : List Token). z ++ others) put_is ∙ append_assoc made (put_ready b x tree) others ∙ ap (λ (z : List Token). made ++ (z ++ others)) puts.is)) all
+
+pub part_ends : (pairs : List PairAt) (given : List (Option Node)) (tokens : List Token) (depths : List ℕ) (i : ℕ) (b : Bool) (messages : List (List ℕ)) (made : List Token) (All : List Token → Type 0)
+    → length depths ≡ length tokens → length tokens ≤ i
+    → ((others : List Token) → GrowsInPart pairs given b messages (drop i (beside tokens depths)) others → All (made ++ others)) → All made
+part_ends pairs given tokens depths i b messages made All same over walk =
+    let none : drop i (beside tokens depths) ≡ [] = drop_all i (beside tokens depths) (omega (arith, length-beside tokens depths same)) in
+    subst All (append-nil made) (walk [] (subst (λ (z : List TokenAt). GrowsInPart pairs given b messages z []) (sym none) refl))

@@ -1,6 +1,6 @@
 -- What completes a proof is sound for its digest.
-use Rattle.std.proofs.Common.{◌≡◌, ℕ, suc, ◌+◌, ◌≤◌, inl, inr, Bool, true, false, cond, List, [], ◌∷◌, ◌++◌, map, length, max, Option, Some, None, Result, Ok, Err, refl, sym, ap, subst, ◌∙◌, arith, length-append}
-use Rattle.std.specs.Prelude.{IfOk, IsSome, option_and_then, option_map}
+use Rattle.std.proofs.Common.{◌≡◌, ℕ, suc, ◌+◌, ◌≤◌, inl, inr, Bool, true, false, cond, List, [], ◌∷◌, ◌++◌, map, length, max, Option, Some, None, refl, sym, ap, subst, ◌∙◌, arith, length-append}
+use Rattle.std.specs.Prelude.{IsSome, option_and_then, option_map}
 use Rattle.std.specs.List.{AllByRecursion, flat_map, slice_get}
 use Rattle.ots_ops.specs.declared.op.Op.{Op}
 use Rattle.ots_ops.specs.ResultLength.{len}
@@ -63,19 +63,19 @@ stands_deep digest n (q ∷ ps) p uri m (inr h) end reached =
 
 -- ---- the tree for a pair
 
-record Gave (p : Pair) (qs : List PairAt) (given : List (Option Node)) (t : Node) : Type 0 where
-  place : ℕ
-  pair : PairAt
-  there : slice_get qs place ≡ Some pair
-  same : is_same p pair.pair ≡ true
-  gave : slice_get given place ≡ Some (Some t)
+pub record Gave (p : Pair) (qs : List PairAt) (given : List (Option Node)) (t : Node) : Type 0 where
+  pub place : ℕ
+  pub pair : PairAt
+  pub there : slice_get qs place ≡ Some pair
+  pub same : is_same p pair.pair ≡ true
+  pub gave : slice_get given place ≡ Some (Some t)
 
 by_test : (p : Pair) (q : PairAt) (qs : List PairAt) (u : Option Node) (given : List (Option Node)) (t : Node) (b : Bool) → is_same p q.pair ≡ b
     → (tree_for p qs given ≡ Some t → Gave p qs given t) → cond b u (tree_for p qs given) ≡ Some t → Gave p (q ∷ qs) (u ∷ given) t
 by_test p q qs u given t true e others h = record { place = 0; pair = q; there = refl; same = e; gave = ap (λ (z : Option Node). Some z) h }
 by_test p q qs u given t false e others h = let g = others h in record { place = suc g.place; pair = g.pair; there = g.there; same = g.same; gave = g.gave }
 
-gave : (p : Pair) (qs : List PairAt) (given : List (Option Node)) (t : Node) → tree_for p qs given ≡ Some t → Gave p qs given t
+pub gave : (p : Pair) (qs : List PairAt) (given : List (Option Node)) (t : Node) → tree_for p qs given ≡ Some t → Gave p qs given t
 gave p [] given t h = absurd (none_some t h)
 gave p (q ∷ qs) [] t h = absurd (none_some t h)
 gave p (q ∷ qs) (u ∷ given) t h = by_test p q qs u given t (is_same p q.pair) refl (gave p qs given t) h
@@ -102,7 +102,7 @@ all_after : (n k r : ℕ) (ops : List Op) (qs : List Path) → length ops ≤ k 
 all_after n k r ops [] low after h = tt
 all_after n k r ops (q ∷ qs) low after h = (one_after n k r ops q low after h.0, all_after n k r ops qs low after h.1)
 
-all_flat : (Q : Path → Type 0) (f : Path → List Path) (ps : List Path) → ((p : Path) → Has ps p → AllByRecursion Q (f p)) → AllByRecursion Q (flat_map f ps)
+pub all_flat : (Q : Path → Type 0) (f : Path → List Path) (ps : List Path) → ((p : Path) → Has ps p → AllByRecursion Q (f p)) → AllByRecursion Q (flat_map f ps)
 all_flat Q f [] h = tt
 all_flat Q f (p ∷ ps) h = all-append Q (f p) (flat_map f ps) (h p (inl refl)) (all_flat Q f ps (λ q has. h q (inr has)))
 
@@ -146,7 +146,7 @@ module _ (proof : Detached) (pairs : List PairAt) (trees : List (Option (List To
   pub gains_sound : AllByRecursion (IsSoundPath (length proof.digest) 0) (flat_map (gained pairs given (Some proof.digest)) (paths pairs_are.pending.node))
   gains_sound = all_flat (IsSoundPath (length proof.digest) 0) (gained pairs given (Some proof.digest)) (paths pairs_are.pending.node) (λ p has. by_end p p.end (value p.ops proof.digest) has refl refl)
 
-completed_sound : (proof : Detached) (pairs : List PairAt) (trees : List (Option (List Token))) (made : List Token) → ArePairs proof pairs → AreSoundFor pairs trees
+pub completed_sound : (proof : Detached) (pairs : List PairAt) (trees : List (Option (List Token))) (made : List Token) → ArePairs proof pairs → AreSoundFor pairs trees
     → IsSoundPre (length proof.digest) 0 proof.tree → IsCompleted proof pairs trees made → IsSoundPre (length proof.digest) 0 made
 completed_sound proof pairs trees made pairs_are sound tree h =
     let one : pairs_are.pending.node ≡ h.node = same_pre pairs_are.pending.node h.node (pairs_are.pending.tree ∙ sym h.tree) in
@@ -154,8 +154,3 @@ completed_sound proof pairs trees made pairs_are sound tree h =
     let old = sound_paths (length proof.digest) 0 proof.tree h.node h.tree tree in
     sound_tree (length proof.digest) 0 (paths h.node ++ flat_map (gained pairs h.given (Some proof.digest)) (paths h.node)) made
     (all-append (IsSoundPath (length proof.digest) 0) (paths h.node) (flat_map (gained pairs h.given (Some proof.digest)) (paths h.node)) old gains) h.form
-
-pub result_sound : {E : Type 0} (proof : Detached) (pairs : List PairAt) (trees : List (Option (List Token))) (r : Result (List Token) E) → ArePairs proof pairs → AreSoundFor pairs trees
-    → IsSoundPre (length proof.digest) 0 proof.tree → IfOk r (IsCompleted proof pairs trees) → IfOk r (IsSoundPre (length proof.digest) 0)
-result_sound proof pairs trees (Ok made) pairs_are sound tree h = completed_sound proof pairs trees made pairs_are sound tree h
-result_sound proof pairs trees (Err e) pairs_are sound tree h = h

@@ -1,7 +1,7 @@
 -- What the answers of calendars make of a proof (opentimestamps-client, otsclient/cmds.py,
 -- upgrade_timestamp: what a calendar answers for a pending attestation is merged at its place).
-use Rattle.std.specs.Prelude.{◌≡◌, ℕ, List, [], ◌∷◌, ◌++◌, map, length, Option, None, Some, option_map, option_and_then}
-use Rattle.std.specs.Prelude.{if◌then◌else◌}
+use Rattle.std.specs.Prelude.{◌≡◌, ◌≤◌, ◌<◌, ℕ, List, [], ◌∷◌, ◌++◌, map, length, Option, None, Some}
+use Rattle.std.specs.Prelude.{option_map, option_and_then, if◌then◌else◌}
 use Rattle.std.specs.List.{flat_map, slice_get}
 use Rattle.ots_ops.specs.declared.op.Op.{Op}
 use Rattle.ots_ops.specs.Value.{value}
@@ -11,7 +11,7 @@ use Rattle.ots_tree.specs.declared.token.Token.{Token}
 use Rattle.ots_tree.specs.declared.detached.Detached.{Detached}
 use Rattle.ots_tree.specs.Made.{after}
 use Rattle.ots_tree.specs.Sound.{IsSoundPre}
-use Rattle.ots_tree.specs.Wire.{Node, Path, paths, pre}
+use Rattle.ots_tree.specs.Wire.{Node, Path, paths, pre, spelled}
 use Rattle.ots_canon.specs.Canonical.{IsCanonTree}
 use Rattle.ots_pending.specs.Pairs.{Pair, PairAt, is_same}
 
@@ -57,3 +57,16 @@ IsSoundFor pairs i (Some ts) = (p : PairAt) → slice_get pairs i ≡ Some p →
 -- so is each tree that was given for a pair
 abbrev pub AreSoundFor : List PairAt → List (Option (List Token)) → Type 0
 AreSoundFor pairs trees = (i : ℕ) (tree : Option (List Token)) → slice_get trees i ≡ Some tree → IsSoundFor pairs i tree
+
+-- A tree is told where its spelling has at most so many bytes, and none where it has more.
+abbrev pub IsToldWithin : ℕ → List Token → Option (List Token) → Type 0
+IsToldWithin most made None = most < length (spelled made)
+IsToldWithin most made (Some tree) = (length (spelled made) ≤ most) × (tree ≡ made)
+
+-- A proof has a completed tree, which is sound for its digest, and this is told where it has at most so many bytes.
+pub record IsCompletedWithin (proof : Detached) (pairs : List PairAt) (trees : List (Option (List Token))) (most : ℕ)
+    (result : Option (List Token)) : Type 0 where
+  pub made : List Token
+  pub completed : IsCompleted proof pairs trees made
+  pub sound : IsSoundPre (length proof.digest) 0 made
+  pub told : IsToldWithin most made result

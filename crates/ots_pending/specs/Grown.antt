@@ -1,16 +1,17 @@
 -- How a walk puts the answers into a tree, token by token: for the code. What comes of it is said by
 -- IsCompleted.
-use Rattle.std.specs.Prelude.{◌≡◌, ℕ, ◌<◌, List, [], ◌∷◌, ◌++◌, map, length, Bool, true, false, Option, None, Some}
-use Rattle.std.specs.Prelude.{option_and_then, option_map, if◌then◌else◌}
+use Rattle.std.specs.Prelude.{◌≡◌, ◌⊎◌, ℕ, ◌-◌, ◌^◌, ◌<◌, min, List, [], ◌∷◌, ◌++◌, map, length, Bool, true, false}
+use Rattle.std.specs.Prelude.{IsTrue, Option, None, Some, option_and_then, option_map, if◌then◌else◌}
 use Rattle.std.specs.List.{slice_get}
 use Rattle.ots_attest.specs.declared.attestation.Attestation.TheVariants as attestation
 use Rattle.ots_tree.specs.declared.token.Token.{Token}
 use Rattle.ots_tree.specs.declared.token.Token.TheVariants as token
 use Rattle.ots_tree.specs.declared.token.TokenAt.{TokenAt}
 use Rattle.ots_tree.specs.PendingWalk.{followed}
-use Rattle.ots_tree.specs.Wire.{Node, last, more, pre, pre_item}
+use Rattle.ots_tree.specs.Wire.{Node, last, more, pre, pre_item, spelled}
 use Rattle.ots_pending.specs.Pairs.{PairAt}
 use Rattle.ots_pending.specs.Completed.{answer_to}
+use Rattle.ots_pending.specs.declared.growing.Growth.{Growth}
 use Rattle.ots_pending.specs.declared.path.Path.{Path}
 use Rattle.ots_pending.specs.OnPath.{HasNumber, AreNumbers}
 
@@ -43,6 +44,34 @@ grown pairs given b messages [] = []
 grown pairs given b messages (l ∷ ls) =
     put b l.token (answer_at pairs given l.token l.depth messages)
     ++ grown pairs given (is_fork l.token) (followed l.token l.depth messages) ls
+
+-- no tree, or this one
+abbrev pub MayBe : Option Node → Option Node → Type 0
+MayBe answer t = (t ≡ None) ⊎ (t ≡ answer)
+
+-- A token is the first of these, with the items of its answer or without, and others follow.
+pub record PutsFirst (b : Bool) (x : Token) (answer : Option Node) (Follow : List Token → Type 0)
+    (made : List Token) : Type 0 where
+  pub tree : Option Node
+  pub others : List Token
+  pub may : MayBe answer tree
+  pub are : made ≡ put b x tree ++ others
+  pub follow : Follow others
+
+-- What these tokens may become where the trees are put at some places of their pairs, and perhaps not at others.
+abbrev pub GrowsInPart : List PairAt → List (Option Node) → Bool → List (List ℕ) → List TokenAt → List Token → Type 0
+GrowsInPart pairs given b messages [] made = made ≡ []
+GrowsInPart pairs given b messages (l ∷ ls) made =
+    PutsFirst b l.token (answer_at pairs given l.token l.depth messages)
+    (λ others. GrowsInPart pairs given (is_fork l.token) (followed l.token l.depth messages) ls others) made
+
+-- A tree grew, in part, or whole where that is told.
+pub record Grows (pairs : List PairAt) (trees : List (Option (List Token))) (messages : List (List ℕ))
+    (ls : List TokenAt) (made : Growth) : Type 0 where
+  pub part : (given : List (Option Node)) → map (option_map pre) given ≡ trees
+      → GrowsInPart pairs given false messages ls made.tokens.items
+  pub whole : IsTrue made.is_whole → (given : List (Option Node)) → map (option_map pre) given ≡ trees
+      → made.tokens.items ≡ grown pairs given false messages ls
 
 -- Where a tree was given, one is ready whose tokens are its items and after them the pending attestation.
 abbrev pub IsReady : List ℕ → Option Node → Option (List Token) → Type 0
@@ -100,12 +129,6 @@ pub record KeepsPath (messages : List (List ℕ)) (old new : Path) : Type 0 wher
   pub same : new.messages ≡ old.messages
   pub numbers : AreNumbers messages new
 
--- A token was put after these, with the items of the tree that was given for it.
-pub record Grows (pairs : List PairAt) (trees : List (Option (List Token))) (x : Token) (depth : ℕ) (after_fork : Bool)
-    (messages : List (List ℕ)) (old new : List Token) : Type 0 where
-  pub is : (given : List (Option Node)) → map (option_map pre) given ≡ trees
-      → new ≡ old ++ put after_fork x (answer_at pairs given x depth messages)
-
 -- the last token first, where a fork stands before
 abbrev pub last_first : List Token → List Token → List Token
 last_first prefix [] = prefix
@@ -124,3 +147,21 @@ put_ready b x (Some ts) = turned b ts
 abbrev pub tree_at : List (Option (List Token)) → Option ℕ → Option (List Token)
 tree_at ready None = None
 tree_at ready (Some i) = option_and_then (λ r. r) (slice_get ready i)
+
+-- The tree that is put for a token, where there is room: the one that is ready for the pair it asks for.
+pub record IsReadyFor (pairs : List PairAt) (ready : List (Option (List Token))) (x : Token) (depth : ℕ)
+    (messages : List (List ℕ)) (tree : Option (List Token)) : Type 0 where
+  pub place : Option ℕ
+  pub is : IsPairOf pairs x depth messages place
+  pub tree_is : tree ≡ tree_at ready place
+
+-- Where there is none, no tree is put.
+abbrev pub IsPutFor : List PairAt → List (Option (List Token)) → Token → ℕ → List (List ℕ) → Bool
+    → Option (List Token) → Type 0
+IsPutFor pairs ready x depth messages true tree = IsReadyFor pairs ready x depth messages tree
+IsPutFor pairs ready x depth messages false tree = tree ≡ None
+
+-- how many bytes a tree is spelled in, where there is one, at most 2^64 - 1
+abbrev pub length_put : Option (List Token) → ℕ
+length_put None = 0
+length_put (Some ts) = min (length (spelled ts)) (2 ^ 64 - 1)

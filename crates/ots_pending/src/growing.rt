@@ -1,12 +1,12 @@
 //! Putting the trees that were given into a tree.
-ghost use Rattle.std.specs.Prelude.{◌≡◌, ◌++◌, ◌∷◌, [], ◌^◌, ◌<◌, List, map, length, false, option_map, OnOk, IfOk};
+ghost use Rattle.std.specs.Prelude.{◌≡◌, ◌++◌, ◌∷◌, [], ◌-◌, ◌^◌, List, length, option_map, OnOk, IfOk, IsTrue};
 ghost use Rattle.std.specs.Prelude.{Option};
 ghost use Rattle.std.specs.Option.{option_copied};
 ghost use Rattle.ots_tree.specs.Kept.{IsKept as IsKeptTree, beside};
 ghost use Rattle.ots_tree.specs.Wire.{Node, pre};
 ghost use Rattle.ots_tree.specs.declared.token.Token.{Token};
-ghost use Rattle.ots_pending.specs.Grown.{grown, is_fork, put_ready, tree_at, turned, AreReady, AreTrees, Grows};
-ghost use Rattle.ots_pending.specs.Grown.{IsReady, IsTree, KeepsPath};
+ghost use Rattle.ots_pending.specs.Grown.{is_fork, length_put, put_ready, tree_at, turned, AreReady, AreTrees, Grows};
+ghost use Rattle.ots_pending.specs.Grown.{IsPutFor, IsReady, IsTree, KeepsPath};
 ghost use Rattle.ots_pending.specs.Listed.{pairs_in, IsKept};
 ghost use Rattle.ots_pending.specs.OnPath.{AreNumbers};
 
@@ -18,11 +18,20 @@ use crate::walk::follow;
 use ots_attest::{Attestation, Uri};
 use ots_base::OutOfMemory;
 use ots_ops::Message;
-use ots_tree::{Token, Tree, beside, single};
+use ots_tree::{Token, Tree, beside, single, spelled_length};
 use std::alloc::Global;
 
+/// What a tree grew to.
+#[derive(Drop)]
+pub(crate) struct Growth {
+    /// The tokens.
+    pub(crate) tokens: Vec<Token>,
+    /// Whether there was room for all trees. If there was not, they stand at some of their places alone.
+    pub(crate) is_whole: bool,
+}
+
 /// The tokens of a tree with the items of the trees that were given at the places of their pairs, from
-/// a digest.
+/// a digest. No tree is put any more once those that were put are spelled in more bytes than `room`.
 pub(crate) fn grown(
     alloc: Global,
     tokens: &[Token],
@@ -30,48 +39,64 @@ pub(crate) fn grown(
     digest: Message,
     listing: &Listing,
     ready: &[Option<Tree>],
-) -> Result<Vec<Token>, OutOfMemory>
+    room: u64,
+) -> Result<Growth, OutOfMemory>
     requires tree { IsKeptTree tokens.now depths.now }
     requires kept { IsKept listing.now }
-    ensures { (trees : List (Option (List Token))) → AreReady (pairs_in listing.now) trees ready.now
-        → IfOk result (λ made.
-        (given : List (Option Node)) → map (option_map pre) given ≡ trees
-        → made.items ≡ grown (pairs_in listing.now) given false (digest ∷ []) (beside tokens.now depths.now)) }
+    ensures grows { (trees : List (Option (List Token))) → AreReady (pairs_in listing.now) trees ready.now
+        → IfOk result (Grows (pairs_in listing.now) trees (digest ∷ []) (beside tokens.now depths.now)) }
+    ensures free { room ≡ 2 ^ 64 - 1 → IfOk result (λ made. IsTrue made.is_whole) }
 {
     let mut made = Vec::with_capacity(alloc, tokens.len())?;
     let mut path = path_from(alloc, digest)?;
     let mut after_fork = false;
+    let mut length: u64 = 0;
     for (at, token) in tokens.iter().enumerate() {
         let depth = depths[at];
-        grow(
-            alloc, token, depth, after_fork, &mut path, listing, ready, &mut made,
-        )?;
+        let has_room = length <= room;
+        let tree = tree_for(alloc, token, depth, &mut path, listing, ready, has_room)?;
+        put(token, after_fork, tree, &mut made)?;
+        length = length.saturating_add(length_put(tree));
         after_fork = is_fork(token);
         follow(token, depth as usize, &mut path)?;
     }
-    Ok(made)
+    Ok(Growth {
+        tokens: made,
+        is_whole: length <= room,
+    })
 }
 
-/// Puts a token after those that are made, with the items of the tree that was given for it.
-fn grow(
+/// The tree that is put for a token at this depth, where there is one for it and room.
+fn tree_for<'a>(
     alloc: Global,
     token: &Token,
     depth: u32,
-    after_fork: bool,
     path: &mut Path,
     listing: &Listing,
-    ready: &[Option<Tree>],
-    made: &mut Vec<Token>,
-) -> Result<(), OutOfMemory>
+    ready: &'a [Option<Tree>],
+    has_room: bool,
+) -> Result<Option<&'a Tree>, OutOfMemory>
     requires kept { IsKept listing.now }
     requires numbers { AreNumbers listing.now.messages path.old }
     ensures path { KeepsPath listing.now.messages path.old path.new }
-    ensures grows { (trees : List (Option (List Token))) → AreReady (pairs_in listing.now) trees ready.now
-        → OnOk result (Grows (pairs_in listing.now) trees token.now depth after_fork path.old.messages made.old.items
-        made.new.items) }
+    ensures tree { IfOk result (λ tree. IsPutFor (pairs_in listing.now) ready.now token.now depth path.old.messages
+        has_room (option_copied tree)) }
 {
+    if !has_room {
+        return Ok(None);
+    }
     let place = pair_of(alloc, token, depth, path, listing)?;
-    put(token, after_fork, tree_at(ready, place), made)
+    Ok(tree_at(ready, place))
+}
+
+/// How many bytes a tree is spelled in, if there is one. A number over 2^64 - 1 is given as 2^64 - 1.
+fn length_put(tree: Option<&Tree>) -> u64
+    ensures { result ≡ length_put (option_copied tree.entry) }
+{
+    match tree {
+        Some(tree) => spelled_length(tree),
+        None => 0,
+    }
 }
 
 /// The tree that is ready at a place.

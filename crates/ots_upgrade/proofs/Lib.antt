@@ -1,4 +1,5 @@
 pub mod Conversing
+pub mod FormBelow
 pub mod Founded
 pub mod Gathered
 pub mod OneList
@@ -7,3 +8,4 @@ pub mod Pairwise
 pub mod Provable
 pub mod Questions
 pub mod WayLemmas
+pub mod WithinLimit

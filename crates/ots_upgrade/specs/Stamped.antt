@@ -11,7 +11,7 @@ use Rattle.ots_tree.specs.declared.detached.Detached.{Detached}
 use Rattle.ots_tree.specs.Made.{after, joined}
 use Rattle.ots_tree.specs.Sound.{IsSoundPre}
 use Rattle.ots_tree.specs.Wire.{Node, paths, pre}
-use Rattle.ots_canon.specs.Canonical.{IsCanonTree}
+use Rattle.ots_canon.specs.Canonical.{IsCanonOf, IsCanonTree}
 use Rattle.ots_merkle.specs.CalendarTree.{root}
 use Rattle.ots_upgrade.specs.declared.target.Target.{Target}
 use Rattle.ots_upgrade.specs.Outcome.{AreSound}
@@ -84,6 +84,12 @@ pub record Gathers (trees : List (List Token)) (made : List Token) : Type 0 wher
   pub is : pre node ≡ made
   pub joined_are : AreJoined nodes node
   pub paths_are : paths node ≡ flat_map paths nodes
+
+-- A canonical tree has the paths of all these: it is the canonical form of one that has their items.
+pub record GathersForm (trees : List (List Token)) (form : List Token) : Type 0 where
+  pub good : List Token
+  pub gathers : Gathers trees good
+  pub canon : IsCanonOf good form
 
 -- One tree has the items of all these, or there is none.
 abbrev pub GathersAny : List (List Token) → Option (List Token) → Type 0

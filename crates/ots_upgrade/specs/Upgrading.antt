@@ -1,6 +1,7 @@
 -- A proof that calendars are asked to complete (opentimestamps-client, otsclient/cmds.py, upgrade_timestamp: for each
 -- pending attestation its calendar is asked for the message that it stands on, and what is answered is merged there).
-use Rattle.std.specs.Prelude.{◌≡◌, ℕ, List, [], ◌∷◌, map, length, find, Option, None, Some, IfSome, is_some, bytes_eq}
+use Rattle.std.specs.Prelude.{◌≡◌, ◌≤◌, ◌<◌, ℕ, List, [], ◌∷◌, map, length, find, Option, None, Some, IfSome}
+use Rattle.std.specs.Prelude.{is_some, bytes_eq}
 use Rattle.std.specs.List.{filter_map}
 use Rattle.std.specs.Option.{option_map}
 use Rattle.ots_address.specs.Address.{AddressParts}
@@ -10,12 +11,14 @@ use Rattle.ots_pending.specs.Completed.{IsCompleted}
 use Rattle.ots_pending.specs.Pairs.{PairAt, ArePairs}
 use Rattle.ots_tree.specs.declared.token.Token.{Token}
 use Rattle.ots_tree.specs.declared.detached.Detached.{Detached}
+use Rattle.ots_tree.specs.Wire.{spelled}
 use Rattle.ots_upgrade.specs.Conversation.{Converse, ConverseUpTo, Question}
 use Rattle.ots_upgrade.specs.Outcome.{IsSoundOutcome}
 use Rattle.ots_upgrade.specs.declared.asking.AskedAt.{AskedAt}
 use Rattle.ots_upgrade.specs.declared.outcome.Outcome.{Outcome}
 use Rattle.ots_upgrade.specs.declared.outcome.Outcome.TheVariants as outcome
 use Rattle.ots_upgrade.specs.declared.upgrading.Upgraded.{Upgraded}
+use Rattle.ots_upgrade.specs.declared.upgrading.UpgradedWithin.{UpgradedWithin}
 
 -- ---- what is asked
 
@@ -89,6 +92,19 @@ pub record UpgradesProof {D : Type 0} (told : D → DialerTold) (faults : D → 
   pub digest : upgraded.proof.digest ≡ proof.digest
   pub tree : IsCompleted proof pairs (trees_of upgraded.asked) upgraded.proof.tree
 
+-- A proof is told where its tree is spelled in at most so many bytes, and none where it has more.
+abbrev pub IsProofWithin : ℕ → Detached → Option Detached → Type 0
+IsProofWithin most made None = most < length (spelled made.tree)
+IsProofWithin most made (Some proof) = (length (spelled made.tree) ≤ most) × (proof ≡ made)
+
+-- A proof was upgraded, and what it became is told where its tree is spelled in at most so many bytes.
+pub record UpgradesWithin {D : Type 0} (told : D → DialerTold) (faults : D → ℕ) (calendars : List AddressParts)
+    (proof : Detached) (most : ℕ) (old new : D) (within : UpgradedWithin) : Type 0 where
+  pub upgraded : Upgraded
+  pub upgrades : UpgradesProof told faults calendars proof old new upgraded
+  pub asked : within.asked ≡ upgraded.asked
+  pub told_within : IsProofWithin most upgraded.proof within.proof
+
 -- Memory ran out: some of what is asked for the pairs of a proof's pending paths was asked in order, the last of it
 -- perhaps in part.
 pub record UpgradesUpTo {D : Type 0} (told : D → DialerTold) (faults : D → ℕ) (calendars : List AddressParts)
@@ -98,6 +114,22 @@ pub record UpgradesUpTo {D : Type 0} (told : D → DialerTold) (faults : D → �
   pub conversed : ConverseUpTo told faults (questions calendars pairs) old new
 
 -- ---- for the code
+
+-- A proof of the same digest has a completed tree, and is told where this is spelled in at most so many bytes.
+pub record CompletesWithin (proof : Detached) (pairs : List PairAt) (trees : List (Option (List Token))) (most : ℕ)
+    (result : Option Detached) : Type 0 where
+  pub made : Detached
+  pub hash : made.hash ≡ proof.hash
+  pub digest : made.digest ≡ proof.digest
+  pub tree : IsCompleted proof pairs trees made.tree
+  pub told : IsProofWithin most made result
+
+-- the proof with another tree, if there is one
+abbrev pub HasTree : Detached → Option (List Token) → Option Detached → Type 0
+HasTree proof None None = Unit {0}
+HasTree proof None (Some made) = ⊥
+HasTree proof (Some tree) None = ⊥
+HasTree proof (Some tree) (Some made) = (made.hash ≡ proof.hash) × (made.digest ≡ proof.digest) × (made.tree ≡ tree)
 
 -- What came of a question, where there is one.
 abbrev pub AsksIf : {D : Type 0} → (D → DialerTold) → (D → ℕ) → Option Question → D → D → Option Outcome → Type 0

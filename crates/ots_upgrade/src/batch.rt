@@ -5,10 +5,10 @@ ghost use Rattle.ots_merkle.specs.CalendarTree.{path, root};
 ghost use Rattle.ots_tree.specs.declared.detached.Detached.{Detached as Proof};
 ghost use Rattle.ots_tree.specs.declared.token.Token.{Token};
 ghost use Rattle.ots_upgrade.specs.declared.target.Target.{Target};
-ghost use Rattle.ots_upgrade.specs.Batch.{IsCanonUnder};
 ghost use Rattle.ots_upgrade.specs.Conversation.{Converse, ConverseUpTo};
 ghost use Rattle.ots_upgrade.specs.Stamping.{to_stamp};
-ghost use Rattle.ots_upgrade.specs.Stamped.{AreSoundBelow, Gathers, IsSoundBelow, IsStampOf, leaf, leaves};
+ghost use Rattle.ots_upgrade.specs.Stamped.{AreSoundBelow, Gathers, GathersForm, IsSoundBelow, IsStampOf, leaf};
+ghost use Rattle.ots_upgrade.specs.Stamped.{leaves};
 ghost use Rattle.ots_upgrade.specs.Ways.{IsDepth};
 
 use crate::outcome::Outcome;
@@ -17,7 +17,7 @@ use crate::ways::{Ways, leaf_of};
 use ots_address::Address;
 use ots_base::OutOfMemory;
 use ots_canon::canon;
-use ots_ops::{Digest, HashOp, Op};
+use ots_ops::{Digest, HashOp};
 use ots_outside::Dialer;
 use ots_tree::{Detached, Tree, under};
 use std::alloc::Global;
@@ -114,9 +114,21 @@ impl Batch {
         ensures { IfOk result (λ proof. (t : Target) (trees : List (List Token)) → slice_get self.now i ≡ Some t
             → Gathers trees good.now → IsStampOf self.now i t trees proof) }
     {
+        let form = canon(alloc, good)?;
+        self.proof_below(alloc, i, &form)
+    }
+
+    /// The proof of one of the files, where the good trees are gathered in one and that is in canonical form:
+    /// it is copied below the file's operations. So the form is made once for all files.
+    pub fn proof_below(&self, alloc: Global, i: usize, form: &Tree) -> Result<Detached, OutOfMemory>
+        requires index { i < length self.now }
+        requires sound { IsSoundBelow self.now form.now }
+        ensures { IfOk result (λ proof. (t : Target) (trees : List (List Token)) → slice_get self.now i ≡ Some t
+            → GathersForm trees form.now → IsStampOf self.now i t trees proof) }
+    {
         let target = &self.targets[i];
         let ops = self.ways.way(alloc, i, &target.nonce)?;
-        let tree = canonical_under(alloc, ops.items(), good)?;
+        let tree = under(alloc, ops.items(), form.copy()?)?;
         Ok(Detached {
             hash: HashOp::Sha256,
             digest: target.digest,
@@ -141,12 +153,4 @@ fn target_leaf(target: &Target) -> [u8; 32]
     ensures { result ≡ leaf target.now }
 {
     leaf_of(target.digest.bytes(), &target.nonce)
-}
-
-/// The canonical form of a tree after operations.
-fn canonical_under(alloc: Global, ops: &[Op], good: &Tree) -> Result<Tree, OutOfMemory>
-    ensures { IfOk result (IsCanonUnder ops.now good.now) }
-{
-    let tree = under(alloc, ops, good.copy()?)?;
-    canon(alloc, &tree)
 }

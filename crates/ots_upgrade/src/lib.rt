@@ -9,6 +9,7 @@
 //! | [`Batch`] | files that are stamped together: their root, and the proof of each |
 //! | [`gather_good`] | the trees of all calendars in one |
 //! | [`upgrade_with`] | each calendar is asked for what the pending paths of a proof ask it for, and completes it |
+//! | [`upgrade_within`] | the same, where what it becomes is not longer than a limit |
 //! | [`AskedList`] | the pairs that were asked for, each an [`AskedAt`] with what came of it |
 //! | [`one_outcome`] | the law that a reply has one outcome |
 //! | [`one_list_of_pairs`] | the law that the pending paths of a proof ask for one list of pairs |
@@ -32,5 +33,5 @@ pub use laws::{one_list_of_pairs, one_outcome};
 pub use outcome::Outcome;
 pub use stamping::stamp_with;
 pub use target::Target;
-pub use upgrading::{Upgraded, upgrade_with};
+pub use upgrading::{Upgraded, UpgradedWithin, upgrade_with, upgrade_within};
 pub use ways::{Ways, leaf_of};

@@ -1,14 +1,16 @@
 //! Asking calendars to complete a proof.
-ghost use Rattle.std.specs.Prelude.{◌≡◌, ◌≤◌, ◌<◌, ℕ, List, [], ◌∷◌, length, Some, IfOk, OnErr};
+ghost use Rattle.std.specs.Prelude.{◌≡◌, ◌≤◌, ◌<◌, ℕ, List, [], ◌∷◌, length, Some, IfOk, IfSome, OnErr};
 ghost use Rattle.std.specs.List.{filter_map, slice_get};
 ghost use Rattle.std.specs.Option.{option_copied, option_map};
 ghost use Rattle.ots_base.specs.declared.limits.TheConstants.{MAX_OPERATIONS};
+ghost use Rattle.ots_ops.specs.HashOp.{digest_length};
 ghost use Rattle.ots_pending.specs.Completed.{AreSoundFor, IsCompleted};
 ghost use Rattle.ots_pending.specs.Pairs.{AreAskable, ArePairs, PairAt};
 ghost use Rattle.ots_tree.specs.Sound.{IsSoundPre};
 ghost use Rattle.ots_upgrade.specs.Conversation.{ConverseUpTo};
 ghost use Rattle.ots_upgrade.specs.Upgrading.{address_of, questions, to_get, tree_of, trees_of, AsksFor, AsksIf};
-ghost use Rattle.ots_upgrade.specs.Upgrading.{AsksUpTo, UpgradesProof, UpgradesUpTo};
+ghost use Rattle.ots_upgrade.specs.Upgrading.{AsksUpTo, CompletesWithin, HasTree, UpgradesProof, UpgradesUpTo};
+ghost use Rattle.ots_upgrade.specs.Upgrading.{UpgradesWithin};
 
 use crate::asking::{AskedAt, AskedList};
 use crate::conversation::converse;
@@ -19,7 +21,7 @@ use ots_base::OutOfMemory;
 use ots_http::Asked;
 use ots_ops::Message;
 use ots_outside::Dialer;
-use ots_pending::{Pairs, completed, pending_pairs};
+use ots_pending::{Pairs, completed, completed_within, pending_pairs};
 use ots_tree::{Detached, Shape, Tree, limits_of_detached};
 use std::alloc::Global;
 
@@ -63,6 +65,68 @@ pub fn upgrade_with<D: Dialer>(
         tree,
     };
     Ok(Upgraded { proof, asked })
+}
+
+/// What calendars were asked to complete a proof, and the new proof where it is not too long.
+#[derive(Drop)]
+pub struct UpgradedWithin {
+    /// The proof with all that they answered, or none where its tree is too long.
+    pub proof: Option<Detached>,
+    /// What came of asking for each pair of a URI and a message.
+    pub asked: AskedList,
+}
+
+/// Asks calendars as `upgrade_with` does, and completes the proof where the new tree is spelled in at most
+/// `most` bytes. A tree that is too long is mostly not made, and takes memory as `completed_within` of
+/// `ots_pending` says.
+pub fn upgrade_within<D: Dialer>(
+    alloc: Global,
+    dialer: &mut D,
+    calendars: &[Address],
+    proof: &Detached,
+    most: u32,
+) -> Result<UpgradedWithin, OutOfMemory>
+    ensures upgraded { IfOk result
+        (UpgradesWithin D.told D.faults calendars.now proof.now most dialer.old dialer.new) }
+    ensures broken_off { OnErr result (UpgradesUpTo D.told D.faults calendars.now proof.now dialer.old dialer.new) }
+{
+    one_list_of_pairs(proof);
+    let pairs = pending_pairs(alloc, proof)?;
+    let asked = ask_for_all(alloc, dialer, calendars, &pairs)?;
+    let proof = proof_within(alloc, proof, &pairs, asked.items(), most)?;
+    Ok(UpgradedWithin { proof, asked })
+}
+
+/// The proof that what came of asking for its pairs completes, where its tree is not too long.
+fn proof_within(
+    alloc: Global,
+    proof: &Detached,
+    pairs: &Pairs,
+    asked: &[AskedAt],
+    most: u32,
+) -> Result<Option<Detached>, OutOfMemory>
+    requires pairs { ArePairs proof.now pairs.now }
+    requires one_each { length (trees_of asked.now) ≡ length pairs.now }
+    requires sound { AreSoundFor pairs.now (trees_of asked.now) }
+    ensures { IfOk result (CompletesWithin proof.now pairs.now (trees_of asked.now) most) }
+{
+    limits_of_detached(proof);
+    let trees = good_trees(alloc, asked)?;
+    let tree = completed_within(alloc, proof, pairs, &trees, most)?;
+    Ok(with_tree(proof, tree))
+}
+
+/// The proof with another tree, if there is one.
+fn with_tree(proof: &Detached, tree: Option<Tree>) -> Option<Detached>
+    requires digest { length proof.now.digest ≡ digest_length proof.now.hash }
+    requires sound { IfSome tree (IsSoundPre (length proof.now.digest) 0) }
+    ensures { HasTree proof.now tree result }
+{
+    Some(Detached {
+        hash: proof.hash,
+        digest: proof.digest,
+        tree: tree?,
+    })
 }
 
 /// Asks for each pair in order.
