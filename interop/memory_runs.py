@@ -250,10 +250,10 @@ class Program:
             sys.exit(f'{self.path} is not built')
 
     def run(self, script, fails):
-        """Its status, what it wrote, and how many allocations it made, of which this one fails; none for 0."""
+        """Its status, what it wrote, and how many allocations it made where none fails; this one fails, or none for 0."""
         env = dict(os.environ, LD_PRELOAD=self.library, FAILS=str(fails))
         done = subprocess.run([self.path], input=script, env=env, capture_output=True, encoding='utf8', check=False)
-        return done.returncode, done.stdout, done.stderr
+        return done.returncode, done.stdout, len(done.stderr)
 
 
 def what_came(script, wanted, form, status, text):
@@ -271,11 +271,10 @@ def what_came(script, wanted, form, status, text):
 def run(name, program, script, form):
     """Prints what came of one run, and answers whether it was what is to come."""
     wanted = form.model(script)
-    status, text, counted = program.run(script, 0)
+    status, text, last = program.run(script, 0)
     if (status, text) != (0, wanted):
         print(f'{name}: NOT AS THE MODEL SAYS with enough memory:\n{text}')
         return False
-    last = int(counted.split()[-1])
     came = collections.Counter()
     for fails in range(1, last + 1):
         status, text, _ = program.run(script, fails)
