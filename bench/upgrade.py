@@ -6,8 +6,9 @@
 Nobody is asked, since no address of the list has their URI: many pairs of a URI and a message, many places of
 one pair, and many URIs at one message of 4096 bytes, of six characters and, so that most of them fit, of three;
 each at a quarter of its size and whole. Then a calendar that this script serves answers one message with a tree
-of almost 10,000 bytes, and the proof has that message at 64, 1,024 and 16,384 places: at 64 the result is a proof
-file, and at the others it is too big for one. PROGRAM is build/ots where none is given.
+of almost 10,000 bytes, and the proof has that message at 64, 1,024, 16,384 and 65,536 places: at 64 the result is a
+proof file, and at the others it is too big for one. Last, 100 and 400 messages of which each stands at 26 places, one
+below the other, and an answer that has the same branch at 26 places of that kind: what is put in coincides, and fits. PROGRAM is build/ots where none is given.
 """
 
 import http.server
@@ -62,6 +63,18 @@ def one_message(left, uri):
                    for piece in range(1, left + 1)])
 
 
+def below_each_other(item):
+    """The item, and again after each two operations `reverse`, which leave the message as it was: 26 times."""
+    tree = item
+    for _ in range(25):
+        tree = b'\xff' + item + b'\xf2\xf2' + tree
+    return tree
+
+
+def messages(count, uri):
+    return PREFIX + forked([b'\xf0\x02' + i.to_bytes(2, 'big') + below_each_other(end(uri)) for i in range(count)])
+
+
 def answer():
     """A tree of almost 10,000 bytes, most of whose tokens have one byte: 48 paths of 190 hashes each."""
     return forked([b'\xf0\x01' + bytes([i]) + b'\x08' * 190 + end(b'u') for i in range(48)])
@@ -69,7 +82,7 @@ def answer():
 
 class Calendar(http.server.BaseHTTPRequestHandler):
     def do_GET(self):
-        body = answer()
+        body = self.server.body
         self.send_response(200)
         self.send_header('Content-Length', str(len(body)))
         self.end_headers()
@@ -111,11 +124,16 @@ def main():
         for count in (69750, 279000):
             run(f'{count} URIs of three characters at it', short_uris(count), folder)
         server = http.server.HTTPServer(('127.0.0.1', 0), Calendar)
+        server.body = answer()
         threading.Thread(target=server.serve_forever, daemon=True).start()
         calendar = f'http://127.0.0.1:{server.server_port}'
-        for letters, expected in ((7, 1), (11, 8), (15, 8)):
+        for letters, expected in ((7, 1), (11, 8), (15, 8), (17, 8)):
             proof = PREFIX + one_message(letters, calendar.encode())
             run(f'an answer of {len(answer())} bytes at {2 ** (letters - 1)} places', proof, folder, calendar, expected)
+        server.body = below_each_other(b'\x08' * 150 + end(b'u'))
+        for count in (100, 400):
+            run(f'an answer of {len(server.body)} bytes to {count} messages, each at 26 places one below the other',
+                messages(count, calendar.encode()), folder, calendar)
 
 
 if __name__ == '__main__':
