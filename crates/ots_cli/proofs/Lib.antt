@@ -1,19 +1,5 @@
-mod Gathering
-mod Rewritten
-mod Carrying
-mod Outcome
+mod Hears
 mod OneAnswer
-mod Taken
-mod Yes
+mod Ran
 mod ReadsBack
-mod Asked
-mod Hashed
-mod Drawing
-mod Acts
-mod Counting
-mod OneStamp
-mod Submitted
-mod Completeness
-pub mod Short
-mod Sampled
-mod Chains
+mod Taken

@@ -1,34 +1,88 @@
 -- What is written reads back, and no other name changes.
-use Rattle.std.proofs.Common.{◌≡◌, ℕ, suc, List, [], ◌∷◌, Option, Some, None, inl, inr, refl, sym, ap, subst, ◌∙◌, ◌+◌, arith}
+use Rattle.std.proofs.Common.{◌≡◌, ℕ, zero, suc, List, [], ◌∷◌, Option, Some, None, inl, inr, refl, sym, ap, subst, ◌∙◌, ◌+◌, arith}
 use Rattle.std.specs.Prelude.{slice_get}
 use Rattle.std.specs.FinMap as map
-use Rattle.ots_outside.specs.Shelf.{Names}
-use Rattle.ots_ops.specs.declared.hash_op.HashOp.{HashOp}
-use Rattle.ots_tree.specs.declared.detached.Detached.{Detached}
+use Rattle.ots_base.specs.Cause.{Rose}
 use Rattle.ots_chain.specs.declared.pins.Pin.{Pin}
-use Rattle.ots_cli.specs.Chain.{ChecksChain, is_broken, pin_fails, is_whole}
-use Rattle.ots_headers.specs.HeaderTable.{Table}
-use Rattle.ots_detached.specs.File.{IsFileOf, file_of}
-use Rattle.ots_client_text.specs.declared.status.Status.{Status}
-use Rattle.ots_client_text.specs.declared.status.Status.TheVariants.{Done, No, Usage, BadProof, NoFile, Exists, ReadFault, WriteFault, TooBig, TooFew, NonceFault, FileTooLong, BadAddress, Differs, Broken, PinFails, OutOfMemory}
-use Rattle.ots_cli.specs.Ending.{Ending, makes, printing, prints}
-use Rattle.ots_cli.specs.Asking.{IsOffline, Outside}
-use Rattle.ots_cli.specs.Text.{asked_text}
-use Rattle.ots_client_text.specs.Status.{complete_status, verdict_status}
-use Rattle.ots_client_text.specs.Lines.{complete_text}
-use Rattle.ots_upgrade.specs.declared.asking.AskedAt.{AskedAt}
-use Rattle.ots_cli.specs.Answer.{Answers, AnswersAs, Comes, are_hashed, one_refused, is_list, is_bad, WritesAsked, asked_too_long, asked_made, as_defined, not_read, PrintsVerdict, RefusesInput, no_file, refuses, is_given, is_refused, WithPerhapsPins, WithPerhapsTable, WithProof, WithTable, WithTarget, Writes, too_long, is_made, Merges, differ, joined, VerifiesBy, VerifiesProof, VerifiesTarget}
-use Rattle.ots_cli.specs.CarriedOut.{CarriesOut, Ends, carried_out, no_memory}
+use Rattle.ots_checking.specs.Chain.{ChecksChain, is_broken, pin_fails, is_whole, WithPerhapsPins}
+use Rattle.ots_checking.specs.Verified.{PrintsVerdict, VerifiesBy, VerifiesProof, VerifiesTarget, WithPerhapsTable, WithTable, WithTarget}
+use Rattle.ots_cli.specs.Answer.{Answers, names_read}
+use Rattle.ots_cli.specs.Asking.{IsOffline}
+use Rattle.ots_cli.specs.ReadsBack.{IsOutput, IsOutputAsked, IsResultOf, ReadsBack}
+use Rattle.ots_client_endings.specs.CarriedOut.{CarriesOut, Ends, carried_out, no_memory}
+use Rattle.ots_client_endings.specs.Ending.{Ending, IsStampAt, makes, printing, prints}
+use Rattle.ots_client_endings.specs.Outcome.{IsDoneOrNo, Leaves}
+use Rattle.ots_client_endings.specs.Outside.{Outside}
+use Rattle.ots_client_endings.specs.Reading.{RefusesInput, no_file, refuses, is_given, is_refused, is_list, is_bad, WithProof}
+use Rattle.ots_client_endings.specs.Runs.{Comes, as_defined, not_read, Moment, Runs}
+use Rattle.ots_client_endings.specs.Writing.{Writes, too_long, is_made}
+use Rattle.ots_client_endings.proofs.Outcome.{EndsWith, IsPlain, MakesOnly, carried_leaves, carried_status, done_making, get_inserted, is_plain, keeps, made_done, never}
 use Rattle.ots_client_inputs.specs.Proof.{RefusesProof, too_big, bad_proof}
 use Rattle.ots_client_inputs.specs.Target.{RefusesTarget}
-use Rattle.ots_cli.specs.Stamping.{Stamps, calendars_text, no_nonce, stamp_acts, stamped, too_few}
-use Rattle.ots_client_text.specs.Lines.{proof_name}
+use Rattle.ots_client_text.specs.Lines.{complete_text, proof_name, wrote_text}
+use Rattle.ots_client_text.specs.Status.{complete_status, verdict_status}
+use Rattle.ots_client_text.specs.declared.status.Status.{Status}
+use Rattle.ots_client_text.specs.declared.status.Status.TheVariants.{Done, No, Usage, BadProof, NoFile, Exists, ReadFault, WriteFault, TooBig, TooFew, NonceFault, FileTooLong, BadAddress, Differs, Broken, PinFails, OutOfMemory}
+use Rattle.ots_client_words.specs.Words.{ClientCommand, HeaderFile, info, canon, merge, prune, verify, stamp, upgrade, sample, chain}
+use Rattle.ots_completing.specs.Upgrade.{WritesAsked, asked_too_long, asked_made, asked_text}
+use Rattle.ots_detached.specs.File.{IsFileOf, file_of}
+use Rattle.ots_headers.specs.HeaderTable.{Table}
+use Rattle.ots_inputs.specs.Opened.{StopsAt}
+use Rattle.ots_ops.specs.declared.hash_op.HashOp.{HashOp}
+use Rattle.ots_outside.specs.Shelf.{Names}
+use Rattle.ots_rewriting.specs.Merged.{Merges, differ, joined}
+use Rattle.ots_stamping.specs.Hashing.{are_hashed, one_refused}
+use Rattle.ots_stamping.specs.Stamp.{Stamps, calendars_text, no_nonce, stamp_acts, stamped, too_few}
+use Rattle.ots_tree.specs.declared.detached.Detached.{Detached}
 use Rattle.ots_tree.specs.declared.token.Token.{Token}
 use Rattle.ots_upgrade.specs.Stamped.{good_trees}
+use Rattle.ots_upgrade.specs.declared.asking.AskedAt.{AskedAt}
 use Rattle.ots_upgrade.specs.declared.target.Target.{Target}
-use Rattle.ots_cli.specs.ReadsBack.{IsDoneOrNo, IsOutput, IsOutputAsked, IsResultOf, Leaves, ReadsBack}
-use Rattle.ots_client_words.specs.Words.{ClientCommand, HeaderFile, info, canon, merge, prune, verify, stamp, upgrade, sample, chain}
-use Rattle.ots_cli.proofs.Outcome.{EndsWith, HasStamp, IsPlain, MakesOnly, carried_leaves, carried_status, done_making, get_inserted, is_plain, never, stamps_done}
+
+-- ---- the proofs of stamped files
+
+-- the proof of the file at this place
+abbrev HasStamp : List Target → List (List Token) → ℕ → List ℕ → Option Names → Type 0
+HasStamp targets trees i file new = (p : Detached) × IsStampAt targets trees i p × IsFileOf (file_of p) p × EndsWith new (proof_name file) (file_of p)
+
+-- the proof of the first file, or that of one after it
+after_stamp : (writing lost : Type 0) (s : Status) (targets : List Target) (trees : List (List Token)) (f : List ℕ) (files : List (List ℕ)) (i j : ℕ) (file : List ℕ) (names : Names)
+    (new : Option Names) (taken now : Option (List ℕ)) (r : Status) (p : Detached) → IsDoneOrNo r → slice_get (f ∷ files) j ≡ Some file → IsStampAt targets trees i p
+    → IsFileOf (file_of p) p
+    → ((k : ℕ) (mid : Option (List ℕ)) → slice_get files k ≡ Some file
+    → CarriesOut writing lost s (stamp_acts targets trees (suc i) files) (Some (map.insert names (proof_name f) (file_of p))) new mid now r → HasStamp targets trees (suc i + k) file new)
+    → CarriesOut writing lost s (prints (wrote_text f) ∷ stamp_acts targets trees (suc i) files) (Some (map.insert names (proof_name f) (file_of p))) new taken now r
+    → HasStamp targets trees (i + j) file new
+after_stamp writing lost s targets trees f files i j file names new taken now r p done at stamped_at is rest (inr prefix) =
+    absurd (never r WriteFault prefix.3 (λ clash. cc) (λ clash. cc) done)
+after_stamp writing lost s targets trees f files i zero file names new taken now r p done at stamped_at is rest (inl (mid, told, k)) =
+    let this : f ≡ file = cc in
+    let here : i ≡ i + 0 = omega arith in (
+      p,
+      subst (λ (z : ℕ). IsStampAt targets trees z p) here stamped_at,
+      is,
+      subst (λ (z : List ℕ). EndsWith new (proof_name z) (file_of p)) this
+          (keeps writing lost s (stamp_acts targets trees (suc i) files) (map.insert names (proof_name f) (file_of p)) (proof_name f) (file_of p) new mid now r done (get_inserted names (proof_name f) (file_of p)) k),
+    )
+after_stamp writing lost s targets trees f files i (suc j) file names new taken now r p done at stamped_at is rest (inl (mid, told, k)) =
+    let next : suc i + j ≡ i + suc j = omega arith in
+    subst (λ (z : ℕ). HasStamp targets trees z file new) next (rest j mid at k)
+
+stamps_done : (writing lost : Type 0) (s : Status) (targets : List Target) (trees : List (List Token)) (files : List (List ℕ)) (i j : ℕ) (file : List ℕ) (names : Names)
+    (new : Option Names) (taken now : Option (List ℕ)) (r : Status) → IsDoneOrNo r → slice_get files j ≡ Some file
+    → CarriesOut writing lost s (stamp_acts targets trees i files) (Some names) new taken now r → HasStamp targets trees (i + j) file new
+stamps_done writing lost s targets trees [] i j file names new taken now r done at h = absurd (let clash : None ≡ Some file = at in cc)
+stamps_done writing lost s targets trees (f ∷ files) i j file names new taken now r done at (inr (inl (p, stamped_at, long, same, inl last))) =
+    absurd (never r TooBig last.1 (λ clash. cc) (λ clash. cc) done)
+stamps_done writing lost s targets trees (f ∷ files) i j file names new taken now r done at (inr (inl (p, stamped_at, long, same, inr last))) =
+    absurd (never r WriteFault last.2 (λ clash. cc) (λ clash. cc) done)
+stamps_done writing lost s targets trees (f ∷ files) i j file names new taken now r done at (inr (inr none)) =
+    absurd (never r OutOfMemory none.2 (λ clash. cc) (λ clash. cc) done)
+stamps_done writing lost s targets trees (f ∷ files) i j file names new taken now r done at (inl (p, stamped_at, is, h)) =
+    made_done writing lost names (proof_name f) (file_of p)
+    (λ mid. CarriesOut writing lost s (prints (wrote_text f) ∷ stamp_acts targets trees (suc i) files) mid new taken now r) (HasStamp targets trees (i + j) file new) new taken now r done
+    (λ absent. after_stamp writing lost s targets trees f files i j file names new taken now r p done at stamped_at is
+    (λ k mid. stamps_done writing lost s targets trees files (suc i) k file (map.insert names (proof_name f) (file_of p)) new mid now r done)) h
 
 -- ---- an ending that was carried out with Done
 
@@ -39,9 +93,8 @@ module _ (writing lost : Type 0) (names : Names) (new : Option Names) (taken now
     | inl (inl same) ↦ never r t (same ∙ is) other too done
     | inl (inr (some, inl exists)) ↦ never r Exists exists (λ clash. cc) (λ clash. cc) done
     | inl (inr (some, inr long)) ↦ never r TooBig long (λ clash. cc) (λ clash. cc) done
-    | inr (inl fault) ↦ never r ReadFault fault (λ clash. cc) (λ clash. cc) done
-    | inr (inr (inl fault)) ↦ never r WriteFault fault (λ clash. cc) (λ clash. cc) done
-    | inr (inr (inr ran)) ↦ never r OutOfMemory ran (λ clash. cc) (λ clash. cc) done
+    | inr (inl (fault, is_fault)) ↦ never r WriteFault is_fault (λ clash. cc) (λ clash. cc) done
+    | inr (inr ran) ↦ never r OutOfMemory ran (λ clash. cc) (λ clash. cc) done
   ]
 
   -- it was not one that only prints another status
@@ -96,68 +149,82 @@ module _ (writing lost : Type 0) (names : Names) (new : Option Names) (taken now
   under_output a b bytes same h = subst (λ (z : List ℕ). EndsWith new z bytes) same (map.insert names a bytes, h, get_inserted names a bytes)
 
   -- under an output is the file of the result
-  back : (happens : Outside → Type 0) (o : Outside) → happens o → (c : ClientCommand) (to bytes : List ℕ) (r : Detached) → EndsWith new to bytes → IsFileOf bytes r
-      → IsResultOf o names c to r → ReadsBack happens names c to new
-  back happens o heard c to bytes r ends file is = (o, heard, ends.0, ends.1, bytes, ends.2, r, file, is)
+  back : (happens : Outside → Type 0) (c : ClientCommand) (to bytes : List ℕ) (r : Detached) → EndsWith new to bytes → IsFileOf bytes r
+      → IsResultOf happens names c to r → ReadsBack happens names c to new
+  back happens c to bytes r ends file is = (ends.0, ends.1, bytes, ends.2, r, file, is)
 
-  result : (happens : Outside → Type 0) (o : Outside) → happens o → (c : ClientCommand) (to : List ℕ) (e : Ending) → IsOutput c to → Answers o (Some names) (Some c) e
+  pub result : (happens : Outside → Type 0) (c : ClientCommand) (to : List ℕ) (e : Ending) → IsOutput c to → Answers happens (Some c) (Some names) e
       → CarriesOut writing lost e.status e.acts (Some names) new taken now r → ReadsBack happens names c to new
-  result happens o heard (info name) to e out a h = absurd out
-  result happens o heard (verify v) to e out a h = absurd out
-  result happens o heard (sample n) to e out a h = absurd out
-  result happens o heard (chain w) to e out a h = absurd out
-  result happens o heard (canon from w) to e out (is_refused a) h = absurd (not_refused from e a h)
-  result happens o heard (canon from w) to e out (is_given p (b, at, is) (q, made, writes)) h =
-      let x = written w q e writes h in back happens o heard (canon from w) to x.0 q (under_output w to x.0 out x.1) x.2 (b, at, (p, is, made))
-  result happens o heard (prune from w) to e out (is_refused a) h = absurd (not_refused from e a h)
-  result happens o heard (prune from w) to e out (is_given p (b, at, is) (q, made, writes)) h =
-      let x = written w q e writes h in back happens o heard (prune from w) to x.0 q (under_output w to x.0 out x.1) x.2 (b, at, (p, is, made))
-  result happens o heard (merge first second w) to e out (is_refused a) h = absurd (not_refused first e a h)
-  result happens o heard (merge first second w) to e out (is_given p (b, at, is) (is_refused a)) h = absurd (not_refused second e a h)
-  result happens o heard (merge first second w) to e out (is_given p (b, at, is) (is_given q (d, too, are) (differ other f))) h =
+  result happens (info name) to e out a h = absurd out
+  result happens (verify v) to e out a h = absurd out
+  result happens (sample n) to e out a h = absurd out
+  result happens (chain w) to e out a h = absurd out
+  result happens (canon from w) to e out (is_refused a) h = absurd (not_refused from e a h)
+  result happens (canon from w) to e out (is_given p (b, at, is) (q, made, writes)) h =
+      let x = written w q e writes h in back happens (canon from w) to x.0 q (under_output w to x.0 out x.1) x.2 (b, at, (p, is, made))
+  result happens (prune from w) to e out (is_refused a) h = absurd (not_refused from e a h)
+  result happens (prune from w) to e out (is_given p (b, at, is) (q, made, writes)) h =
+      let x = written w q e writes h in back happens (prune from w) to x.0 q (under_output w to x.0 out x.1) x.2 (b, at, (p, is, made))
+  result happens (merge first second w) to e out (is_refused a) h = absurd (not_refused first e a h)
+  result happens (merge first second w) to e out (is_given p (b, at, is) (is_refused a)) h = absurd (not_refused second e a h)
+  result happens (merge first second w) to e out (is_given p (b, at, is) (is_given q (d, too, are) (differ other f))) h =
       absurd (not_text e (Differs p.hash p.digest q.hash q.digest) _ f (λ clash. cc) (λ clash. cc) h)
-  result happens o heard (merge first second w) to e out (is_given p (b, at, is) (is_given q (d, too, are) (joined m made writes))) h =
-      let x = written w m e writes h in back happens o heard (merge first second w) to x.0 m (under_output w to x.0 out x.1) x.2 (b, at, (p, is, (d, too, (q, are, made))))
-  result happens o heard (upgrade u) to e out (is_bad place https bad f) h =
+  result happens (merge first second w) to e out (is_given p (b, at, is) (is_given q (d, too, are) (joined m made writes))) h =
+      let x = written w m e writes h in back happens (merge first second w) to x.0 m (under_output w to x.0 out x.1) x.2 (b, at, (p, is, (d, too, (q, are, made))))
+  result happens (upgrade u) to e out (o, heard, is_bad place https bad f) h =
       absurd (not_text e (BadAddress place https) _ f (λ clash. cc) (λ clash. cc) h)
-  result happens o heard (upgrade u) to e out (is_list calendars is (is_refused a)) h = absurd (not_refused u.proof e a h)
-  result happens o heard (upgrade u) to e out (is_list calendars is (is_given p (b, at, file) (asked, m, made, writes))) h =
+  result happens (upgrade u) to e out (o, heard, is_list calendars is (is_refused a)) h = absurd (not_refused u.proof e a h)
+  result happens (upgrade u) to e out (o, heard, is_list calendars is (is_given p (b, at, file) (asked, m, made, writes))) h =
       let x = written_asked asked u.to m e writes h in
-      back happens o heard (upgrade u) to x.0 m (under_output u.to to x.0 out x.1) x.2 (b, at, (p, file, calendars, is, asked, made))
-  result happens o heard (stamp w) to e out (is_bad place https bad f) h =
-      absurd (not_text e (BadAddress place https) _ f (λ clash. cc) (λ clash. cc) h)
-  result happens o heard (stamp w) to e out (is_list calendars is (one_refused a)) h = absurd (not_hashed a.name e a.refused h)
-  result happens o heard (stamp w) to e out (is_list calendars is (are_hashed digests hashed (no_nonce failed none f))) h =
-      absurd (not_text e NonceFault _ f (λ clash. cc) (λ clash. cc) h)
-  result happens o heard (stamp w) to e out (is_list calendars is (are_hashed digests hashed (too_few targets asked few f))) h =
-      absurd (not_done e (TooFew _ w.least) (ap (λ (z : Ending). z.status) f) (λ clash. cc) (λ clash. cc) h)
-  result happens o heard (stamp w) to e (i, file, at, named) (is_list calendars is (are_hashed digests hashed (stamped targets asked enough f))) h =
-      let x = stamps_written targets (good_trees o.outcomes) w.files i file (calendars_text calendars o.outcomes) at (subst (λ (z : Ending). CarriesOut writing lost z.status z.acts (Some names) new taken now r) f h) in
-      back happens o heard (stamp w) to (file_of x.0) x.0 (subst (λ (z : List ℕ). EndsWith new z (file_of x.0)) named x.3) x.2 (record {
+      back happens (upgrade u) to x.0 m (under_output u.to to x.0 out x.1) x.2 (record {
+        outside = o;
+        happened = heard;
         calendars = calendars;
         is_list = is;
-        digests = digests;
-        hashed = hashed;
-        targets = targets;
+        proof = p;
+        has_proof = (b, at, file);
         asked = asked;
-        enough = enough;
-        i = i;
-        file = file;
-        is_file = at;
-        is_name = named;
-        is_stamp = x.1;
+        is_upgrade = made;
       })
+  result happens (stamp w) to e out (o, heard, is_bad place https bad f) h =
+      absurd (not_text e (BadAddress place https) _ f (λ clash. cc) (λ clash. cc) h)
+  result happens (stamp w) to e out (o, heard, is_list calendars is (one_refused a)) h = absurd (not_hashed a.name e a.refused h)
+  result happens (stamp w) to e out (o, heard, is_list calendars is (are_hashed digests hashed (no_nonce failed none f))) h =
+      absurd (not_text e NonceFault _ f (λ clash. cc) (λ clash. cc) h)
+  result happens (stamp w) to e out (o, heard, is_list calendars is (are_hashed digests hashed (too_few targets asked few f))) h =
+      absurd (not_done e (TooFew _ w.least) (ap (λ (z : Ending). z.status) f) (λ clash. cc) (λ clash. cc) h)
+  result happens (stamp w) to e (i, file, at, named) (o, heard, is_list calendars is (are_hashed digests hashed (stamped targets asked enough f))) h =
+      let x = stamps_written targets (good_trees o.outcomes) w.files i file (calendars_text calendars o.outcomes) at (subst (λ (z : Ending). CarriesOut writing lost z.status z.acts (Some names) new taken now r) f h) in
+      back happens (stamp w) to (file_of x.0) x.0 (subst (λ (z : List ℕ). EndsWith new z (file_of x.0)) named x.3) x.2 (
+        o,
+        heard,
+        record {
+          calendars = calendars;
+          is_list = is;
+          digests = digests;
+          hashed = hashed;
+          targets = targets;
+          asked = asked;
+          enough = enough;
+          i = i;
+          file = file;
+          is_file = at;
+          is_name = named;
+          is_stamp = x.1;
+        },
+      )
 
-pub reads_back : (happens : Outside → Type 0) (names : Names) (c : ClientCommand) (to : List ℕ) → IsOutput c to → (old new : Option Names) (command : Option ClientCommand)
-    (stops_at : List ℕ → Type 0) (writing lost : Type 0) (taken now : Option (List ℕ)) (r : Status) → old ≡ Some names → command ≡ Some c → IsDoneOrNo r
-    → Ends (Comes (AnswersAs happens old command) stops_at) writing lost old new taken now r → ReadsBack happens names c to new
-reads_back happens names c to out old new command stops_at writing lost taken now r told asks done h =
-    here (subst (λ (z : Option Names). Ends (Comes (AnswersAs happens z command) stops_at) writing lost z new taken now r) told h) where
-      here : Ends (Comes (AnswersAs happens (Some names) command) stops_at) writing lost (Some names) new taken now r → ReadsBack happens names c to new
+pub reads_back : (happens : Outside → Type 0) (names : Names) (c : ClientCommand) (to : List ℕ) → IsOutput c to → (old new : Moment) (r : Status) → old.shelf.names ≡ Some names → IsDoneOrNo r
+    → Runs (Answers happens (Some c)) (names_read (Some c)) old new r → ReadsBack happens names c to new.shelf.names
+reads_back happens names c to out old new r told done h =
+    here (subst (λ (z : Option Names). Ends (Comes (Answers happens (Some c) z) (StopsAt (names_read (Some c)) old.shelf.opened new.shelf.opened old.faults new.faults))
+    (Rose old.faults.writing new.faults.writing) (Rose old.lost new.lost) z new.shelf.names old.taken new.taken r) told h.ends) where
+      here : {stops_at : List ℕ → Type 0} {writing lost : Type 0} → Ends (Comes (Answers happens (Some c) (Some names)) stops_at) writing lost (Some names) new.shelf.names old.taken new.taken r
+          → ReadsBack happens names c to new.shelf.names
       here (no_memory ran same kept) = absurd (never r OutOfMemory ran (λ clash. cc) (λ clash. cc) done)
-      here (carried_out e (as_defined (o, heard, a)) k) =
-          result writing lost names new taken now r done happens o heard c to e out (subst (λ (z : Option ClientCommand). Answers o (Some names) z e) asks a) k
-      here (carried_out e (not_read name stops is) k) = absurd (not_text writing lost names new taken now r done e ReadFault _ is (λ clash. cc) (λ clash. cc) k)
+      here {writing = writing} {lost = lost} (carried_out e (as_defined a) k) = result writing lost names new.shelf.names old.taken new.taken r done happens c to e out a k
+      here {writing = writing} {lost = lost} (carried_out e (not_read name stops is) k) =
+          absurd (not_text writing lost names new.shelf.names old.taken new.taken r done e ReadFault _ is (λ clash. cc) (λ clash. cc) k)
 
 -- ---- which names are made
 
@@ -247,25 +314,25 @@ only_chain t pins e (is_broken height fault is f) = only_text none none e (Broke
 only_chain t pins e (pin_fails first last tip height is fails f) = only_text none none e (PinFails height) _ f
 only_chain t pins e (is_whole first last tip is all f) = only_text none none e Done _ f
 
-makes_only : (o : Outside) (told : Option Names) (c : Option ClientCommand) (e : Ending) → Answers o told c e → MakesOnly (IsOutputAsked c) (IsStampAsked c) e.acts
-makes_only o told None e a = only_text none none e Usage _ a
-makes_only o told (Some (info name)) e a = only_proof none none told name _ e (λ p printed. only_text none none e Done _ printed.2) a
-makes_only o told (Some (canon from to)) e a = only_proof (λ name. to ≡ name) none told from _ e (λ p made. only_written (λ name. to ≡ name) none to made.0 e refl made.2) a
-makes_only o told (Some (merge first second to)) e a =
+makes_only : (happens : Outside → Type 0) (told : Option Names) (c : Option ClientCommand) (e : Ending) → Answers happens c told e → MakesOnly (IsOutputAsked c) (IsStampAsked c) e.acts
+makes_only happens told None e a = only_text none none e Usage _ a
+makes_only happens told (Some (info name)) e a = only_proof none none told name _ e (λ p printed. only_text none none e Done _ printed.2) a
+makes_only happens told (Some (canon from to)) e a = only_proof (λ name. to ≡ name) none told from _ e (λ p made. only_written (λ name. to ≡ name) none to made.0 e refl made.2) a
+makes_only happens told (Some (merge first second to)) e a =
     only_proof (λ name. to ≡ name) none told first _ e (λ p. only_proof (λ name. to ≡ name) none told second _ e (λ q. only_merged (λ name. to ≡ name) none to p q e refl)) a
-makes_only o told (Some (prune from to)) e a = only_proof (λ name. to ≡ name) none told from _ e (λ p made. only_written (λ name. to ≡ name) none to made.0 e refl made.2) a
-makes_only o told (Some (verify v)) e a =
+makes_only happens told (Some (prune from to)) e a = only_proof (λ name. to ≡ name) none told from _ e (λ p made. only_written (λ name. to ≡ name) none to made.0 e refl made.2) a
+makes_only happens told (Some (verify v)) e a =
     only_table none none told v.bitcoin (VerifiesBy told v) e
     (λ b. only_perhaps none none told v.litecoin (VerifiesProof told v b) e
     (λ l. only_proof none none told v.proof (VerifiesTarget told v.target b l) e (λ p. only_target none none told v.target p.hash p b l e))) a
-makes_only o told (Some (sample n)) e a = only_text none none e (verdict_status a.0.verdict) _ a.2
-makes_only o told (Some (chain w)) e a = only_table none none told w.headers _ e (λ t. only_perhaps_pins told w.pins _ e (λ pins. only_chain t pins e)) a
-makes_only o told (Some (upgrade u)) e (is_bad place https bad f) = only_text (λ name. u.to ≡ name) none e (BadAddress place https) _ f
-makes_only o told (Some (upgrade u)) e (is_list calendars is a) =
+makes_only happens told (Some (sample n)) e a = only_text none none e (verdict_status a.0.verdict) _ a.2
+makes_only happens told (Some (chain w)) e a = only_table none none told w.headers _ e (λ t. only_perhaps_pins told w.pins _ e (λ pins. only_chain t pins e)) a
+makes_only happens told (Some (upgrade u)) e (o, heard, is_bad place https bad f) = only_text (λ name. u.to ≡ name) none e (BadAddress place https) _ f
+makes_only happens told (Some (upgrade u)) e (o, heard, is_list calendars is a) =
     only_proof (λ name. u.to ≡ name) none told u.proof _ e (λ p made. only_asked (λ name. u.to ≡ name) none made.0 u.to made.1 e refl made.3) a
-makes_only o told (Some (stamp s)) e (is_bad place https bad f) = only_text (IsOutput (stamp s)) (IsOutput (stamp s)) e (BadAddress place https) _ f
-makes_only o told (Some (stamp s)) e (is_list calendars is (one_refused h)) = only_refused (IsOutput (stamp s)) (IsOutput (stamp s)) e h.refused
-makes_only o told (Some (stamp s)) e (is_list calendars is (are_hashed digests hashed h)) = of_stamps h
+makes_only happens told (Some (stamp s)) e (o, heard, is_bad place https bad f) = only_text (IsOutput (stamp s)) (IsOutput (stamp s)) e (BadAddress place https) _ f
+makes_only happens told (Some (stamp s)) e (o, heard, is_list calendars is (one_refused h)) = only_refused (IsOutput (stamp s)) (IsOutput (stamp s)) e h.refused
+makes_only happens told (Some (stamp s)) e (o, heard, is_list calendars is (are_hashed digests hashed h)) = of_stamps h
   where
     of_stamps : Stamps o s.least s.files calendars digests e → MakesOnly (IsOutput (stamp s)) (IsOutput (stamp s)) e.acts
     of_stamps (no_nonce failed nobody f) = only_text (IsOutput (stamp s)) (IsOutput (stamp s)) e NonceFault _ f
@@ -273,17 +340,18 @@ makes_only o told (Some (stamp s)) e (is_list calendars is (are_hashed digests h
     of_stamps (stamped targets asked enough f) = subst (λ (z : Ending). MakesOnly (IsOutput (stamp s)) (IsOutput (stamp s)) z.acts) (sym f)
         (only_stamps (IsOutput (stamp s)) targets (good_trees o.outcomes) 0 s.files (λ j file at. (j, file, at, refl)))
 
-pub offline_plain : (o : Outside) (told : Option Names) (c : Option ClientCommand) (e : Ending) → IsOffline c → Answers o told c e → IsPlain e.acts
-offline_plain o told c e offline a = is_plain (IsOutputAsked c) (IsStampAsked c) (none_stamped c offline) e.acts (makes_only o told c e a)
+pub offline_plain : (happens : Outside → Type 0) (told : Option Names) (c : Option ClientCommand) (e : Ending) → IsOffline c → Answers happens c told e → IsPlain e.acts
+offline_plain happens told c e offline a = is_plain (IsOutputAsked c) (IsStampAsked c) (none_stamped c offline) e.acts (makes_only happens told c e a)
 
-pub leaves_others : (happens : Outside → Type 0) (names : Names) (old new : Option Names) (command : Option ClientCommand) (stops_at : List ℕ → Type 0) (writing lost : Type 0)
-    (taken now : Option (List ℕ)) (r : Status) → old ≡ Some names → Ends (Comes (AnswersAs happens old command) stops_at) writing lost old new taken now r
-    → Leaves names (IsOutputAsked command) new
-leaves_others happens names old new command stops_at writing lost taken now r told h =
-    here (subst (λ (z : Option Names). Ends (Comes (AnswersAs happens z command) stops_at) writing lost z new taken now r) told h) where
-      here : Ends (Comes (AnswersAs happens (Some names) command) stops_at) writing lost (Some names) new taken now r → Leaves names (IsOutputAsked command) new
+pub leaves_others : (happens : Outside → Type 0) (names : Names) (c : Option ClientCommand) (old new : Moment) (r : Status) → old.shelf.names ≡ Some names
+    → Runs (Answers happens c) (names_read c) old new r → Leaves names (IsOutputAsked c) new.shelf.names
+leaves_others happens names c old new r told h =
+    here (subst (λ (z : Option Names). Ends (Comes (Answers happens c z) (StopsAt (names_read c) old.shelf.opened new.shelf.opened old.faults new.faults))
+    (Rose old.faults.writing new.faults.writing) (Rose old.lost new.lost) z new.shelf.names old.taken new.taken r) told h.ends) where
+      here : {stops_at : List ℕ → Type 0} {writing lost : Type 0} → Ends (Comes (Answers happens c (Some names)) stops_at) writing lost (Some names) new.shelf.names old.taken new.taken r
+          → Leaves names (IsOutputAsked c) new.shelf.names
       here (no_memory ran same kept) = (names, same, λ name other. refl)
-      here (carried_out e (as_defined (o, heard, a)) k) =
-          carried_leaves writing lost e.status e.acts names (IsOutputAsked command) (IsStampAsked command) new taken now r (makes_only o (Some names) command e a) k
-      here (carried_out e (not_read name stops is) k) =
-          carried_leaves writing lost e.status e.acts names (IsOutputAsked command) none new taken now r (only_text (IsOutputAsked command) none e ReadFault _ is) k
+      here {writing = writing} {lost = lost} (carried_out e (as_defined a) k) =
+          carried_leaves writing lost e.status e.acts names (IsOutputAsked c) (IsStampAsked c) new.shelf.names old.taken new.taken r (makes_only happens (Some names) c e a) k
+      here {writing = writing} {lost = lost} (carried_out e (not_read name stops is) k) =
+          carried_leaves writing lost e.status e.acts names (IsOutputAsked c) none new.shelf.names old.taken new.taken r (only_text (IsOutputAsked c) none e ReadFault _ is) k

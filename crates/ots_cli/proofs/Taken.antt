@@ -1,29 +1,37 @@
 -- What a status says of the proofs that a command reads.
 use Rattle.std.proofs.Common.{◌≡◌, ◌⊎◌, ℕ, true, false, List, [], ◌∷◌, Option, Some, None, inl, inr, sym, ap, subst, ◌∙◌}
-use Rattle.ots_outside.specs.Shelf.{Names}
-use Rattle.ots_ops.specs.declared.hash_op.HashOp.{HashOp}
-use Rattle.ots_tree.specs.declared.detached.Detached.{Detached}
-use Rattle.ots_headers.specs.HeaderTable.{Table}
-use Rattle.ots_verdicts.specs.declared.verdicts.Verdict.{Verdict}
-use Rattle.ots_verdicts.specs.declared.verdicts.Verdict.TheVariants.{Yes, NoDigest, NoPath}
+use Rattle.ots_address.specs.Address.{AddressParts}
+use Rattle.ots_chain.specs.declared.pins.Pin.{Pin}
+use Rattle.ots_checking.specs.Chain.{ChecksChain, is_broken, pin_fails, is_whole, WithPerhapsPins, WithPins}
+use Rattle.ots_checking.specs.Verified.{PrintsVerdict, VerifiesBy, VerifiesProof, VerifiesTarget, WithPerhapsTable, WithTable, WithTarget}
+use Rattle.ots_cli.specs.Answer.{Answers, names_read}
+use Rattle.ots_cli.specs.Taken.{IsProof, TakesProofs, proofs_read}
+use Rattle.ots_client_endings.specs.Ending.{Ending, makes, printing}
+use Rattle.ots_client_endings.specs.Outcome.{Excused}
+use Rattle.ots_client_endings.specs.Outside.{Outside}
+use Rattle.ots_client_endings.specs.Reading.{RefusesInput, no_file, refuses, is_given, is_refused, is_list, is_bad, WithProof}
+use Rattle.ots_client_endings.specs.Runs.{Moment, Runs}
+use Rattle.ots_client_endings.specs.Writing.{Writes, too_long, is_made}
+use Rattle.ots_client_endings.proofs.Outcome.{MayEnd, only_prints, outcome}
+use Rattle.ots_client_inputs.specs.Headers.{cut, too_many}
+use Rattle.ots_client_inputs.specs.Proof.{too_big, bad_proof}
+use Rattle.ots_client_inputs.specs.Target.{RefusesTarget}
+use Rattle.ots_client_text.specs.Status.{verdict_status}
 use Rattle.ots_client_text.specs.declared.status.Status.{Status}
 use Rattle.ots_client_text.specs.declared.status.Status.TheVariants.{Done, No, Usage, BadProof, NoFile, Exists, ReadFault, WriteFault, TooBig, BadHeaders, TooFew, NonceFault, FileTooLong, BadAddress, Differs, Broken, BadPins, PinFails, OutOfMemory}
-use Rattle.ots_cli.specs.Ending.{Ending, makes, printing}
-use Rattle.ots_cli.specs.Answer.{Answers, AnswersAs, Comes, RefusesInput, WithHashes, are_hashed, one_refused, is_list, is_bad, WritesAsked, asked_too_long, asked_made, no_file, refuses, is_given, is_refused, PrintsInfo, WithProof, WithPins, WithPerhapsPins, WithTable, WithPerhapsTable, WithTarget, PrintsVerdict, Writes, too_long, is_made, Merges, differ, joined, VerifiesProof, VerifiesTarget, VerifiesBy}
-use Rattle.ots_cli.specs.Asking.{Outside}
-use Rattle.ots_address.specs.Address.{AddressParts}
-use Rattle.ots_cli.specs.Stamping.{Stamps, no_nonce, stamped, too_few}
-use Rattle.ots_upgrade.specs.declared.asking.AskedAt.{AskedAt}
-use Rattle.ots_cli.specs.CarriedOut.{Ends}
-use Rattle.ots_cli.specs.Chain.{ChecksChain, is_broken, pin_fails, is_whole}
-use Rattle.ots_chain.specs.declared.pins.Pin.{Pin}
-use Rattle.ots_cli.proofs.Outcome.{Failed, MayEnd, only_prints, outcome}
-use Rattle.ots_client_inputs.specs.Target.{RefusesTarget}
-use Rattle.ots_client_inputs.specs.Proof.{too_big, bad_proof}
-use Rattle.ots_client_inputs.specs.Headers.{cut, too_many}
-use Rattle.ots_cli.specs.Taken.{IsProof, TakesProofs, proofs_read}
-use Rattle.ots_client_text.specs.Status.{verdict_status}
 use Rattle.ots_client_words.specs.Words.{ClientCommand, HeaderFile, info, canon, merge, prune, verify, stamp, upgrade, sample, chain, Stamping}
+use Rattle.ots_completing.specs.Upgrade.{WritesAsked, asked_too_long, asked_made}
+use Rattle.ots_headers.specs.HeaderTable.{Table}
+use Rattle.ots_ops.specs.declared.hash_op.HashOp.{HashOp}
+use Rattle.ots_outside.specs.Shelf.{Names}
+use Rattle.ots_rewriting.specs.Info.{PrintsInfo}
+use Rattle.ots_rewriting.specs.Merged.{Merges, differ, joined}
+use Rattle.ots_stamping.specs.Hashing.{WithHashes, are_hashed, one_refused}
+use Rattle.ots_stamping.specs.Stamp.{Stamps, no_nonce, stamped, too_few}
+use Rattle.ots_tree.specs.declared.detached.Detached.{Detached}
+use Rattle.ots_upgrade.specs.declared.asking.AskedAt.{AskedAt}
+use Rattle.ots_verdicts.specs.declared.verdicts.Verdict.{Verdict}
+use Rattle.ots_verdicts.specs.declared.verdicts.Verdict.TheVariants.{Yes, NoDigest, NoPath}
 
 -- the status of an ending is this one, of which it is said
 of_status : (names : Names) (proofs : List (List ℕ)) (s t : Status) → s ≡ t → TakesProofs names proofs t → TakesProofs names proofs s
@@ -149,32 +157,47 @@ module _ (names : Names) (e : Ending) (s : Status) (may : MayEnd e s) where
       of_one (no_file none f) = of_text [] NoFile _ f tt
       of_one (refuses t has f) = of_text [] t _ f (of_status names [] t FileTooLong has.2.1 tt)
 
-  takes : (o : Outside) (c : ClientCommand) → Answers o (Some names) (Some c) e → TakesProofs names (proofs_read c) s
-  takes o (info name) h = of_proof name [] PrintsInfo (λ p printed. of_text [] Done _ printed.2 tt) h
-  takes o (canon from to) h = of_proof from [] _ (λ p result. of_writing to result.0 result.2) h
-  takes o (merge first second to) h = of_proof first (second ∷ []) _ (λ p. of_proof second [] _ (λ q. of_merging to p q)) h
-  takes o (prune from to) h = of_proof from [] _ (λ p result. of_writing to result.0 result.2) h
-  takes o (stamp w) (is_list calendars is h) = of_hashes o w calendars h
-  takes o (stamp w) (is_bad place https is f) = of_text [] (BadAddress place https) _ f tt
-  takes o (upgrade u) (is_list calendars is h) = of_proof u.proof [] _ (λ p completes. of_asked completes.0 u.to completes.1 completes.3) h
-  takes o (upgrade u) (is_bad place https is f) = of_text (u.proof ∷ []) (BadAddress place https) _ f tt
-  takes o (chain w) h = of_table w.headers [] _ (λ t. of_perhaps_pins w.pins _ (of_chain t)) h
-  takes o (sample n) h = of_text [] (verdict_status h.0.verdict) _ h.2 (of_verdict h.0.verdict)
-  takes o (verify v) h =
+  pub takes : (happens : Outside → Type 0) (c : ClientCommand) → Answers happens (Some c) (Some names) e → TakesProofs names (proofs_read c) s
+  takes happens (info name) h = of_proof name [] PrintsInfo (λ p printed. of_text [] Done _ printed.2 tt) h
+  takes happens (canon from to) h = of_proof from [] _ (λ p result. of_writing to result.0 result.2) h
+  takes happens (merge first second to) h = of_proof first (second ∷ []) _ (λ p. of_proof second [] _ (λ q. of_merging to p q)) h
+  takes happens (prune from to) h = of_proof from [] _ (λ p result. of_writing to result.0 result.2) h
+  takes happens (stamp w) (o, happened, is_list calendars is h) = of_hashes o w calendars h
+  takes happens (stamp w) (o, happened, is_bad place https is f) = of_text [] (BadAddress place https) _ f tt
+  takes happens (upgrade u) (o, happened, is_list calendars is h) = of_proof u.proof [] _ (λ p completes. of_asked completes.0 u.to completes.1 completes.3) h
+  takes happens (upgrade u) (o, happened, is_bad place https is f) = of_text (u.proof ∷ []) (BadAddress place https) _ f tt
+  takes happens (chain w) h = of_table w.headers [] _ (λ t. of_perhaps_pins w.pins _ (of_chain t)) h
+  takes happens (sample n) h = of_text [] (verdict_status h.0.verdict) _ h.2 (of_verdict h.0.verdict)
+  takes happens (verify v) h =
       of_table v.bitcoin (v.proof ∷ []) (VerifiesBy (Some names) v)
       (λ b. of_perhaps_table v.litecoin (v.proof ∷ []) (VerifiesProof (Some names) v b)
       (λ l. of_proof v.proof [] (VerifiesTarget (Some names) v.target b l) (λ p. of_target v.target p.hash p b l))) h
 
-of_fault : (names : Names) (proofs : List (List ℕ)) (s : Status) → Failed s → TakesProofs names proofs s
-of_fault names proofs s (inl is) = of_status names proofs s ReadFault is tt
-of_fault names proofs s (inr (inl is)) = of_status names proofs s WriteFault is tt
-of_fault names proofs s (inr (inr is)) = of_status names proofs s OutOfMemory is tt
+-- a status that is excused says nothing of them
+of_excused : (names : Names) (proofs : List (List ℕ)) (old new : Moment) (s : Status) → Excused old new s → TakesProofs names proofs s
+of_excused names proofs old new ReadFault h = tt
+of_excused names proofs old new WriteFault h = tt
+of_excused names proofs old new OutOfMemory h = tt
+of_excused names proofs old new Done h = absurd h
+of_excused names proofs old new No h = absurd h
+of_excused names proofs old new Usage h = absurd h
+of_excused names proofs old new (BadProof f) h = absurd h
+of_excused names proofs old new NoFile h = absurd h
+of_excused names proofs old new Exists h = absurd h
+of_excused names proofs old new TooBig h = absurd h
+of_excused names proofs old new (BadHeaders n) h = absurd h
+of_excused names proofs old new (TooFew got wanted) h = absurd h
+of_excused names proofs old new NonceFault h = absurd h
+of_excused names proofs old new FileTooLong h = absurd h
+of_excused names proofs old new (BadAddress place https) h = absurd h
+of_excused names proofs old new (Differs a b c d) h = absurd h
+of_excused names proofs old new (Broken height fault) h = absurd h
+of_excused names proofs old new (BadPins line) h = absurd h
+of_excused names proofs old new (PinFails height) h = absurd h
 
-pub are_taken : (happens : Outside → Type 0) (names : Names) (c : ClientCommand) (old new : Option Names) (command : Option ClientCommand) (stops_at : List ℕ → Type 0) (writing lost : Type 0)
-    (taken now : Option (List ℕ)) (s : Status) → old ≡ Some names → command ≡ Some c → Ends (Comes (AnswersAs happens old command) stops_at) writing lost old new taken now s
-    → TakesProofs names (proofs_read c) s
-are_taken happens names c old new command stops_at writing lost taken now s told asks h = elim (outcome _ _ _ _ _ _ _ _ s h) [
-  | inr failed ↦ of_fault names (proofs_read c) s failed
-  | inl (e, (o, heard, a), may) ↦
-      takes names e s may o c (subst (λ (z : Option ClientCommand). Answers o (Some names) z e) asks (subst (λ (z : Option Names). Answers o z command e) told a))
+pub are_taken : (happens : Outside → Type 0) (names : Names) (c : ClientCommand) (old new : Moment) (s : Status) → old.shelf.names ≡ Some names
+    → Runs (Answers happens (Some c)) (names_read (Some c)) old new s → TakesProofs names (proofs_read c) s
+are_taken happens names c old new s told h = elim (outcome (Answers happens (Some c)) (names_read (Some c)) old new s h) [
+  | inr excused ↦ of_excused names (proofs_read c) old new s excused
+  | inl (e, a, may) ↦ takes names e s may happens c (subst (λ (z : Option Names). Answers happens (Some c) z e) told a)
 ]

@@ -1,28 +1,26 @@
 -- What is written reads back: under the output of a command that did its work stands a proof file, that of the
 -- command's result.
-use Rattle.std.specs.Prelude.{◌≡◌, ◌≤◌, ◌⊎◌, ℕ, List, length, slice_get, Option, Some, None, IsSome}
+use Rattle.std.specs.Prelude.{◌≡◌, ◌≤◌, ℕ, List, length, slice_get, Option, Some, None}
+use Rattle.std.specs.FinMap as map
 use Rattle.ots_address.specs.Address.{AddressParts}
 use Rattle.ots_address.specs.AddressList.{IsListOf}
-use Rattle.ots_upgrade.specs.declared.asking.AskedAt.{AskedAt}
-use Rattle.ots_cli.specs.Answer.{IsUpgradeOf}
-use Rattle.ots_cli.specs.Asking.{Outside}
-use Rattle.ots_client_text.specs.declared.status.Status.{Status}
-use Rattle.ots_client_text.specs.declared.status.Status.TheVariants.{Done, No}
-use Rattle.std.specs.FinMap as map
-use Rattle.ots_outside.specs.Shelf.{Names}
-use Rattle.ots_tree.specs.declared.detached.Detached.{Detached}
-use Rattle.ots_detached.specs.File.{IsFileOf}
 use Rattle.ots_canon.specs.Join.{IsMergeOf}
-use Rattle.ots_upgrade.specs.declared.target.Target.{Target}
-use Rattle.ots_upgrade.specs.Stamped.{good_trees}
-use Rattle.ots_cli.specs.Found.{AreHashed}
-use Rattle.ots_cli.specs.Stamping.{AreStampTargets, IsStampAt}
+use Rattle.ots_client_endings.specs.Ending.{IsStampAt}
+use Rattle.ots_client_endings.specs.Outside.{Outside}
 use Rattle.ots_client_text.specs.Lines.{proof_name}
-use Rattle.ots_cli.specs.Rewritten.{IsRewritten}
-use Rattle.ots_cli.specs.declared.rewriting.Rewriting.TheVariants.{Canon, Prune}
 use Rattle.ots_client_words.specs.Words.{ClientCommand, Stamping, info, canon, merge, prune, verify, stamp, upgrade}
 use Rattle.ots_client_words.specs.Words.{sample, chain}
+use Rattle.ots_completing.specs.Complete.{IsResult}
+use Rattle.ots_detached.specs.File.{IsFileOf}
 use Rattle.ots_inputs.specs.Under.{HasUnder}
+use Rattle.ots_outside.specs.Shelf.{Names}
+use Rattle.ots_rewriting.specs.Rewritten.{IsRewritten}
+use Rattle.ots_rewriting.specs.declared.rewriting.Rewriting.TheVariants.{Canon, Prune}
+use Rattle.ots_stamping.specs.Hashing.{AreHashed}
+use Rattle.ots_stamping.specs.Stamp.{AreStampTargets}
+use Rattle.ots_tree.specs.declared.detached.Detached.{Detached}
+use Rattle.ots_upgrade.specs.Stamped.{good_trees}
+use Rattle.ots_upgrade.specs.declared.target.Target.{Target}
 
 -- the names that a command writes
 abbrev pub IsOutput : ClientCommand → List ℕ → Type 0
@@ -40,12 +38,6 @@ abbrev pub IsOutputAsked : Option ClientCommand → List ℕ → Type 0
 IsOutputAsked None name = ⊥
 IsOutputAsked (Some c) name = IsOutput c name
 
--- Each name holds what it held, but for the outputs that were not there.
-abbrev pub Leaves : Names → (List ℕ → Type 0) → Option Names → Type 0
-Leaves names is_output new =
-    (after : Names) × (new ≡ Some after) × ((name : List ℕ) → (is_output name → IsSome (map.get names name))
-    → map.get after name ≡ map.get names name)
-
 -- Under a name the proof of a stamped file is made, where calendars answered so.
 pub record IsStampedFile (o : Outside) (names : Names) (s : Stamping) (name : List ℕ) (r : Detached) : Type 0 where
   pub calendars : List AddressParts
@@ -62,27 +54,21 @@ pub record IsStampedFile (o : Outside) (names : Names) (s : Stamping) (name : Li
   pub is_stamp : IsStampAt targets (good_trees o.outcomes) i r
 
 -- what a command makes of the files under the names that it reads, under this name
-abbrev pub IsResultOf : Outside → Names → ClientCommand → List ℕ → Detached → Type 0
-IsResultOf o names (info proof) name r = ⊥
-IsResultOf o names (canon from to) name r = HasUnder (Some names) from (λ bytes. (p : Detached) × IsFileOf bytes p
+abbrev pub IsResultOf : (Outside → Type 0) → Names → ClientCommand → List ℕ → Detached → Type 0
+IsResultOf happens names (info proof) name r = ⊥
+IsResultOf happens names (canon from to) name r = HasUnder (Some names) from (λ bytes. (p : Detached) × IsFileOf bytes p
     × IsRewritten Canon p r)
-IsResultOf o names (merge first second to) name r = HasUnder (Some names) first (λ b. (p : Detached) × IsFileOf b p
-    × HasUnder (Some names) second (λ c. (q : Detached) × IsFileOf c q × IsMergeOf p q r))
-IsResultOf o names (prune from to) name r = HasUnder (Some names) from (λ bytes. (p : Detached) × IsFileOf bytes p
+IsResultOf happens names (merge first second to) name r = HasUnder (Some names) first (λ b. (p : Detached)
+    × IsFileOf b p × HasUnder (Some names) second (λ c. (q : Detached) × IsFileOf c q × IsMergeOf p q r))
+IsResultOf happens names (prune from to) name r = HasUnder (Some names) from (λ bytes. (p : Detached) × IsFileOf bytes p
     × IsRewritten Prune p r)
-IsResultOf o names (verify v) name r = ⊥
-IsResultOf o names (sample n) name r = ⊥
-IsResultOf o names (chain c) name r = ⊥
-IsResultOf o names (stamp s) name r = IsStampedFile o names s name r
-IsResultOf o names (upgrade u) name r = HasUnder (Some names) u.proof (λ bytes. (p : Detached) × IsFileOf bytes p
-    × (calendars : List AddressParts) × IsListOf u.calendars calendars × (asked : List AskedAt)
-    × IsUpgradeOf o calendars p asked r)
-
--- The command did its work, or has a result without a Bitcoin path.
-abbrev pub IsDoneOrNo : Status → Type 0
-IsDoneOrNo s = (s ≡ Done) ⊎ (s ≡ No)
+IsResultOf happens names (verify v) name r = ⊥
+IsResultOf happens names (sample n) name r = ⊥
+IsResultOf happens names (chain c) name r = ⊥
+IsResultOf happens names (stamp s) name r = (o : Outside) × happens o × IsStampedFile o names s name r
+IsResultOf happens names (upgrade u) name r = IsResult happens (Some names) u r
 
 -- Under the name of an output is a proof file, that of the result.
 abbrev pub ReadsBack : (Outside → Type 0) → Names → ClientCommand → List ℕ → Option Names → Type 0
-ReadsBack happens names c to new = (o : Outside) × happens o × (after : Names) × (new ≡ Some after)
-    × (bytes : List ℕ) × (map.get after to ≡ Some bytes) × (r : Detached) × IsFileOf bytes r × IsResultOf o names c to r
+ReadsBack happens names c to new = (after : Names) × (new ≡ Some after) × (bytes : List ℕ)
+    × (map.get after to ≡ Some bytes) × (r : Detached) × IsFileOf bytes r × IsResultOf happens names c to r

@@ -1,80 +1,29 @@
-use Rattle.std.proofs.Common.{◌∙◌, inr, refl}
-use Rattle.ots_cli.proofs.Carrying.{run_ends, run_faults}
-use Rattle.ots_cli.proofs.OneAnswer as one
-use Rattle.ots_cli.proofs.Chains.{chain_exactly}
-use Rattle.ots_cli.proofs.Completeness.{stamp_completes, upgrade_completes}
-use Rattle.ots_cli.proofs.ReadsBack.{leaves_others, reads_back}
-use Rattle.ots_cli.proofs.Sampled.{is_sampled}
-use Rattle.ots_cli.proofs.Taken.{are_taken}
-use Rattle.ots_cli.proofs.Short.{bounded_end, verdict_told}
-use Rattle.ots_cli.proofs.Yes.{done_exactly}
-use Rattle.ots_sample.proofs.Yes.{always_yes}
+use Rattle.std.proofs.Common.{[], None, refl, sym, ◌≡◌}
+use Rattle.std.specs.Prelude.{Some}
+use Rattle.ots_cli.specs.Answer.{Answers}
+use Rattle.ots_cli.proofs.Ran.{drawn, of_command, of_nothing, of_usage, ran}
+use Rattle.ots_client_endings.specs.Ending.{refused}
+use Rattle.ots_client_endings.specs.Outside.{Happens}
+use Rattle.ots_client_endings.proofs.Running.{only_finished, text_finishes, unread_short}
+use Rattle.ots_client_text.specs.declared.status.Status.TheVariants.{OutOfMemory, Usage}
+use Rattle.ots_client_words.specs.Words.{asked, read_as}
 use Rattle.ots_cli.proofs.run.run_client.Goals as goal
 
-pub returns-in-Ok-clause-short : goal.returns-in-Ok-clause-short
-returns-in-Ok-clause-short g c = λ enough. c.carry_out.ensures.ending.short enough ∙ c.in-Ok.ensures.ends.kept.short refl
+pub returns-in-Ok-clause-ran : goal.returns-in-Ok-clause-ran
+returns-in-Ok-clause-ran g c =
+    ran _ _ (asked c.args.words.now) _ _ _ (of_command _ (Some (read_as c.in-Ok.command)) (asked c.args.words.now) _ _ _ (sym c.in-Ok.ensures) c.run_command.ensures.runs)
+    (rw c.in-Ok.ensures c.run_command.ensures.bounded) (drawn g.D.Dialer.told g.D.Dialer.faults g.N.Nonces.left g.N.Nonces.faults _ _ _ _)
 
-pub returns-in-Ok-clause-slots : goal.returns-in-Ok-clause-slots
-returns-in-Ok-clause-slots g c = λ k. c.carry_out.ensures.ending.slots k ∙ c.in-Ok.ensures.ends.kept.slots k
+pub returns-in-Err-Usage-clause-ran : goal.returns-in-Err-Usage-clause-ran
+returns-in-Err-Usage-clause-ran g c =
+    let none = c.in-Err-Usage.ensures c.in-Err-Usage.field-0-is in
+    let happens = Happens g.D.Dialer.told g.D.Dialer.faults g.N.Nonces.left g.N.Nonces.faults c.args.dialer.now c.args.dialer.now c.args.nonces.now c.args.nonces.now in
+    ran happens _ (asked c.args.words.now) _ _ _ (of_command happens None (asked c.args.words.now) _ _ _ (sym none)
+    (only_finished (Answers happens None) (λ e. e ≡ refused [] Usage) (λ e is. is)
+    (text_finishes (λ e. e ≡ refused [] Usage) Usage _ (g.S.Shelf.told c.args.shelf.now) (g.S.Shelf.faults c.args.shelf.now) refl c.refuse.ensures.sink.later c.refuse.ensures.printed)))
+    (of_usage (asked c.args.words.now) (g.S.Shelf.told c.args.shelf.now) (g.S.Shelf.told c.args.shelf.now) c.refuse.result none) (drawn g.D.Dialer.told g.D.Dialer.faults g.N.Nonces.left g.N.Nonces.faults _ _ _ _)
 
-pub returns-in-Err-clause-slots : goal.returns-in-Err-clause-slots
-returns-in-Err-clause-slots g c = c.in-Err.ensures.ends.kept.slots
-
-pub returns-in-Err-clause-faults : goal.returns-in-Err-clause-faults
-returns-in-Err-clause-faults g c = c.in-Err.ensures.ends.kept.later
-
-pub returns-in-Ok-clause-faults : goal.returns-in-Ok-clause-faults
-returns-in-Ok-clause-faults g c = run_faults _ _ _ _ _ _ _ _ _ _ _ _ _ c.in-Ok.ensures.ends c.carry_out.ensures.ending
-
-pub returns-in-Ok-clause-ends : goal.returns-in-Ok-clause-ends
-returns-in-Ok-clause-ends g c = run_ends _ _ _ _ _ _ _ _ _ _ _ _ _ c.in-Ok.ensures.ends c.carry_out.ensures.ending
-
-pub returns-in-Ok-clause-exact : goal.returns-in-Ok-clause-exact
-returns-in-Ok-clause-exact g c = λ names told offline e is.
-    one.exact _ names _ _ _ _ _ _ _ _ _ e (run_ends _ _ _ _ _ _ _ _ _ _ _ _ _ c.in-Ok.ensures.ends c.carry_out.ensures.ending) told offline is
-
-pub returns-in-Ok-clause-leaves : goal.returns-in-Ok-clause-leaves
-returns-in-Ok-clause-leaves g c = λ names told.
-    leaves_others _ names _ _ _ _ _ _ _ _ _ told (run_ends _ _ _ _ _ _ _ _ _ _ _ _ _ c.in-Ok.ensures.ends c.carry_out.ensures.ending)
-
-pub returns-in-Ok-clause-takes : goal.returns-in-Ok-clause-takes
-returns-in-Ok-clause-takes g c = λ names command told asks.
-    are_taken _ names command _ _ _ _ _ _ _ _ _ told asks (run_ends _ _ _ _ _ _ _ _ _ _ _ _ _ c.in-Ok.ensures.ends c.carry_out.ensures.ending)
-
-pub returns-in-Ok-clause-yes : goal.returns-in-Ok-clause-yes
-returns-in-Ok-clause-yes g c = λ names v b l p target told asks has.
-    done_exactly _ names v b l p target has _ _ _ _ _ _ _ _ _ told asks (run_ends _ _ _ _ _ _ _ _ _ _ _ _ _ c.in-Ok.ensures.ends c.carry_out.ensures.ending)
-
-pub returns-in-Ok-clause-chains : goal.returns-in-Ok-clause-chains
-returns-in-Ok-clause-chains g c = λ names w told asks.
-    chain_exactly _ names w _ _ _ _ _ _ _ _ _ told asks (run_ends _ _ _ _ _ _ _ _ _ _ _ _ _ c.in-Ok.ensures.ends c.carry_out.ensures.ending)
-
-pub returns-in-Ok-clause-reads_back : goal.returns-in-Ok-clause-reads_back
-returns-in-Ok-clause-reads_back g c = λ names command to told asks out done.
-    reads_back _ names command to out _ _ _ _ _ _ _ _ _ told asks done (run_ends _ _ _ _ _ _ _ _ _ _ _ _ _ c.in-Ok.ensures.ends c.carry_out.ensures.ending)
-
-pub returns-in-Err-clause-leaves : goal.returns-in-Err-clause-leaves
-returns-in-Err-clause-leaves g c = λ names told. (names, c.in-Err.ensures.ends.kept.names ∙ told, λ name other. refl)
-
-pub returns-in-Ok-clause-stamps : goal.returns-in-Ok-clause-stamps
-returns-in-Ok-clause-stamps g c = λ names s told asks can.
-    stamp_completes _ names _ _ _ _ _ _ _ s can _ _ told asks (run_ends _ _ _ _ _ _ _ _ _ _ _ _ _ c.in-Ok.ensures.ends c.carry_out.ensures.ending)
-
-pub returns-in-Ok-clause-upgrades : goal.returns-in-Ok-clause-upgrades
-returns-in-Ok-clause-upgrades g c = λ names u told asks can.
-    upgrade_completes _ names _ _ _ _ _ _ _ u can _ _ told asks (run_ends _ _ _ _ _ _ _ _ _ _ _ _ _ c.in-Ok.ensures.ends c.carry_out.ensures.ending)
-
-pub returns-in-Ok-clause-bounded : goal.returns-in-Ok-clause-bounded
-returns-in-Ok-clause-bounded g c = λ v asks ran.
-    let out = c.carry_out.ensures.ending in
-    absurd (verdict_told _ _ _ _ v out.ending _ _ _ _ _ _ _ asks (c.in-Ok.ensures.ends.ending out.ending out.is) out.out ran)
-
-pub returns-in-Err-clause-bounded : goal.returns-in-Err-clause-bounded
-returns-in-Err-clause-bounded g c = λ v asks ran. bounded_end _ v _ _ _ asks c.in-Err.ensures.bounded
-
-pub returns-in-Ok-clause-samples : goal.returns-in-Ok-clause-samples
-returns-in-Ok-clause-samples g c = λ n asks.
-    is_sampled _ always_yes _ n _ _ _ _ _ _ _ _ _ _ _ _ asks (run_ends _ _ _ _ _ _ _ _ _ _ _ _ _ c.in-Ok.ensures.ends c.carry_out.ensures.ending)
-
-pub returns-in-Err-clause-samples : goal.returns-in-Err-clause-samples
-returns-in-Err-clause-samples g c = λ n asks. inr (inr refl)
+pub returns-in-Err-OutOfMemory-clause-ran : goal.returns-in-Err-OutOfMemory-clause-ran
+returns-in-Err-OutOfMemory-clause-ran g c =
+    ran _ _ (asked c.args.words.now) _ _ _ (unread_short (g.S.Shelf.told c.args.shelf.now) (g.S.Shelf.faults c.args.shelf.now) refl)
+    (of_nothing (asked c.args.words.now) (g.S.Shelf.told c.args.shelf.now) OutOfMemory) (drawn g.D.Dialer.told g.D.Dialer.faults g.N.Nonces.left g.N.Nonces.faults _ _ _ _)

@@ -1,0 +1,5 @@
+pub mod Chain
+pub mod Sampled
+pub mod Verified
+pub mod WholeChain
+pub mod Yes

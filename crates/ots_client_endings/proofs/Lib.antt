@@ -1,0 +1,7 @@
+pub mod Carrying
+pub mod Ended
+pub mod Finished
+pub mod OneInput
+pub mod Outcome
+pub mod Reading
+pub mod Running

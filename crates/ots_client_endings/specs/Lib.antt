@@ -1,0 +1,7 @@
+pub mod CarriedOut
+pub mod Ending
+pub mod Outcome
+pub mod Outside
+pub mod Reading
+pub mod Runs
+pub mod Writing

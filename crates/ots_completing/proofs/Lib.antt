@@ -1,0 +1,3 @@
+mod Asked
+pub mod Concluded
+mod Example

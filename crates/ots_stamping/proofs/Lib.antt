@@ -1,0 +1,8 @@
+mod Acts
+pub mod Concluded
+mod Counting
+mod Drawn
+mod Example
+mod Hashed
+mod OneStamp
+mod Submitted

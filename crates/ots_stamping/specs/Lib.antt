@@ -1,0 +1,5 @@
+pub mod Answered
+pub mod Asking
+pub mod Complete
+pub mod Hashing
+pub mod Stamp
