@@ -244,7 +244,7 @@ fn cut_of(leaves: &[[u8; 32]], count: usize) -> &[[u8; 32]]
     &leaves[..count][RUN * (count / RUN)..]
 }
 
-/// The run of a leaf: 16 leaves, or as many as there are.
+/// The run of a leaf: `RUN` leaves, or as many as there are.
 fn run_of(leaves: &[[u8; 32]], i: usize) -> &[[u8; 32]]
     requires { i < length leaves.now }
     ensures { result.now ≡ take RUN (drop (RUN * (i / RUN)) leaves.now) }

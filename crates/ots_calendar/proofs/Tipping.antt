@@ -13,7 +13,6 @@ use Rattle.ots_calendar.specs.declared.errors.TipError.{TipError}
 use Rattle.ots_calendar.specs.declared.errors.TipError.TheVariants.{NothingNew, DiskFault, Full, OutOfMemory}
 use Rattle.ots_calendar.specs.Book.{Grows, Keeps, StandsForBook, GoesOnInRoom}
 use Rattle.ots_calendar.specs.Tips.{AllCovered, IsNextTip, tip_answer, StoresTip, FindsTip, AsksTip}
-use Rattle.ots_calendar.specs.Tree.{TreeTold, IsOver}
 use Rattle.ots_calendar.proofs.Growing.{room_grows, on_grows, stop_grows}
 use Rattle.ots_calendar.proofs.Keeping.{room_keeps, room_readable, on_keeps, off_keeps, on_readable, off_readable}
 
@@ -92,9 +91,6 @@ tip_untouched bytes clock since old new result (inr (inr short)) is = ap (λ (j 
 
 -- ---- what finding a tip leaves
 
-pub keeps_over : {D : Type 0} (j : JournalTold D) (old new : TreeTold) (records : List Record) → records ≡ records_of j.entries → IsOver (commits_of records) new → Keeps j old → Keeps j new
-keeps_over j old new records are over k = record { are_true = k.are_true; flying = k.flying; over = subst (λ (l : List Record). IsOver (commits_of l) new) are over }
-
 module _ {D : Type 0} (bytes : D → Option (List ℕ)) (clock : D → ℕ) (since : D → ℕ → List ℕ → Type 0) where
   module _ (old new : JournalTold D) where
     pub finds_grows : (result : Result (Option Tip) TipError) → FindsTip bytes clock since old new result → Grows old new
@@ -104,12 +100,12 @@ module _ {D : Type 0} (bytes : D → Option (List ℕ)) (clock : D → ℕ) (sin
     finds_grows (Err NothingNew) never = absurd never
     finds_grows (Err (Full need limit)) never = absurd never
 
-    pub finds_keeps : (tree : TreeTold) → Keeps old tree → (result : Result (Option Tip) TipError) → FindsTip bytes clock since old new result → Keeps new tree
-    finds_keeps tree k (Ok o) on = on_keeps bytes old new tree on.spare_entries on.spare_bytes k (subst (λ (j : JournalTold D). Refreshed bytes (with_room old on.spare_entries on.spare_bytes) j) (sym (on.goes_on).goes_on) (on.goes_on).refreshed)
-    finds_keeps tree k (Err DiskFault) stop = off_keeps bytes old new tree stop.spare_entries stop.spare_bytes k (stop.stops).unrefreshed
-    finds_keeps tree k (Err OutOfMemory) room = room_keeps old new tree k room
-    finds_keeps tree k (Err NothingNew) never = absurd never
-    finds_keeps tree k (Err (Full need limit)) never = absurd never
+    pub finds_keeps : Keeps old → (result : Result (Option Tip) TipError) → FindsTip bytes clock since old new result → Keeps new
+    finds_keeps k (Ok o) on = on_keeps bytes old new on.spare_entries on.spare_bytes k (subst (λ (j : JournalTold D). Refreshed bytes (with_room old on.spare_entries on.spare_bytes) j) (sym (on.goes_on).goes_on) (on.goes_on).refreshed)
+    finds_keeps k (Err DiskFault) stop = off_keeps bytes old new stop.spare_entries stop.spare_bytes k (stop.stops).unrefreshed
+    finds_keeps k (Err OutOfMemory) room = room_keeps old new k room
+    finds_keeps k (Err NothingNew) never = absurd never
+    finds_keeps k (Err (Full need limit)) never = absurd never
 
     -- by the calls that it makes
     module _ (roomy : JournalTold D) (room : MakesRoom old roomy) where
@@ -125,14 +121,14 @@ module _ {D : Type 0} (bytes : D → Option (List ℕ)) (clock : D → ℕ) (sin
         };
       }
 
-  pub finds_readable : (images : D → List ℕ → Type 0) (only_now : (d : D) (c : List ℕ) → since d (clock d) c → images d c) (s : StoreTold D) (new : JournalTold D) (tree : TreeTold) → Keeps s.journal tree → StoreStands bytes images s
+  pub finds_readable : (images : D → List ℕ → Type 0) (only_now : (d : D) (c : List ℕ) → since d (clock d) c → images d c) (s : StoreTold D) (new : JournalTold D) → Keeps s.journal → StoreStands bytes images s
       → (result : Result (Option Tip) TipError) → FindsTip bytes clock since s.journal new result → LeavesOnly clock since s.journal.disk new.disk StandsForBook
-  finds_readable images only_now s new tree k stands (Ok o) on =
+  finds_readable images only_now s new k stands (Ok o) on =
       let g = on.goes_on in
       subst (λ (j : JournalTold D). LeavesOnly clock since s.journal.disk j.disk StandsForBook) (sym g.goes_on)
-      (on_readable bytes images clock since s g.mid tree k stands on.spare_entries on.spare_bytes g.refreshing g.refreshed)
-  finds_readable images only_now s new tree k stands (Err DiskFault) stop =
-      off_readable bytes images clock since s new tree k stands stop.spare_entries stop.spare_bytes (stop.stops).refreshing (stop.stops).unrefreshed
-  finds_readable images only_now s new tree k stands (Err OutOfMemory) room = room_readable bytes images s tree k stands clock since only_now new room
-  finds_readable images only_now s new tree k stands (Err NothingNew) never = absurd never
-  finds_readable images only_now s new tree k stands (Err (Full need limit)) never = absurd never
+      (on_readable bytes images clock since s g.mid k stands on.spare_entries on.spare_bytes g.refreshing g.refreshed)
+  finds_readable images only_now s new k stands (Err DiskFault) stop =
+      off_readable bytes images clock since s new k stands stop.spare_entries stop.spare_bytes (stop.stops).refreshing (stop.stops).unrefreshed
+  finds_readable images only_now s new k stands (Err OutOfMemory) room = room_readable bytes images s k stands clock since only_now new room
+  finds_readable images only_now s new k stands (Err NothingNew) never = absurd never
+  finds_readable images only_now s new k stands (Err (Full need limit)) never = absurd never

@@ -18,7 +18,6 @@ use Rattle.ots_tickets.specs.declared.tickets.Taken.TheVariants as taken
 use Rattle.ots_tree.specs.declared.token.Token.{Token}
 use Rattle.ots_kept_trees.specs.declared.trees.Trees.{Trees}
 use Rattle.ots_kept_trees.specs.Kept.{AreKept}
-use Rattle.ots_calendar.specs.Tree.{TreeTold, IsOver}
 use Rattle.ots_calendar.specs.Values.{AreTrue}
 
 pub record BookTold (D : Type 0) : Type 0 where
@@ -62,15 +61,13 @@ pub record IsTaken (before after : TicketsTold) (answer : Taken) : Type 0 where
   pub given : answer ≡ taken.Settled tree receipt
 
 -- The values of its records are right, and so are they with the group in flight.
-pub record Keeps {D : Type 0} (journal : JournalTold D) (tree : TreeTold) : Type 0 where
+pub record Keeps {D : Type 0} (journal : JournalTold D) : Type 0 where
   pub are_true : AreTrue (records_of journal.entries)
   pub flying : journal.is_sure ≡ false → AreTrue (records_of (journal.entries ++ journal.flight))
-  pub over : IsOver (commits_of (records_of journal.entries)) tree
 
 -- The commitment of each settled ticket's receipt stands at its index. That its way leads there, the tickets keep.
-pub record KeepsBook {D : Type 0} (journal : JournalTold D) (tree : TreeTold) (trees : Trees)
-    (tickets : TicketsTold) : Type 0 where
-  pub records : Keeps journal tree
+pub record KeepsBook {D : Type 0} (journal : JournalTold D) (trees : Trees) (tickets : TicketsTold) : Type 0 where
+  pub records : Keeps journal
   pub kept : AreKept (commits_of (records_of journal.entries)) trees
   pub settled : AllStand (commits_of (records_of journal.entries)) tickets.settled
 

@@ -4,5 +4,4 @@ pub mod Book
 pub mod Rounds
 pub mod Seen
 pub mod Tips
-pub mod Tree
 pub mod Values

@@ -21,12 +21,11 @@ ghost use Rattle.ots_calendar.specs.Anchors.{AnchorsIn, AsksAnchor, FindsAnchor,
 ghost use Rattle.ots_calendar.specs.Answer.{answer};
 ghost use Rattle.ots_calendar.specs.Book.{AllStand, Gives, Grows, StandsForBook, Stops};
 ghost use Rattle.ots_calendar.specs.Tips.{AllCovered, IsNextTip, StoresTip, FindsTip, AsksTip};
-ghost use Rattle.ots_calendar.specs.Tree.{HasRoom, IsOver};
+ghost use Rattle.ots_kept_trees.specs.Kept.{AreKept};
 ghost use Rattle.ots_calendar.specs.Values.{AreTrue, FirstUntrue};
 
 use crate::anchoring::{check_root, find_anchor, ids_of};
 use crate::answering::{answer_by, catch_up};
-use crate::tree::OpenTree;
 use crate::values::first_untrue;
 use crate::{AnchorError, Answer, RefusedBook, TipError};
 use ots_attest::Uri;
@@ -34,7 +33,8 @@ use ots_base::OutOfMemory;
 use ots_block::Block;
 use ots_disk::Disk;
 use ots_journal::{AppendError, DiskFault};
-use ots_kept_trees::Trees;
+use ots_kept_trees::{Trees, room_for_all};
+use ots_merkle::Peaks;
 use ots_outside::Leaf;
 use ots_round::{Key, Ticket};
 use ots_store::{Anchor, Store, StoreError, Tip};
@@ -49,8 +49,7 @@ use std::marker::Model;
 pub struct Book<D: Disk> {
     alloc: Global,
     store: Store<D>,
-    // The tree of the next tip, and those by which is answered.
-    tree: OpenTree,
+    // The trees of the next tip and of the anchors.
     kept: Trees,
     tickets: Tickets,
 }
@@ -62,7 +61,7 @@ impl<D: Disk> Model for Book<D> {
 
     ghost view = { λ b. record { store = b.store; tickets = b.tickets } };
 
-    ghost invariant = { λ b. KeepsBook b.store.journal b.tree b.kept b.tickets };
+    ghost invariant = { λ b. KeepsBook b.store.journal b.kept b.tickets };
 }
 
 impl<D: Disk> Book<D> {
@@ -82,12 +81,10 @@ impl<D: Disk> Book<D> {
         let mut kept = Trees::new(alloc);
         match first_untrue(&store, &mut kept) {
             Ok(None) => {
-                let tree = OpenTree::new(alloc, 0);
                 let tickets = Tickets::new(alloc);
                 let mut book = Book {
                     alloc,
                     store,
-                    tree,
                     kept,
                     tickets,
                 };
@@ -122,7 +119,7 @@ impl<D: Disk> Book<D> {
     {
         self.store.stands();
         self.tickets.stands();
-        let _ = &self.tree;
+        let _ = &self.kept;
     }
 
     /// The place of the closed gate after the acknowledged entries.
@@ -414,26 +411,14 @@ impl<D: Disk> Book<D> {
         ensures within { StaysWithin D.clock D.images_since self.old.store.journal self.new.store.journal }
     {
         self.store.stands();
-        find_tip(&mut self.store, &mut self.tree)
+        find_tip(self.alloc, &mut self.store, &mut self.kept)
     }
 
-    /// The next tip, where there is one.
-    fn next_tip(&mut self) -> Result<Option<Tip>, OutOfMemory>
-        ensures same { self.new ≡ self.old }
-        ensures next { IfOk result (λ next. MatchOption next (AllCovered self.old.store.records)
-            (IsNextTip self.old.store.records)) }
-        ensures fits { IfOk result (λ next. IfSome next FitsTip) }
-    {
-        self.store.stands();
-        next_tip(&self.store, &mut self.tree)
-    }
-
-    /// Takes into the trees what they lack. Where memory runs out, the next tip catches up, and what an
-    /// anchor covers is hashed for each answer.
+    /// Takes into the trees what they lack. Where memory runs out, the next tip hashes what no anchor
+    /// covers, and each answer what its anchor covers.
     fn catch_up(&mut self)
         ensures { self.new ≡ self.old }
     {
-        let _ = self.next_tip();
         self.store.stands();
         catch_up(&mut self.kept, &self.store);
     }
@@ -478,7 +463,7 @@ impl<D: Disk> Book<D> {
         ensures may_stand { IfOk result (MayStand self.now.store.records) }
     {
         self.store.stands();
-        let _ = &self.tree;
+        let _ = &self.kept;
         find_anchor(self.alloc, &self.store, block, ids, height)
     }
 
@@ -504,11 +489,15 @@ impl<D: Disk> Book<D> {
 }
 
 /// Takes the memory for a tip, refreshes, and finds the next tip, where there is one.
-fn find_tip<D: Disk>(store: &mut Store<D>, tree: &mut OpenTree) -> Result<Option<Tip>, TipError>
-    requires over { IsOver (commits_of store.old.records) tree.old }
+fn find_tip<D: Disk>(
+    alloc: Global,
+    store: &mut Store<D>,
+    trees: &mut Trees,
+) -> Result<Option<Tip>, TipError>
+    requires kept { AreKept (commits_of store.old.records) trees.old }
     requires records { store.old.records ≡ records_of store.old.journal.entries }
     ensures finds { FindsTip D.bytes D.clock D.images_since store.old.journal store.new.journal result }
-    ensures over { IsOver (commits_of store.new.records) tree.new }
+    ensures kept { AreKept (commits_of store.new.records) trees.new }
     ensures sure { OnOk result (store.new.journal.is_sure ≡ true) }
     ensures spare { OnOk result (0 < store.new.spare) }
     ensures next { IfOk result (λ next. MatchOption next (AllCovered store.new.records) (IsNextTip store.new.records)) }
@@ -519,28 +508,31 @@ fn find_tip<D: Disk>(store: &mut Store<D>, tree: &mut OpenTree) -> Result<Option
     ensures within { StaysWithin D.clock D.images_since store.old.journal store.new.journal }
 {
     store.stands();
-    tree.reserve()?;
+    let peaks = room_for_all(alloc)?;
     store.reserve()?;
     store.refresh()?;
-    Ok(next_tip(store, tree)?)
+    Ok(next_tip(store, trees, peaks))
 }
 
-/// The next tip, where there is one.
-fn next_tip<D: Disk>(store: &Store<D>, tree: &mut OpenTree) -> Result<Option<Tip>, OutOfMemory>
-    requires over { IsOver (commits_of store.now.records) tree.old }
-    ensures over { IsOver (commits_of store.now.records) tree.new }
-    ensures next { IfOk result (λ next. MatchOption next (AllCovered store.now.records) (IsNextTip store.now.records)) }
-    ensures fits { IfOk result (λ next. IfSome next FitsTip) }
-    ensures not_refused { HasRoom tree.old → IsOk result }
+/// The next tip, where there is one. It can do without more memory than the peaks have.
+fn next_tip<D: Disk>(store: &Store<D>, trees: &mut Trees, peaks: Peaks) -> Option<Tip>
+    requires kept { AreKept (commits_of store.now.records) trees.old }
+    requires empty { peaks.leaves ≡ [] }
+    requires room { 2 ^ 32 ≤ peaks.spare }
+    ensures kept { AreKept (commits_of store.now.records) trees.new }
+    ensures next { MatchOption result (AllCovered store.now.records) (IsNextTip store.now.records) }
+    ensures fits { IfSome result FitsTip }
 {
     store.stands();
     let first = store.covered();
     let count = store.commits() - first;
-    tree.catch_up(store.commitments(), first as usize)?;
-    match tree.root() {
-        None => Ok(None),
-        Some(root) => Ok(Some(Tip { first, count, root })),
+    if count == 0 {
+        return None;
     }
+    let commitments = store.commitments();
+    trees.keep_newest(commitments, first as usize, commitments.len());
+    let root = trees.root_to_end(commitments, first as usize, count as usize, peaks);
+    Some(Tip { first, count, root })
 }
 
 /// Whether one of the tips is over the same commitments.

@@ -14,11 +14,10 @@
 //! A call that may write begins with a refresh of the store, so that a record in flight that was
 //! kept counts first. At every moment each image that a crash may leave stands for a book.
 //!
-//! `tip` takes one hash for each 1 of the number of commitments that are not covered, written in
-//! base two, once the tree over them has caught up; after an anchor it is made anew. `ask` takes some
-//! hundred hashes, by trees that a book keeps in 2.7 bytes a commitment (and hashes all commitments
-//! of the anchor where memory for them ran out). `take` and `withdraw` search by the number, and walk
-//! over the tickets only for one that is not there.
+//! `tip` and `ask` take some hundred hashes, by trees that a book keeps in 1.3 bytes a commitment (and hash
+//! all commitments of the tip or the anchor where memory for them ran out). Each commitment is hashed once, and
+//! once more where an anchor came between. `take` and `withdraw` search by the number, move no other ticket, and
+//! walk over the tickets only for one that is not there.
 #![tactic(auto)]
 
 mod anchoring;
@@ -27,7 +26,6 @@ mod answering;
 mod book;
 mod errors;
 mod laws;
-mod tree;
 mod values;
 
 pub use answer::Answer;

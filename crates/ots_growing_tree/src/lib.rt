@@ -3,4 +3,4 @@
 
 mod growing;
 
-pub use growing::{GrowingTree, RUN};
+pub use growing::{GrowingTree, RUN, root_of};

@@ -25,13 +25,16 @@ leaves_more commits more first hashes over = record {
   leaves = over.leaves ∙ ap hashed (sym (span_more first (length hashes) commits more over.within));
 }
 
+one_more : (commits more : List (List ℕ)) (t : KeptTree) → IsKept commits t → IsKept (commits ++ more) t
+one_more commits more t is = record { leaves = leaves_more commits more t.first t.tree.leaves is.leaves; closing = is.closing }
+
 if_more : (commits more : List (List ℕ)) (o : Option KeptTree) → IfSome o (IsKept commits) → IfSome o (IsKept (commits ++ more))
 if_more commits more None is = is
-if_more commits more (Some t) is = leaves_more commits more t.first t.tree.leaves is
+if_more commits more (Some t) is = one_more commits more t is
 
 pub kept_more : (commits more : List (List ℕ)) (t : Trees) → AreKept commits t → AreKept (commits ++ more) t
 kept_more commits more t are = record {
-  anchored = All-weaker (IsKept commits) (IsKept (commits ++ more)) (λ k is. leaves_more commits more k.first k.tree.leaves is) t.anchored.items are.anchored;
+  anchored = All-weaker (IsKept commits) (IsKept (commits ++ more)) (one_more commits more) t.anchored.items are.anchored;
   newest = if_more commits more t.newest are.newest;
 }
 

@@ -1,13 +1,13 @@
 //! One tree over commitments from one index on.
 ghost use Rattle.std.specs.Prelude.{◌≡◌, ◌+◌, ◌*◌, ◌/◌, ◌≤◌, ◌<◌, ◌^◌, ◌++◌, ◌∷◌, [], IfOk, length, take, drop};
-ghost use Rattle.std.specs.Prelude.{is_ok, true, if◌then◌else◌};
+ghost use Rattle.std.specs.Prelude.{is_ok, true, None, if◌then◌else◌};
 ghost use Rattle.ots_anchor.specs.Path.{hashed};
-ghost use Rattle.ots_merkle.specs.CalendarTree.{root, path};
+ghost use Rattle.ots_merkle.specs.CalendarTree.{root, root_if_any, path};
 ghost use Rattle.ots_kept_trees.specs.Kept.{IsKept, span};
 
 use ots_anchor::hashed;
 use ots_base::OutOfMemory;
-use ots_growing_tree::{GrowingTree, RUN};
+use ots_growing_tree::{GrowingTree, RUN, root_of};
 use ots_ops::Ops;
 use sha2::{Digest, Sha256};
 use std::alloc::Global;
@@ -19,6 +19,17 @@ pub struct KeptTree {
     pub first: usize,
     /// Its leaves are the SHA-256 of the commitments.
     pub tree: GrowingTree,
+    /// What closes the tree over as many as an anchor has.
+    pub closing: Option<Closing>,
+}
+
+/// What closes the tree over the first commitments.
+#[derive(Clone, Copy)]
+pub struct Closing {
+    /// How many these are.
+    pub count: usize,
+    /// The root over those of them after their last whole run, where there are any.
+    pub root: Option<[u8; 32]>,
 }
 
 impl KeptTree {
@@ -26,10 +37,12 @@ impl KeptTree {
     pub(crate) fn new(alloc: Global, first: usize) -> Result<KeptTree, OutOfMemory>
         ensures first { IfOk result (λ kept. kept.first ≡ first) }
         ensures leaves { IfOk result (λ kept. kept.tree.leaves ≡ []) }
+        ensures unclosed { IfOk result (λ kept. kept.closing ≡ None) }
     {
         Ok(KeptTree {
             first,
             tree: GrowingTree::new(alloc)?,
+            closing: None,
         })
     }
 
@@ -41,9 +54,10 @@ impl KeptTree {
         ensures kept { IsKept commitments.now self.new }
     {
         let begin = self.first + self.tree.len();
-        if self.tree.reserve(end.saturating_sub(begin)).is_err() {
+        if begin >= end || self.tree.reserve(end - begin).is_err() {
             return;
         }
+        self.closing = None;
         for place in begin..end {
             if self.push(&commitments[place]).is_err() {
                 return;
@@ -55,6 +69,7 @@ impl KeptTree {
     fn push(&mut self, commitment: &[u8; 44]) -> Result<(), OutOfMemory>
         requires { length self.old.tree.leaves + 1 < 2 ^ 32 }
         ensures first { self.new.first ≡ self.old.first }
+        ensures closing { self.new.closing ≡ self.old.closing }
         ensures leaves { self.new.tree.leaves ≡ (if is_ok result
             then self.old.tree.leaves ++ hashed (commitment.now ∷ []) else self.old.tree.leaves) }
     {
@@ -78,6 +93,38 @@ impl KeptTree {
         let begin = RUN * (i / RUN);
         let end = (begin + RUN).min(count);
         hashed(alloc, &commitments[self.first + begin..self.first + end])
+    }
+
+    /// The root over those of the first `count` commitments after their last whole run, where there are any.
+    fn closing_of(
+        &self,
+        alloc: Global,
+        commitments: &[[u8; 44]],
+        count: usize,
+    ) -> Result<Option<[u8; 32]>, OutOfMemory>
+        requires kept { IsKept commitments.now self.now }
+        requires few { length commitments.now < 2 ^ 32 }
+        requires enough { count ≤ length self.now.tree.leaves }
+        ensures { IfOk result (λ root. root
+            ≡ root_if_any (drop (RUN * (count / RUN)) (take count self.now.tree.leaves))) }
+    {
+        match &self.closing {
+            Some(closing) if closing.count == count => Ok(closing.root),
+            _ => Ok(root_of(&self.run_of(alloc, commitments, count, count)?)),
+        }
+    }
+
+    /// Keeps what closes the tree over the first `count` commitments, if it has so many and memory allows.
+    pub(crate) fn close(&mut self, alloc: Global, commitments: &[[u8; 44]], count: usize)
+        requires kept { IsKept commitments.now self.old }
+        requires few { length commitments.now < 2 ^ 32 }
+        ensures kept { IsKept commitments.now self.new }
+    {
+        if count <= self.tree.len()
+            && let Ok(root) = self.closing_of(alloc, commitments, count)
+        {
+            self.closing = Some(Closing { count, root });
+        }
     }
 
     /// The root over the first `count` commitments, at least one.
@@ -112,8 +159,8 @@ impl KeptTree {
         ensures { IfOk result (λ ops. ops ≡ path (hashed (span self.now.first count commitments.now)) i) }
     {
         let run = self.run_of(alloc, commitments, count, i)?;
-        let cut = self.run_of(alloc, commitments, count, count)?;
-        self.tree.path_of_first(alloc, count, i, &run, &cut)
+        let closing = self.closing_of(alloc, commitments, count)?;
+        self.tree.path_closed(alloc, count, i, &run, closing)
     }
 
     /// Whether it begins with this commitment and has as many.

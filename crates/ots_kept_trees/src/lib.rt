@@ -4,5 +4,5 @@
 mod kept;
 mod trees;
 
-pub use kept::KeptTree;
-pub use trees::Trees;
+pub use kept::{Closing, KeptTree};
+pub use trees::{Trees, room_for_all};

@@ -1,5 +1,5 @@
 //! The trees over the commitments of anchors, and over those that no anchor covers yet.
-ghost use Rattle.std.specs.Prelude.{◌≡◌, ◌+◌, ◌≤◌, ◌<◌, ◌^◌, ℕ, IfOk, IfSome, List, length};
+ghost use Rattle.std.specs.Prelude.{◌≡◌, ◌+◌, ◌≤◌, ◌<◌, ◌^◌, ℕ, [], IfOk, IfSome, List, length};
 ghost use Rattle.ots_anchor.specs.Path.{hashed};
 ghost use Rattle.ots_merkle.specs.CalendarTree.{root, path};
 ghost use Rattle.ots_kept_trees.specs.Kept.{AreKept, IsKept, span};
@@ -15,6 +15,9 @@ use std::alloc::Global;
 /// No tree is kept over fewer commitments, which are hashed in some 100 microseconds: a tree takes 1,500
 /// bytes at least.
 const LEAST: usize = 64;
+
+/// There are fewer commitments than this.
+const MOST_COMMITMENTS: usize = 4_294_967_296;
 
 /// The trees that a calendar keeps. They make its answers fast and nothing else: without them it would
 /// hash all commitments of an anchor for each, and answer the same.
@@ -56,7 +59,8 @@ impl Trees {
         if end - first < LEAST {
             return;
         }
-        if let Ok(tree) = self.grown(commitments, first, end) {
+        if let Ok(mut tree) = self.grown(commitments, first, end) {
+            tree.close(self.alloc, commitments, end - first);
             let _ = self.anchored.push(tree);
         }
     }
@@ -151,6 +155,29 @@ impl Trees {
         }
     }
 
+    /// The root over the last `count` commitments, from index `first` on, likewise. Those that no tree has
+    /// are hashed into the peaks: it takes no memory.
+    pub fn root_to_end(
+        &self,
+        commitments: &[[u8; 44]],
+        first: usize,
+        count: usize,
+        peaks: Peaks,
+    ) -> [u8; 32]
+        requires some { 1 ≤ count }
+        requires last { first + count ≡ length commitments.now }
+        requires few { length commitments.now < 2 ^ 32 }
+        requires kept { AreKept commitments.now self.now }
+        requires empty { peaks.leaves ≡ [] }
+        requires room { length commitments.now ≤ peaks.spare }
+        ensures { result ≡ root (hashed (span first count commitments.now)) }
+    {
+        match self.find(first, count) {
+            Some(tree) => tree.tree.root().unwrap(),
+            None => root_in(peaks, &commitments[first..first + count]),
+        }
+    }
+
     /// The path of the commitment of index `i` among `count` from index `first` on, likewise.
     pub fn path_over(
         &self,
@@ -172,17 +199,37 @@ impl Trees {
     }
 }
 
-/// The root of the tree over commitments, at least one, where all are hashed. It takes no memory for them.
+/// The root of the tree over commitments, at least one, where all are hashed.
 fn root_by_hashing(alloc: Global, commitments: &[[u8; 44]]) -> Result<[u8; 32], OutOfMemory>
     requires some { 1 ≤ length commitments.now }
     requires few { length commitments.now < 2 ^ 32 }
     ensures { IfOk result (λ made. made ≡ root (hashed commitments.now)) }
 {
-    let mut peaks = Peaks::new(alloc);
+    Ok(root_in(room_for_all(alloc)?, commitments))
+}
+
+/// The same by peaks that have room for them. It takes no memory.
+fn root_in(peaks: Peaks, commitments: &[[u8; 44]]) -> [u8; 32]
+    requires some { 1 ≤ length commitments.now }
+    requires empty { peaks.leaves ≡ [] }
+    requires room { length commitments.now ≤ peaks.spare }
+    ensures { result ≡ root (hashed commitments.now) }
+{
+    let mut peaks = peaks;
     for commitment in commitments {
-        peaks.push(Sha256::digest(commitment.as_slice()))?;
+        peaks.push(Sha256::digest(commitment.as_slice())).unwrap();
     }
-    Ok(peaks.root().unwrap())
+    peaks.root().unwrap()
+}
+
+/// Peaks that take in all commitments that there may be without taking memory.
+pub fn room_for_all(alloc: Global) -> Result<Peaks, OutOfMemory>
+    ensures empty { IfOk result (λ peaks. peaks.leaves ≡ []) }
+    ensures room { IfOk result (λ peaks. 2 ^ 32 ≤ peaks.spare) }
+{
+    let mut peaks = Peaks::new(alloc);
+    peaks.reserve(MOST_COMMITMENTS)?;
+    Ok(peaks)
 }
 
 /// The path of a commitment, where all are hashed.

@@ -111,10 +111,6 @@ any_default [] i d e less = absurd (omega arith)
 any_default (x ∷ xs) zero d e less = refl
 any_default (x ∷ xs) (suc i) d e less = any_default xs i d e (omega arith)
 
-pub all_either : {A : Type 0} (P : A → Type 0) (b : Bool) (xs ys : List A) → AllByRecursion P xs → AllByRecursion P ys → AllByRecursion P (cond b (xs ++ ys) xs)
-all_either P true xs ys one two = all_joined P xs ys one two
-all_either P false xs ys one two = one
-
 pub below_index : (next index : ℕ) (xs : List Settled) → AllByRecursion (λ (x : Settled). x.ticket.number < next) xs → AllByRecursion (λ (x : Settled). x.ticket.number < next) (map (at_index index) xs)
 below_index next index [] all = tt
 below_index next index (x ∷ xs) all = (all.0, below_index next index xs all.1)
@@ -156,3 +152,13 @@ pub all_at : {A : Type 0} (P : A → Type 0) (xs : List A) (i : ℕ) (d : A) →
 all_at P [] i d less all = absurd (omega arith)
 all_at P (x ∷ xs) zero d less all = all.0
 all_at P (x ∷ xs) (suc i) d less all = all_at P xs i d (omega arith) all.1
+
+-- ---- one less
+
+pub all_left : {A : Type 0} (P : A → Type 0) (xs : List A) (y : A) (ys : List A) → AllByRecursion P (xs ++ y ∷ ys) → AllByRecursion P (xs ++ ys)
+all_left P [] y ys all = all.1
+all_left P (x ∷ xs) y ys all = (all.0, all_left P xs y ys all.1)
+
+pub all_one : {A : Type 0} (P : A → Type 0) (xs : List A) (y : A) (ys : List A) → AllByRecursion P (xs ++ y ∷ ys) → P y
+all_one P [] y ys all = all.0
+all_one P (x ∷ xs) y ys all = all_one P xs y ys all.1

@@ -1,5 +1,6 @@
 pub mod Tickets
 pub mod Calls
 pub mod Search
+pub mod Slots
 pub mod Ready
 pub mod Numbers

@@ -11,8 +11,9 @@ pub record Fits (t : Ticket) : Type 0 where
   pub leaf : length t.leaf ≤ 64
   pub nonce : length t.nonce ≡ 16
 
--- All of them are below the next one, and no more wait than may.
-pub record AreNumbered (next : ℕ) (waiting : List Ticket) (settled : List Settled) : Type 0 where
+-- All of them are below the next one, and so many wait, no more than may.
+pub record AreNumbered (next count : ℕ) (waiting : List Ticket) (settled : List Settled) : Type 0 where
+  pub counted : count ≡ length waiting
   pub few : length waiting ≤ MAX_WAITING
   pub waiting_below : AllByRecursion (λ (t : Ticket). t.number < next) waiting
   pub waiting_fit : AllByRecursion Fits waiting

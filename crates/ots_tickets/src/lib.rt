@@ -11,6 +11,7 @@
 mod rounds;
 mod search;
 mod settled;
+mod slots;
 mod tickets;
 
 pub use rounds::Ready;

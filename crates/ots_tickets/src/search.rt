@@ -4,20 +4,23 @@ ghost use Rattle.std.specs.Prelude.{Some};
 ghost use Rattle.std.specs.List.{AllByRecursion};
 ghost use Rattle.ots_tickets.specs.Tickets.{Waits, IsSettled, NoneIs};
 ghost use Rattle.ots_tickets.specs.Search.{IsPlace};
+ghost use Rattle.ots_tickets.specs.Slots.{IsHere};
 
 use crate::Settled;
+use crate::slots::Slot;
 use ots_round::Ticket;
 
 /// The place of a ticket among those that wait. Numbers rise, so that a ticket that is there stands
 /// where the search by numbers ends: only for one that is not there it walks over all.
-pub fn place_of_waiting(waiting: &[Ticket], ticket: &Ticket) -> Option<usize>
-    ensures { MatchOption result (NoneIs (Waits ticket.now) waiting.now) (IsPlace (Waits ticket.now) waiting.now) }
+pub(crate) fn place_of_waiting(waiting: &[Slot<Ticket>], ticket: &Ticket) -> Option<usize>
+    ensures { MatchOption result (NoneIs (IsHere (Waits ticket.now)) waiting.now)
+        (IsPlace (IsHere (Waits ticket.now)) waiting.now) }
 {
     if let Some(place) = waiting_by_number(waiting, ticket) {
         return Some(place);
     }
     for i in 0..waiting.len() {
-        if is_same(&waiting[i], ticket) {
+        if waits(&waiting[i], ticket) {
             return Some(i);
         }
     }
@@ -25,15 +28,15 @@ pub fn place_of_waiting(waiting: &[Ticket], ticket: &Ticket) -> Option<usize>
 }
 
 /// The place of a ticket among those whose round is closed, likewise.
-pub fn place_of_settled(settled: &[Settled], ticket: &Ticket) -> Option<usize>
-    ensures { MatchOption result (NoneIs (IsSettled ticket.now) settled.now)
-        (IsPlace (IsSettled ticket.now) settled.now) }
+pub(crate) fn place_of_settled(settled: &[Slot<Settled>], ticket: &Ticket) -> Option<usize>
+    ensures { MatchOption result (NoneIs (IsHere (IsSettled ticket.now)) settled.now)
+        (IsPlace (IsHere (IsSettled ticket.now)) settled.now) }
 {
     if let Some(place) = settled_by_number(settled, ticket) {
         return Some(place);
     }
     for i in 0..settled.len() {
-        if is_same(&settled[i].ticket, ticket) {
+        if is_settled(&settled[i], ticket) {
             return Some(i);
         }
     }
@@ -41,25 +44,41 @@ pub fn place_of_settled(settled: &[Settled], ticket: &Ticket) -> Option<usize>
 }
 
 /// Where a ticket waits, where the search by its number finds it.
-fn waiting_by_number(waiting: &[Ticket], ticket: &Ticket) -> Option<usize>
-    ensures { IfSome result (IsPlace (Waits ticket.now) waiting.now) }
+fn waiting_by_number(waiting: &[Slot<Ticket>], ticket: &Ticket) -> Option<usize>
+    ensures { IfSome result (IsPlace (IsHere (Waits ticket.now)) waiting.now) }
 {
-    let place = waiting.partition_point(|other| other.number < ticket.number);
-    if place < waiting.len() && is_same(&waiting[place], ticket) {
+    let place = waiting.partition_point(|slot| slot.item.number < ticket.number);
+    if place < waiting.len() && waits(&waiting[place], ticket) {
         return Some(place);
     }
     None
 }
 
 /// Where a ticket is settled, where the search by its number finds it.
-fn settled_by_number(settled: &[Settled], ticket: &Ticket) -> Option<usize>
-    ensures { IfSome result (IsPlace (IsSettled ticket.now) settled.now) }
+fn settled_by_number(settled: &[Slot<Settled>], ticket: &Ticket) -> Option<usize>
+    ensures { IfSome result (IsPlace (IsHere (IsSettled ticket.now)) settled.now) }
 {
-    let place = settled.partition_point(|other| other.ticket.number < ticket.number);
-    if place < settled.len() && is_same(&settled[place].ticket, ticket) {
+    let place = settled.partition_point(|slot| slot.item.ticket.number < ticket.number);
+    if place < settled.len() && is_settled(&settled[place], ticket) {
         return Some(place);
     }
     None
+}
+
+/// Whether this is the ticket, and it waits.
+fn waits(slot: &Slot<Ticket>, ticket: &Ticket) -> bool
+    ensures yes { result ≡ true → IsHere (Waits ticket.now) slot.now }
+    ensures no { result ≡ false → IsHere (Waits ticket.now) slot.now → ⊥ }
+{
+    !slot.is_gone && is_same(&slot.item, ticket)
+}
+
+/// Whether this is the ticket, and its round is closed.
+fn is_settled(slot: &Slot<Settled>, ticket: &Ticket) -> bool
+    ensures yes { result ≡ true → IsHere (IsSettled ticket.now) slot.now }
+    ensures no { result ≡ false → IsHere (IsSettled ticket.now) slot.now → ⊥ }
+{
+    !slot.is_gone && is_same(&slot.item.ticket, ticket)
 }
 
 /// Whether two tickets are the same: their numbers, digests and nonces.

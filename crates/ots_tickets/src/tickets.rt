@@ -1,6 +1,8 @@
 //! Tickets that wait, and tickets whose round is closed.
 ghost use Rattle.std.specs.Prelude.{◌≡◌, ◌≤◌, ◌<◌, ◌^◌, ◌++◌, ◌∷◌, [], ℕ, List, Err, IfOk, IfErr, OnOk, OnErr, IfSome};
-ghost use Rattle.std.specs.Prelude.{MatchOption, length, map};
+ghost use Rattle.std.specs.Prelude.{MatchOption, Some, length, map, slice_get, slice_set, true};
+ghost use Rattle.ots_tickets.specs.declared.settled.Settled.{Settled};
+ghost use Rattle.ots_tickets.specs.declared.slots.Slot.{Slot};
 ghost use Rattle.std.specs.List.{AllByRecursion};
 ghost use Rattle.ots_tickets.specs.Tickets.{IsNew, Leads};
 ghost use Rattle.ots_tickets.specs.Calls.{tree_of, IfSettled, LeadsTo, Takes, Withdraws};
@@ -9,6 +11,9 @@ ghost use Rattle.ots_tickets.specs.Ready.{at_index, IsReady};
 use crate::rounds::{Ready, round_over, stored_at};
 use crate::search::{place_of_settled, place_of_waiting};
 use crate::settled::Settled;
+use crate::slots::{
+    Slot, add_settled, add_waiting, leave_settled, leave_waiting, make_room, present,
+};
 use ots_attest::{Attestation, Uri};
 use ots_base::OutOfMemory;
 use ots_outside::Leaf;
@@ -50,24 +55,28 @@ pub struct Tickets {
     alloc: Global,
     // the number of the next ticket, above those of all others
     next: u64,
-    waiting: Vec<Ticket>,
-    settled: Vec<Settled>,
+    // Both by rising numbers, so that a ticket is found, and none is moved when another one goes.
+    waiting: Vec<Slot<Ticket>>,
+    settled: Vec<Slot<Settled>>,
+    // how many wait
+    count: usize,
 }
 
 impl Model for Tickets {
-    ghost use Rattle.std.specs.Prelude.{◌-◌, length, vec_capacity};
+    ghost use Rattle.std.specs.Prelude.{◌≡◌, ◌-◌, length, vec_capacity};
     ghost use Rattle.ots_tickets.specs.Tickets.{TicketsTold};
     ghost use Rattle.ots_tickets.specs.Numbers.{AreNumbered};
+    ghost use Rattle.ots_tickets.specs.Slots.{present};
 
     ghost Value = { TicketsTold };
 
     ghost view = { λ t. record {
-      waiting = t.waiting.items;
-      settled = t.settled.items;
+      waiting = present t.waiting.items;
+      settled = present t.settled.items;
       spare = vec_capacity t.settled - length t.settled.items;
     } };
 
-    ghost invariant = { λ t. AreNumbered t.next t.waiting.items t.settled.items };
+    ghost invariant = { λ t. AreNumbered t.next t.count (present t.waiting.items) (present t.settled.items) };
 }
 
 impl Tickets {
@@ -81,6 +90,7 @@ impl Tickets {
             next: 0,
             waiting: Vec::new(alloc),
             settled: Vec::new(alloc),
+            count: 0,
         }
     }
 
@@ -96,7 +106,7 @@ impl Tickets {
     pub fn waiting(&self) -> u64
         ensures { result ≡ length self.now.waiting }
     {
-        self.waiting.len() as u64
+        self.count as u64
     }
 
     /// A digest waits, under a number that no other ticket has. `Busy` comes exactly where 65,536
@@ -110,7 +120,7 @@ impl Tickets {
         ensures busy { result ≡ Err PutError.Busy → MAX_WAITING ≤ length self.old.waiting }
         ensures full { MAX_WAITING ≤ length self.old.waiting → result ≡ Err PutError.Busy }
     {
-        if self.waiting.len() >= MAX_WAITING {
+        if self.count >= MAX_WAITING {
             return Err(PutError::Busy);
         }
         // It has 1 to 64 bytes.
@@ -124,9 +134,10 @@ impl Tickets {
             leaf,
             nonce,
         };
-        match self.waiting.push(same(&ticket)) {
+        match add_waiting(&mut self.waiting, &ticket) {
             Ok(()) => {
                 self.next = next;
+                self.count += 1;
                 Ok(ticket)
             }
             Err(_) => Err(PutError::OutOfMemory),
@@ -142,11 +153,12 @@ impl Tickets {
             (λ r. IsReady key.now second self.old.waiting r.commitment r.settled.items
             × (length r.settled.items ≤ self.new.spare))) }
     {
-        if self.waiting.is_empty() {
+        if self.count == 0 {
             return Ok(None);
         }
-        let made = round_over(self.alloc, &self.waiting, second, key)?;
-        self.settled.reserve(made.settled.len())?;
+        let waiting = present(self.alloc, &self.waiting)?;
+        let made = round_over(self.alloc, &waiting, second, key)?;
+        make_room(&mut self.settled, made.settled.len())?;
         Ok(Some(made))
     }
 
@@ -158,9 +170,9 @@ impl Tickets {
         ensures waiting { self.new.waiting ≡ [] }
         ensures settled { self.new.settled ≡ self.old.settled ++ map (at_index index) made.settled.items }
     {
-        let mut settled = stored_at(made.settled, index);
-        let _ = self.settled.append(&mut settled);
+        add_settled(&mut self.settled, stored_at(made.settled, index));
         self.waiting.clear();
+        self.count = 0;
     }
 
     /// The tree of a ticket whose round is closed, from its digest to a pending attestation of this
@@ -173,9 +185,8 @@ impl Tickets {
     {
         match place_of_settled(&self.settled, ticket) {
             Some(i) => {
-                let tree = tree_of(self.alloc, &self.settled[i], uri)?;
-                let settled = self.settled.remove(i);
-                Ok(Taken::Settled(tree, settled.receipt))
+                let (tree, receipt) = give(self.alloc, &mut self.settled, i, uri)?;
+                Ok(Taken::Settled(tree, receipt))
             }
             None => Ok(match place_of_waiting(&self.waiting, ticket) {
                 Some(_) => Taken::Waiting,
@@ -189,22 +200,39 @@ impl Tickets {
         ensures { Withdraws ticket.now self.old self.new result }
     {
         if let Some(i) = place_of_settled(&self.settled, ticket) {
-            self.settled.remove(i);
+            leave_settled(self.alloc, &mut self.settled, i);
             return true;
         }
         if let Some(i) = place_of_waiting(&self.waiting, ticket) {
-            self.waiting.remove(i);
+            leave_waiting(&mut self.waiting, i);
+            self.count -= 1;
             return true;
         }
         false
     }
 }
 
-/// The same ticket once more.
-fn same(ticket: &Ticket) -> Ticket
-    ensures { result ≡ ticket.now }
+/// The tree of a ticket whose round is closed, and its receipt. The ticket is then gone.
+fn give(
+    alloc: Global,
+    slots: &mut [Slot<Settled>],
+    i: usize,
+    uri: &Uri,
+) -> Result<(Tree, Receipt), OutOfMemory>
+    requires { i < length slots.old }
+    ensures tree { IfOk result (λ given. (s : Slot Settled) → slice_get slots.old i ≡ Some s
+        → given.0 ≡ tree_of s.item uri.now) }
+    ensures receipt { IfOk result (λ given. (s : Slot Settled) → slice_get slots.old i ≡ Some s
+        → given.1 ≡ s.item.receipt) }
+    ensures gone { OnOk result ((settled : Settled)
+        × (slots.new ≡ slice_set slots.old i (record { item = settled; is_gone = true }))) }
+    ensures err { OnErr result (slots.new ≡ slots.old) }
 {
-    *ticket
+    let settled = &slots[i].item;
+    let tree = tree_of(alloc, settled, uri)?;
+    let receipt = settled.receipt;
+    leave_settled(alloc, slots, i);
+    Ok((tree, receipt))
 }
 
 /// The tree of the one path from a ticket's digest to its commitment.

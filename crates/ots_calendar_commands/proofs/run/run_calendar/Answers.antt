@@ -1,68 +1,89 @@
-use Rattle.std.proofs.Common.{inl}
-use Rattle.std.specs.Prelude.{None}
-use Rattle.ots_calendar_words.specs.Words.{asked}
-use Rattle.ots_calendar_commands.specs.Answer.{MayAdd}
-use Rattle.ots_calendar_commands.specs.Batch.{Happens}
-use Rattle.ots_calendar_commands.proofs.Inputs.{reads_nothing, unread_ends}
-use Rattle.ots_calendar_commands.proofs.Running.{asked_ends, asked_moments, asked_nonces, asked_reads, asked_ready, asked_serve, asked_shelf, completes, crash_or_served, idle_moments, memory_ends, still_kept, uncalled, usage_ends}
+use Rattle.std.proofs.Common.{inl, inr, refl, arith}
+use Rattle.ots_calendar_endings.proofs.Inputs.{reads_nothing}
+use Rattle.ots_calendar_endings.proofs.Running.{leaves, uncalled}
+use Rattle.ots_calendar_commands.proofs.Following.{asked_completes, asked_ran, asked_stays, asked_survives, completes, survives, unnamed_ends, unread_ran}
 use Rattle.ots_calendar_commands.proofs.run.run_calendar.Goals as goal
 
-pub returns-in-Ok-clause-ends : goal.returns-in-Ok-clause-ends
-returns-in-Ok-clause-ends g c = asked_reads _ _ _ _ _ _ _ c.in-Ok.ensures _ _ _ _ _ _ _ _ _ _ c.run_command.ensures.ends
+pub returns-in-Ok-Serve-clause-ran : goal.returns-in-Ok-Serve-clause-ran
+returns-in-Ok-Serve-clause-ran g c = asked_ran _ _ (rw c.in-Ok-Serve.field-0-is at c.in-Ok-Serve.ensures) _ _ c.serve.ensures.ran
 
-pub returns-in-Ok-clause-complete : goal.returns-in-Ok-clause-complete
-returns-in-Ok-clause-complete g c = completes _ _ _ _ _ _ _ _ _ _ _ _ (returns-in-Ok-clause-ends g c)
+pub returns-in-Ok-Serve-clause-complete : goal.returns-in-Ok-Serve-clause-complete
+returns-in-Ok-Serve-clause-complete g c = asked_completes _ _ (rw c.in-Ok-Serve.field-0-is at c.in-Ok-Serve.ensures) _ _ c.serve.ensures.ran
 
-pub returns-in-Ok-clause-shelf : goal.returns-in-Ok-clause-shelf
-returns-in-Ok-clause-shelf g c = asked_shelf _ _ c.in-Ok.ensures _ _ _ _ _ c.run_command.ensures.shelf
+pub returns-in-Ok-Serve-clause-crash : goal.returns-in-Ok-Serve-clause-crash
+returns-in-Ok-Serve-clause-crash g c = asked_survives _ _ (rw c.in-Ok-Serve.field-0-is at c.in-Ok-Serve.ensures) _ _ ((g.met.D.Disk g.world.𝓛 g.world.𝓜 g.world.𝓡 ((λ s x. x), (λ x. x), (λ x. x), λ x. x)).counts_now _) c.serve.ensures.ran
 
-pub returns-in-Ok-clause-crash : goal.returns-in-Ok-clause-crash
-returns-in-Ok-clause-crash g c = λ entries one. crash_or_served g.D.Disk.clock g.D.Disk.images g.D.Disk.images_since (g.met.D.Disk g.world.𝓛 g.world.𝓜 g.world.𝓡 ((λ s x. x), (λ x. x), (λ x. x), λ x. x)).counts_now _ _ _ _ _ entries one (asked_moments (λ asked gate entries e. ⊥) _ (Unit {0}) _ _ _ _ c.in-Ok.ensures g.D.Disk.clock g.D.Disk.images_since _ _ _ _ c.run_command.ensures.moments)
+pub returns-in-Ok-Serve-clause-stays : goal.returns-in-Ok-Serve-clause-stays
+returns-in-Ok-Serve-clause-stays g c = asked_stays _ _ (rw c.in-Ok-Serve.field-0-is at c.in-Ok-Serve.ensures) _ _ _ _ (record { untouched = c.serve.ensures.untouched; unaccepted = c.serve.ensures.accepter; undrawn = c.serve.ensures.nonces; nonce_faults = c.serve.ensures.nonce_faults })
 
-pub returns-in-Ok-clause-keeps : goal.returns-in-Ok-clause-keeps
-returns-in-Ok-clause-keeps g c = λ entries one. still_kept g.D.Disk.clock g.D.Disk.images g.D.Disk.images_since (g.met.D.Disk g.world.𝓛 g.world.𝓜 g.world.𝓡 ((λ s x. x), (λ x. x), (λ x. x), λ x. x)).counts_now _ _ _ _ _ entries one (asked_moments (λ asked gate entries e. ⊥) _ (Unit {0}) _ _ _ _ c.in-Ok.ensures g.D.Disk.clock g.D.Disk.images_since _ _ _ _ c.run_command.ensures.moments)
+pub returns-in-Ok-Batch-clause-ran : goal.returns-in-Ok-Batch-clause-ran
+returns-in-Ok-Batch-clause-ran g c = rw c.hand_back.ensures (asked_ran _ _ (rw c.in-Ok-Batch.field-0-is at c.in-Ok-Batch.ensures) _ _ c.batch-ended.ensures.ran)
 
-pub returns-in-Ok-clause-later : goal.returns-in-Ok-clause-later
-returns-in-Ok-clause-later g c = asked_serve _ _ _ _ c.in-Ok.ensures _ c.run_command.ensures.later
+pub returns-in-Ok-Batch-clause-complete : goal.returns-in-Ok-Batch-clause-complete
+returns-in-Ok-Batch-clause-complete g c = rw c.hand_back.ensures (asked_completes _ _ (rw c.in-Ok-Batch.field-0-is at c.in-Ok-Batch.ensures) _ _ c.batch-ended.ensures.ran)
 
-pub returns-in-Ok-clause-accepter : goal.returns-in-Ok-clause-accepter
-returns-in-Ok-clause-accepter g c = asked_serve _ _ _ _ c.in-Ok.ensures _ c.run_command.ensures.accepter
+pub returns-in-Ok-Batch-clause-crash : goal.returns-in-Ok-Batch-clause-crash
+returns-in-Ok-Batch-clause-crash g c = rw c.hand_back.ensures (asked_survives _ _ (rw c.in-Ok-Batch.field-0-is at c.in-Ok-Batch.ensures) _ _ ((g.met.D.Disk g.world.𝓛 g.world.𝓜 g.world.𝓡 ((λ s x. x), (λ x. x), (λ x. x), λ x. x)).counts_now _) c.batch-ended.ensures.ran)
 
-pub returns-in-Ok-clause-nonce_faults : goal.returns-in-Ok-clause-nonce_faults
-returns-in-Ok-clause-nonce_faults g c = asked_serve _ _ _ _ c.in-Ok.ensures _ c.run_command.ensures.nonce_faults
+pub returns-in-Ok-Batch-clause-stays : goal.returns-in-Ok-Batch-clause-stays
+returns-in-Ok-Batch-clause-stays g c = rw c.hand_back.ensures (asked_stays _ _ (rw c.in-Ok-Batch.field-0-is at c.in-Ok-Batch.ensures) _ _ _ _ (record { untouched = c.batch-ended.ensures.untouched; unaccepted = inl refl; undrawn = c.batch-ended.ensures.nonces; nonce_faults = inl c.batch-ended.ensures.nonce_faults }))
 
-pub returns-in-Ok-clause-nonces : goal.returns-in-Ok-clause-nonces
-returns-in-Ok-clause-nonces g c = asked_nonces (λ asked gate entries e. ⊥) _ (Unit {0}) _ None _ _ c.in-Ok.ensures _ c.run_command.ensures.nonces
+pub returns-in-Ok-Tip-clause-ran : goal.returns-in-Ok-Tip-clause-ran
+returns-in-Ok-Tip-clause-ran g c = rw c.hand_back-in-Ok-Tip.ensures (asked_ran _ _ (rw c.in-Ok-Tip.field-0-is at c.in-Ok-Tip.ensures) _ _ (record { ends = unnamed_ends c.tip.ensures.ran.ends; moments = c.tip.ensures.ran.moments; kept = c.tip.ensures.ran.kept; files = reads_nothing _ _ _ _; disk = c.tip.ensures.ran.disk; sink = c.tip.ensures.ran.sink }))
 
-pub returns-in-Ok-clause-untouched : goal.returns-in-Ok-clause-untouched
-returns-in-Ok-clause-untouched g c = asked_ready _ _ _ c.in-Ok.ensures _ c.run_command.ensures.untouched
+pub returns-in-Ok-Tip-clause-complete : goal.returns-in-Ok-Tip-clause-complete
+returns-in-Ok-Tip-clause-complete g c = rw c.hand_back-in-Ok-Tip.ensures (asked_completes _ _ (rw c.in-Ok-Tip.field-0-is at c.in-Ok-Tip.ensures) _ _ (record { ends = unnamed_ends c.tip.ensures.ran.ends; moments = c.tip.ensures.ran.moments; kept = c.tip.ensures.ran.kept; files = reads_nothing _ _ _ _; disk = c.tip.ensures.ran.disk; sink = c.tip.ensures.ran.sink }))
 
-pub returns-in-Err-Usage-clause-ends : goal.returns-in-Err-Usage-clause-ends
-returns-in-Err-Usage-clause-ends g c = asked_ends _ _ _ _ _ _ _ (c.in-Err-Usage.ensures c.in-Err-Usage.field-0-is) _ _ _ _ _ _ _ (unread_ends _ _ _ _ _ _ _ _ (usage_ends _ _ _ _ _ _ c.refuse-status.ensures.printed))
+pub returns-in-Ok-Tip-clause-crash : goal.returns-in-Ok-Tip-clause-crash
+returns-in-Ok-Tip-clause-crash g c = rw c.hand_back-in-Ok-Tip.ensures (asked_survives _ _ (rw c.in-Ok-Tip.field-0-is at c.in-Ok-Tip.ensures) _ _ ((g.met.D.Disk g.world.𝓛 g.world.𝓜 g.world.𝓡 ((λ s x. x), (λ x. x), (λ x. x), λ x. x)).counts_now _) (record { ends = unnamed_ends c.tip.ensures.ran.ends; moments = c.tip.ensures.ran.moments; kept = c.tip.ensures.ran.kept; files = reads_nothing _ _ _ _; disk = c.tip.ensures.ran.disk; sink = c.tip.ensures.ran.sink }))
 
-pub returns-in-Err-Usage-clause-complete : goal.returns-in-Err-Usage-clause-complete
-returns-in-Err-Usage-clause-complete g c = completes _ _ _ _ _ _ _ _ _ _ _ _ (returns-in-Err-Usage-clause-ends g c)
+pub returns-in-Ok-Tip-clause-stays : goal.returns-in-Ok-Tip-clause-stays
+returns-in-Ok-Tip-clause-stays g c = rw c.hand_back-in-Ok-Tip.ensures (asked_stays _ _ (rw c.in-Ok-Tip.field-0-is at c.in-Ok-Tip.ensures) _ _ _ _ (record { untouched = inr tt; unaccepted = inl refl; undrawn = inl refl; nonce_faults = inl (omega arith) }))
 
-pub returns-in-Err-Usage-clause-shelf : goal.returns-in-Err-Usage-clause-shelf
-returns-in-Err-Usage-clause-shelf g c = reads_nothing _ _ _ _
+pub returns-in-Ok-Anchor-clause-ran : goal.returns-in-Ok-Anchor-clause-ran
+returns-in-Ok-Anchor-clause-ran g c = rw c.hand_back-in-Ok-Anchor.ensures (asked_ran _ _ (rw c.in-Ok-Anchor.field-0-is at c.in-Ok-Anchor.ensures) _ _ c.anchor.ensures.ran)
 
-pub returns-in-Err-Usage-clause-crash : goal.returns-in-Err-Usage-clause-crash
-returns-in-Err-Usage-clause-crash g c = λ entries one. crash_or_served g.D.Disk.clock g.D.Disk.images g.D.Disk.images_since (g.met.D.Disk g.world.𝓛 g.world.𝓜 g.world.𝓡 ((λ s x. x), (λ x. x), (λ x. x), λ x. x)).counts_now _ (MayAdd (Happens (g.C.Clock.coming c.args.clock) (g.N.Nonces.left c.args.nonces) (g.N.Nonces.left c.args.nonces)) (g.S.Shelf.told c.args.shelf.now).names (asked c.args.words.now)) _ _ _ entries one (inl (idle_moments g.D.Disk.clock g.D.Disk.images_since _ _ _ _ _ (uncalled g.D.Disk.clock g.D.Disk.images g.D.Disk.images_since (g.met.D.Disk g.world.𝓛 g.world.𝓜 g.world.𝓡 ((λ s x. x), (λ x. x), (λ x. x), λ x. x)).only_now c.args.disk)))
+pub returns-in-Ok-Anchor-clause-complete : goal.returns-in-Ok-Anchor-clause-complete
+returns-in-Ok-Anchor-clause-complete g c = rw c.hand_back-in-Ok-Anchor.ensures (asked_completes _ _ (rw c.in-Ok-Anchor.field-0-is at c.in-Ok-Anchor.ensures) _ _ c.anchor.ensures.ran)
 
-pub returns-in-Err-Usage-clause-keeps : goal.returns-in-Err-Usage-clause-keeps
-returns-in-Err-Usage-clause-keeps g c = λ entries one. still_kept g.D.Disk.clock g.D.Disk.images g.D.Disk.images_since (g.met.D.Disk g.world.𝓛 g.world.𝓜 g.world.𝓡 ((λ s x. x), (λ x. x), (λ x. x), λ x. x)).counts_now _ (MayAdd (Happens (g.C.Clock.coming c.args.clock) (g.N.Nonces.left c.args.nonces) (g.N.Nonces.left c.args.nonces)) (g.S.Shelf.told c.args.shelf.now).names (asked c.args.words.now)) (Unit {0}) _ _ entries one (inl (idle_moments g.D.Disk.clock g.D.Disk.images_since _ _ _ _ _ (uncalled g.D.Disk.clock g.D.Disk.images g.D.Disk.images_since (g.met.D.Disk g.world.𝓛 g.world.𝓜 g.world.𝓡 ((λ s x. x), (λ x. x), (λ x. x), λ x. x)).only_now c.args.disk)))
+pub returns-in-Ok-Anchor-clause-crash : goal.returns-in-Ok-Anchor-clause-crash
+returns-in-Ok-Anchor-clause-crash g c = rw c.hand_back-in-Ok-Anchor.ensures (asked_survives _ _ (rw c.in-Ok-Anchor.field-0-is at c.in-Ok-Anchor.ensures) _ _ ((g.met.D.Disk g.world.𝓛 g.world.𝓜 g.world.𝓡 ((λ s x. x), (λ x. x), (λ x. x), λ x. x)).counts_now _) c.anchor.ensures.ran)
 
-pub returns-clause-ends : goal.returns-clause-ends
-returns-clause-ends g c = unread_ends _ _ _ _ _ _ _ _ (memory_ends _ _ _ _ _ _ _ c.refuse-status-in-Err-OutOfMemory.ensures.printed)
+pub returns-in-Ok-Anchor-clause-stays : goal.returns-in-Ok-Anchor-clause-stays
+returns-in-Ok-Anchor-clause-stays g c = rw c.hand_back-in-Ok-Anchor.ensures (asked_stays _ _ (rw c.in-Ok-Anchor.field-0-is at c.in-Ok-Anchor.ensures) _ _ _ _ (record { untouched = c.anchor.ensures.untouched; unaccepted = inl refl; undrawn = inl refl; nonce_faults = inl (omega arith) }))
 
-pub returns-clause-complete : goal.returns-clause-complete
-returns-clause-complete g c = completes _ _ _ _ _ _ _ _ _ _ _ _ (returns-clause-ends g c)
+pub returns-in-Ok-List-clause-ran : goal.returns-in-Ok-List-clause-ran
+returns-in-Ok-List-clause-ran g c = rw c.hand_back-in-Ok-List.ensures (asked_ran _ _ (rw c.in-Ok-List.field-0-is at c.in-Ok-List.ensures) _ _ (record { ends = unnamed_ends c.list.ensures.ran.ends; moments = c.list.ensures.ran.moments; kept = c.list.ensures.ran.kept; files = reads_nothing _ _ _ _; disk = c.list.ensures.ran.disk; sink = c.list.ensures.ran.sink }))
 
-pub returns-clause-shelf : goal.returns-clause-shelf
-returns-clause-shelf g c = reads_nothing _ _ _ _
+pub returns-in-Ok-List-clause-complete : goal.returns-in-Ok-List-clause-complete
+returns-in-Ok-List-clause-complete g c = rw c.hand_back-in-Ok-List.ensures (asked_completes _ _ (rw c.in-Ok-List.field-0-is at c.in-Ok-List.ensures) _ _ (record { ends = unnamed_ends c.list.ensures.ran.ends; moments = c.list.ensures.ran.moments; kept = c.list.ensures.ran.kept; files = reads_nothing _ _ _ _; disk = c.list.ensures.ran.disk; sink = c.list.ensures.ran.sink }))
 
-pub returns-clause-crash : goal.returns-clause-crash
-returns-clause-crash g c = λ entries one. crash_or_served g.D.Disk.clock g.D.Disk.images g.D.Disk.images_since (g.met.D.Disk g.world.𝓛 g.world.𝓜 g.world.𝓡 ((λ s x. x), (λ x. x), (λ x. x), λ x. x)).counts_now _ (MayAdd (Happens (g.C.Clock.coming c.args.clock) (g.N.Nonces.left c.args.nonces) (g.N.Nonces.left c.args.nonces)) (g.S.Shelf.told c.args.shelf.now).names (asked c.args.words.now)) _ _ _ entries one (inl (idle_moments g.D.Disk.clock g.D.Disk.images_since _ _ _ _ _ (uncalled g.D.Disk.clock g.D.Disk.images g.D.Disk.images_since (g.met.D.Disk g.world.𝓛 g.world.𝓜 g.world.𝓡 ((λ s x. x), (λ x. x), (λ x. x), λ x. x)).only_now c.args.disk)))
+pub returns-in-Ok-List-clause-crash : goal.returns-in-Ok-List-clause-crash
+returns-in-Ok-List-clause-crash g c = rw c.hand_back-in-Ok-List.ensures (asked_survives _ _ (rw c.in-Ok-List.field-0-is at c.in-Ok-List.ensures) _ _ ((g.met.D.Disk g.world.𝓛 g.world.𝓜 g.world.𝓡 ((λ s x. x), (λ x. x), (λ x. x), λ x. x)).counts_now _) (record { ends = unnamed_ends c.list.ensures.ran.ends; moments = c.list.ensures.ran.moments; kept = c.list.ensures.ran.kept; files = reads_nothing _ _ _ _; disk = c.list.ensures.ran.disk; sink = c.list.ensures.ran.sink }))
 
-pub returns-clause-keeps : goal.returns-clause-keeps
-returns-clause-keeps g c = λ entries one. still_kept g.D.Disk.clock g.D.Disk.images g.D.Disk.images_since (g.met.D.Disk g.world.𝓛 g.world.𝓜 g.world.𝓡 ((λ s x. x), (λ x. x), (λ x. x), λ x. x)).counts_now _ (MayAdd (Happens (g.C.Clock.coming c.args.clock) (g.N.Nonces.left c.args.nonces) (g.N.Nonces.left c.args.nonces)) (g.S.Shelf.told c.args.shelf.now).names (asked c.args.words.now)) (Unit {0}) _ _ entries one (inl (idle_moments g.D.Disk.clock g.D.Disk.images_since _ _ _ _ _ (uncalled g.D.Disk.clock g.D.Disk.images g.D.Disk.images_since (g.met.D.Disk g.world.𝓛 g.world.𝓜 g.world.𝓡 ((λ s x. x), (λ x. x), (λ x. x), λ x. x)).only_now c.args.disk)))
+pub returns-in-Ok-List-clause-stays : goal.returns-in-Ok-List-clause-stays
+returns-in-Ok-List-clause-stays g c = rw c.hand_back-in-Ok-List.ensures (asked_stays _ _ (rw c.in-Ok-List.field-0-is at c.in-Ok-List.ensures) _ _ _ _ (record { untouched = inr tt; unaccepted = inl refl; undrawn = inl refl; nonce_faults = inl (omega arith) }))
+
+pub returns-in-Ok-Migrate-clause-ran : goal.returns-in-Ok-Migrate-clause-ran
+returns-in-Ok-Migrate-clause-ran g c = rw c.hand_back-in-Ok-Migrate.ensures (asked_ran _ _ (rw c.in-Ok-Migrate.field-0-is at c.in-Ok-Migrate.ensures) _ _ c.migrate.ensures.ran)
+
+pub returns-in-Ok-Migrate-clause-complete : goal.returns-in-Ok-Migrate-clause-complete
+returns-in-Ok-Migrate-clause-complete g c = rw c.hand_back-in-Ok-Migrate.ensures (asked_completes _ _ (rw c.in-Ok-Migrate.field-0-is at c.in-Ok-Migrate.ensures) _ _ c.migrate.ensures.ran)
+
+pub returns-in-Ok-Migrate-clause-crash : goal.returns-in-Ok-Migrate-clause-crash
+returns-in-Ok-Migrate-clause-crash g c = rw c.hand_back-in-Ok-Migrate.ensures (asked_survives _ _ (rw c.in-Ok-Migrate.field-0-is at c.in-Ok-Migrate.ensures) _ _ ((g.met.D.Disk g.world.𝓛 g.world.𝓜 g.world.𝓡 ((λ s x. x), (λ x. x), (λ x. x), λ x. x)).counts_now _) c.migrate.ensures.ran)
+
+pub returns-in-Ok-Migrate-clause-stays : goal.returns-in-Ok-Migrate-clause-stays
+returns-in-Ok-Migrate-clause-stays g c = rw c.hand_back-in-Ok-Migrate.ensures (asked_stays _ _ (rw c.in-Ok-Migrate.field-0-is at c.in-Ok-Migrate.ensures) _ _ _ _ (record { untouched = c.migrate.ensures.untouched; unaccepted = inl refl; undrawn = inl refl; nonce_faults = inl (omega arith) }))
+
+pub returns-in-Err-clause-ran : goal.returns-in-Err-clause-ran
+returns-in-Err-clause-ran g c = rw c.hand_back-in-Err.ensures (unread_ran c.in-Err.why _ _ _ c.in-Err.ensures (rw c.status_of.ensures at c.refuse-status.ensures.printed) (leaves g.D.Disk.clock g.D.Disk.images_since _ _ _ (uncalled g.D.Disk.clock g.D.Disk.images g.D.Disk.images_since (g.met.D.Disk g.world.𝓛 g.world.𝓜 g.world.𝓡 ((λ s x. x), (λ x. x), (λ x. x), λ x. x)).only_now c.args.disk)) (reads_nothing _ _ _ _) (omega arith) c.refuse-status.ensures.sink.later)
+
+pub returns-in-Err-clause-complete : goal.returns-in-Err-clause-complete
+returns-in-Err-clause-complete g c = rw c.hand_back-in-Err.ensures (completes _ _ _ _ (unread_ran c.in-Err.why _ _ _ c.in-Err.ensures (rw c.status_of.ensures at c.refuse-status.ensures.printed) (leaves g.D.Disk.clock g.D.Disk.images_since _ _ _ (uncalled g.D.Disk.clock g.D.Disk.images g.D.Disk.images_since (g.met.D.Disk g.world.𝓛 g.world.𝓜 g.world.𝓡 ((λ s x. x), (λ x. x), (λ x. x), λ x. x)).only_now c.args.disk)) (reads_nothing _ _ _ _) (omega arith) c.refuse-status.ensures.sink.later))
+
+pub returns-in-Err-clause-crash : goal.returns-in-Err-clause-crash
+returns-in-Err-clause-crash g c = rw c.hand_back-in-Err.ensures (survives _ _ c.refuse-status.result ((g.met.D.Disk g.world.𝓛 g.world.𝓜 g.world.𝓡 ((λ s x. x), (λ x. x), (λ x. x), λ x. x)).counts_now _) (unread_ran c.in-Err.why _ _ _ c.in-Err.ensures (rw c.status_of.ensures at c.refuse-status.ensures.printed) (leaves g.D.Disk.clock g.D.Disk.images_since _ _ _ (uncalled g.D.Disk.clock g.D.Disk.images g.D.Disk.images_since (g.met.D.Disk g.world.𝓛 g.world.𝓜 g.world.𝓡 ((λ s x. x), (λ x. x), (λ x. x), λ x. x)).only_now c.args.disk)) (reads_nothing _ _ _ _) (omega arith) c.refuse-status.ensures.sink.later))
+
+pub returns-in-Err-clause-stays : goal.returns-in-Err-clause-stays
+returns-in-Err-clause-stays g c = rw c.hand_back-in-Err.ensures (record { untouched = inl refl; unaccepted = inl refl; undrawn = inl refl; nonce_faults = inl (omega arith) })

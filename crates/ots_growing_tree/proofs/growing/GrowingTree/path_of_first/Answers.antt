@@ -1,61 +1,11 @@
-use Rattle.std.proofs.Common.{arith, ◌≡◌, ◌≤◌, ◌<◌, ◌∙◌, ◌*◌, ◌/◌, ◌%◌, ◌++◌, ap, sym, length, length-append, length-drop, length-take, length-take-le, take, drop, refl}
-use Rattle.std.specs.Prelude.{option_to_list}
-use Rattle.ots_merkle.specs.CalendarTree.{path, root_if_any}
+use Rattle.std.proofs.Common.{arith, ◌*◌, ◌/◌, ap, length, length-drop, length-take, drop, take}
 use Rattle.ots_growing_tree.specs.declared.growing.TheConstants.{RUN}
-use Rattle.ots_growing_tree.proofs.Closed.{path_run, run_inside}
-use Rattle.ots_growing_tree.proofs.Levels.{cut_rest, has_first}
 use Rattle.ots_growing_tree.proofs.growing.GrowingTree.path_of_first.Goals as goal
 
-pub add_path-requires-clause-is_leaf : goal.add_path-requires-clause-is_leaf
-add_path-requires-clause-is_leaf c =
-    let start = RUN * (c.args.i / RUN) in
+pub root_of-requires : goal.root_of-requires
+root_of-requires c =
     let xs = take c.args.n c.args.self.now.leaves in
-    omega (arith, c.requires.is_leaf, ap length c.requires.run, length-take RUN (drop start xs), length-drop start xs, length-take-le c.args.n c.args.self.now.leaves c.requires.most)
+    omega (arith, ap length c.requires.cut, length-drop (RUN * (c.args.n / RUN)) xs, length-take c.args.n c.args.self.now.leaves)
 
-pub add_path-requires-clause-most : goal.add_path-requires-clause-most
-add_path-requires-clause-most c =
-    omega (arith, ap length c.requires.run, length-take RUN (drop (RUN * (c.args.i / RUN)) (take c.args.n c.args.self.now.leaves)))
-
-pub slice_bounds-first-end : goal.slice_bounds-first-end
-slice_bounds-first-end c =
-    let p = c.self.inside.parts in
-    let fits : c.args.n ≤ length c.self.inside.pushed.leaves = omega (arith, c.requires.most, ap (λ g. length g.leaves) c.self.view_is) in
-    sym (length-take-le _ c.deref.result.now (has_first _ _ c.args.n p c.deref.result.now p.above.items c.self.invariant fits c.deref.ensures.value refl).inside)
-
-pub add_path_above-requires-clause-above : goal.add_path_above-requires-clause-above
-add_path_above-requires-clause-above c =
-    let fits : c.args.n ≤ length c.self.inside.pushed.leaves = omega (arith, c.requires.most, ap (λ g. length g.leaves) c.self.view_is) in
-    (has_first _ _ c.args.n c.self.inside.parts c.deref.result.now c.deref-2.result.now c.self.invariant fits c.deref.ensures.value c.deref-2.ensures.value).begins
-
-pub add_path_above-requires-clause-inside : goal.add_path_above-requires-clause-inside
-add_path_above-requires-clause-inside c =
-    let leaves = c.self.inside.pushed.leaves in
-    let same = ap (λ g. g.leaves) c.self.view_is in
-    let fits : c.args.n ≤ length leaves = omega (arith, c.requires.most, ap length same) in
-    let xs = take c.args.n leaves in
-    let runs = (has_first _ _ c.args.n c.self.inside.parts c.deref.result.now c.deref-2.result.now c.self.invariant fits c.deref.ensures.value c.deref-2.ensures.value).roots in
-    let cut = c.root_of.ensures ∙ ap root_if_any (cut_rest leaves c.args.cut.now c.args.n fits (c.requires.cut ∙ ap (λ z. drop (RUN * (c.args.n / RUN)) (take c.args.n z)) (sym same))) in
-    omega (
-      arith,
-      run_inside xs c.args.i (omega (arith, c.requires.is_leaf, length-take-le c.args.n leaves fits)),
-      ap length (λ i. runs i ++ option_to_list (cut i)),
-      length-append (take (c.args.n / RUN) c.deref.result.now) (option_to_list c.root_of.result),
-    )
-
-pub returns : goal.returns
-returns c =
-    let leaves = c.self.inside.pushed.leaves in
-    let same = ap (λ g. g.leaves) c.self.view_is in
-    let fits : c.args.n ≤ length leaves = omega (arith, c.requires.most, ap length same) in
-    let xs = take c.args.n leaves in
-    let runs = (has_first _ _ c.args.n c.self.inside.parts c.deref.result.now c.deref-2.result.now c.self.invariant fits c.deref.ensures.value c.deref-2.ensures.value).roots in
-    let cut = c.root_of.ensures ∙ ap root_if_any (cut_rest leaves c.args.cut.now c.args.n fits (c.requires.cut ∙ ap (λ z. drop (RUN * (c.args.n / RUN)) (take c.args.n z)) (sym same))) in
-    let inside : c.args.i < length xs = omega (arith, c.requires.is_leaf, length-take-le c.args.n leaves fits) in
-    let own : c.args.run.now ≡ take RUN (drop (RUN * (c.args.i / RUN)) xs) = c.requires.run ∙ ap (λ z. take RUN (drop (RUN * (c.args.i / RUN)) (take c.args.n z))) (sym same) in
-    record {
-      path = c.in_ok-add_path_above.ensures
-          ∙ (let first = c.in_ok-add_path.ensures ∙ ap (λ z. z ++ path c.args.run.now (c.args.i % RUN)) c.new-ops.ensures in
-          λ i. first i ++ path (runs i ++ option_to_list (cut i)) (c.args.i / RUN))
-          ∙ sym (path_run xs c.args.i c.args.run.now inside own)
-          ∙ ap (λ z. path (take c.args.n z) c.args.i) same;
-    }
+pub path_closed-requires-clause-closing : goal.path_closed-requires-clause-closing
+path_closed-requires-clause-closing c = rw (← c.requires.cut) c.root_of.ensures

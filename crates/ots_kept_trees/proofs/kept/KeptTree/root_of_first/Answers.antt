@@ -9,4 +9,4 @@ root_of_first-requires-clause-cut c = c.deref.ensures.value ∙ c.in_ok-cut.ensu
 pub returns : goal.returns
 returns c =
     root_found c.root_of_first.result c.unwrap.result (take c.args.count c.args.self.now.tree.leaves) c.root_of_first.ensures c.unwrap.ensures
-    ∙ ap root (first_leaves c.args.commitments.now c.args.self.now.first c.args.count c.args.self.now.tree.leaves c.requires.kept c.requires.enough)
+    ∙ ap root (first_leaves c.args.commitments.now c.args.self.now.first c.args.count c.args.self.now.tree.leaves c.requires.kept.leaves c.requires.enough)

@@ -9,6 +9,6 @@ returns c =
     let first = c.args.self.now.first in
     let begin = RUN * (c.args.i / RUN) in
     IfOk-weaker c.hashed.result _ _
-    (λ run e. e ∙ run_leaves c.args.commitments.now first c.args.count begin (first + c.min-end.result - (first + begin)) c.args.self.now.tree.leaves c.requires.kept c.requires.enough
+    (λ run e. e ∙ run_leaves c.args.commitments.now first c.args.count begin (first + c.min-end.result - (first + begin)) c.args.self.now.tree.leaves c.requires.kept.leaves c.requires.enough
     (omega arith) (omega (arith, c.min-end.ensures)))
     c.hashed.ensures

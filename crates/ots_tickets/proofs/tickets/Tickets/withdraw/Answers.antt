@@ -1,34 +1,74 @@
-use Rattle.std.proofs.Common.{◌≡◌, inl, inr, refl, subst, get_or, List}
-use Rattle.std.proofs.lemmas.Option.{slice_get-get_or}
+use Rattle.std.proofs.Common.{◌≡◌, ◌≤◌, inl, inr, refl, sym, subst, arith, length, List}
+use Rattle.std.specs.Vec.{with_items}
 use Rattle.ots_round.specs.declared.ticket.Ticket.{Ticket}
-use Rattle.ots_tickets.specs.declared.settled.Settled.{Settled}
 use Rattle.ots_tickets.specs.Search.{IsPlace}
+use Rattle.ots_tickets.specs.Slots.{present, IsHere}
 use Rattle.ots_tickets.specs.Tickets.{Waits, IsSettled, NoneIs, TakesOne}
-use Rattle.ots_tickets.proofs.Places.{takes_at}
+use Rattle.ots_tickets.specs.declared.settled.Settled.{Settled}
+use Rattle.ots_tickets.specs.declared.slots.Slot.{Slot}
+use Rattle.ots_tickets.proofs.Gaps.{none_present, one_less}
+use Rattle.ots_tickets.proofs.Going.{away_in, goes_at, settled_goes, waiting_goes}
 use Rattle.ots_tickets.proofs.tickets.Tickets.withdraw.Goals as goal
+
+pub invariant_of-self : goal.invariant_of-self
+invariant_of-self c =
+    let t : Ticket = c.args.ticket.now in
+    let slots : List (Slot Settled) = c.self.inside.settled.items in
+    let i = c.in-Some.i in
+    let place : IsPlace (IsHere (IsSettled t)) slots i = subst (λ (l : List (Slot Settled)). IsPlace (IsHere (IsSettled t)) l i) c.deref.ensures.value c.in-Some.ensures in
+    let away = away_in c.self.inside.settled c.leave_settled.new.slots c.deref_mut.result.now i c.deref_mut.ensures.value c.leave_settled.ensures in
+    let one = goes_at (IsSettled t) slots _ i place away in
+    settled_goes c.self.inside.next c.self.inside.count (present c.self.inside.waiting.items) (IsSettled t) (one.0).item (present slots) _ one.3 c.self.invariant
 
 pub returns-in-Some : goal.returns-in-Some
 returns-in-Some c =
-    let xs : List Settled = c.self.inside.settled.items in
+    let t : Ticket = c.args.ticket.now in
+    let slots : List (Slot Settled) = c.self.inside.settled.items in
     let i = c.in-Some.i in
-    let place : IsPlace (IsSettled c.args.ticket.now) xs i = subst (λ (l : List Settled). IsPlace (IsSettled c.args.ticket.now) l i) c.deref.ensures.value c.in-Some.ensures in
-    rw (← c.self.view_is) (inl (record {
-      one = get_or xs i c.remove.result;
-      takes = takes_at (IsSettled c.args.ticket.now) xs c.remove.new.self.items i c.remove.result place c.remove.ensures.items;
-      waiting = refl;
-    }))
+    let place : IsPlace (IsHere (IsSettled t)) slots i = subst (λ (l : List (Slot Settled)). IsPlace (IsHere (IsSettled t)) l i) c.deref.ensures.value c.in-Some.ensures in
+    let away = away_in c.self.inside.settled c.leave_settled.new.slots c.deref_mut.result.now i c.deref_mut.ensures.value c.leave_settled.ensures in
+    let one = goes_at (IsSettled t) slots _ i place away in
+    rw (← c.self.view_is) (inl (record { one = (one.0).item; takes = one.3; waiting = refl }))
+
+pub overflow_sub-self : goal.overflow_sub-self
+overflow_sub-self c =
+    let t : Ticket = c.args.ticket.now in
+    let slots : List (Slot Ticket) = c.self.inside.waiting.items in
+    let i = c.in-Some-place_of_waiting.i in
+    let place : IsPlace (IsHere (Waits t)) slots i = subst (λ (l : List (Slot Ticket)). IsPlace (IsHere (Waits t)) l i) c.deref-2.ensures.value c.in-Some-place_of_waiting.ensures in
+    let away = away_in c.self.inside.waiting c.leave_waiting.new.slots c.deref_mut-in-Some-place_of_waiting.result.now i c.deref_mut-in-Some-place_of_waiting.ensures.value c.leave_waiting.ensures in
+    let one = goes_at (Waits t) slots _ i place away in
+    omega (arith, one_less (Waits t) (one.0).item (present slots) _ one.3, c.self.invariant.counted)
+
+pub invariant_of-self-in-Some-place_of_waiting : goal.invariant_of-self-in-Some-place_of_waiting
+invariant_of-self-in-Some-place_of_waiting c =
+    let t : Ticket = c.args.ticket.now in
+    let slots : List (Slot Ticket) = c.self.inside.waiting.items in
+    let i = c.in-Some-place_of_waiting.i in
+    let place : IsPlace (IsHere (Waits t)) slots i = subst (λ (l : List (Slot Ticket)). IsPlace (IsHere (Waits t)) l i) c.deref-2.ensures.value c.in-Some-place_of_waiting.ensures in
+    let away = away_in c.self.inside.waiting c.leave_waiting.new.slots c.deref_mut-in-Some-place_of_waiting.result.now i c.deref_mut-in-Some-place_of_waiting.ensures.value c.leave_waiting.ensures in
+    let one = goes_at (Waits t) slots _ i place away in
+    waiting_goes c.self.inside.next c.self.inside.count (present c.self.inside.settled.items) (Waits t) (one.0).item (present slots) _ one.3 c.self.invariant
 
 pub returns-in-Some-place_of_waiting : goal.returns-in-Some-place_of_waiting
 returns-in-Some-place_of_waiting c =
-    let xs : List Ticket = c.self.inside.waiting.items in
     let t : Ticket = c.args.ticket.now in
+    let slots : List (Slot Ticket) = c.self.inside.waiting.items in
     let i = c.in-Some-place_of_waiting.i in
-    let d = c.remove-in-Some-place_of_waiting.result in
-    let new = c.remove-in-Some-place_of_waiting.new.self.items in
-    let place : IsPlace (Waits t) xs i = subst (λ (l : List Ticket). IsPlace (Waits t) l i) c.deref-2.ensures.value c.in-Some-place_of_waiting.ensures in
-    let is : get_or xs i d ≡ t = place.is (get_or xs i d) (slice_get-get_or xs i d place.inside) in
+    let place : IsPlace (IsHere (Waits t)) slots i = subst (λ (l : List (Slot Ticket)). IsPlace (IsHere (Waits t)) l i) c.deref-2.ensures.value c.in-Some-place_of_waiting.ensures in
+    let away = away_in c.self.inside.waiting c.leave_waiting.new.slots c.deref_mut-in-Some-place_of_waiting.result.now i c.deref_mut-in-Some-place_of_waiting.ensures.value c.leave_waiting.ensures in
+    let one = goes_at (Waits t) slots _ i place away in
+    let is : (one.0).item ≡ t = (one.3).is in
     rw (← c.self.view_is) (inr (record {
-      none = subst (NoneIs (IsSettled t)) c.deref.ensures.value c.in_default.ensures;
-      takes = subst (λ (x : Ticket). TakesOne (Waits t) x xs new) is (takes_at (Waits t) xs new i d place c.remove-in-Some-place_of_waiting.ensures.items);
+      none = none_present (IsSettled t) c.self.inside.settled.items (subst (NoneIs (IsHere (IsSettled t))) c.deref.ensures.value c.in_default.ensures);
+      takes = subst (λ (x : Ticket). TakesOne (Waits t) x (present slots) (present (with_items c.self.inside.waiting c.leave_waiting.new.slots).items)) is one.3;
       settled = refl;
     }))
+
+pub returns : goal.returns
+returns c =
+    let t : Ticket = c.args.ticket.now in (
+      rw (← c.self.view_is) (none_present (IsSettled t) c.self.inside.settled.items (subst (NoneIs (IsHere (IsSettled t))) c.deref.ensures.value c.in_default.ensures)),
+      rw (← c.self.view_is) (none_present (Waits t) c.self.inside.waiting.items (subst (NoneIs (IsHere (Waits t))) c.deref-2.ensures.value c.in_default-place_of_waiting.ensures)),
+      refl,
+    )

@@ -1,0 +1,4 @@
+pub mod Batch
+pub mod Reading
+pub mod Round
+pub mod Trees

@@ -1,5 +1,0 @@
-use Rattle.std.proofs.Common.{refl}
-use Rattle.ots_calendar_commands.proofs.list.RecordLinesPrintedText.put.Goals as goal
-
-pub returns-clause-put : goal.returns-clause-put
-returns-clause-put g c = (_, refl, c.put_lines.ensures)

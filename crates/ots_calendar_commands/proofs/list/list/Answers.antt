@@ -1,4 +1,0 @@
-use Rattle.ots_calendar_commands.proofs.list.list.Goals as goal
-
-pub returns-clause-printed : goal.returns-clause-printed
-returns-clause-printed g c = rw c.print_last.ensures.printed.1 at c.print_last.ensures.printed.2

@@ -1,0 +1,6 @@
+mod Opened
+pub mod Running
+pub mod Inputs
+pub mod Shelves
+mod OneBook
+pub mod OneInput

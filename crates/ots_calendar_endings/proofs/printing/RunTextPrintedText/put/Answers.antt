@@ -1,0 +1,5 @@
+use Rattle.std.proofs.Common.{refl}
+use Rattle.ots_calendar_endings.proofs.printing.RunTextPrintedText.put.Goals as goal
+
+pub returns-clause-put : goal.returns-clause-put
+returns-clause-put g c = (_, refl, c.put_text.ensures)

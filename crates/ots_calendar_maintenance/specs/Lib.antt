@@ -1,0 +1,5 @@
+pub mod Anchor
+pub mod Carrying
+pub mod List
+pub mod Migrate
+pub mod Tip
