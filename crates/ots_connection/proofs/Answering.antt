@@ -25,29 +25,29 @@ use Rattle.ots_connection.specs.declared.served.Served.{Served}
 
 -- ---- what was due may be due
 
-module _ (leaf uri : List ℕ) (limit : ℕ) (seen : List Record) (due : Due) where
-  settled : (nonce : List ℕ) (row : Row) → Settles leaf nonce uri limit seen row (Ok due) → IsDigestReply leaf due
-  settled nonce row (stamping.stamped tree receipt stamps within is) = reply.stamped seen nonce uri tree receipt stamps cc
-  settled nonce row (stamping.disk rose is) = reply.disk cc
-  settled nonce row (stamping.full full is) = reply.full cc
-  settled nonce row (stamping.no_memory why is) = absurd cc
+module _ (leaf key uri : List ℕ) (limit : ℕ) (seen : List Record) (due : Due) where
+  settled : (nonce : List ℕ) (second : ℕ) (row : Row) → Settles leaf nonce key uri second limit seen row (Ok due) → IsDigestReply leaf due
+  settled nonce second row (stamping.stamped tree receipt stamps within is) = reply.stamped seen nonce uri tree receipt stamps cc
+  settled nonce second row (stamping.disk rose is) = reply.disk cc
+  settled nonce second row (stamping.full full is) = reply.full cc
+  settled nonce second row (stamping.no_memory why is) = absurd cc
 
-  come : (nonce : List ℕ) (second : ℕ) (rows : List Row) → Comes leaf nonce uri second limit seen rows (Ok due) → IsDigestReply leaf due
+  come : (nonce : List ℕ) (second : ℕ) (rows : List Row) → Comes leaf nonce key uri second limit seen rows (Ok due) → IsDigestReply leaf due
   come nonce second rows (stamping.late late none is) = reply.late cc
   come nonce second rows (stamping.busy row early one left busy) = let is = busy.1 in reply.busy cc
   come nonce second rows (stamping.no_memory row early one left few why is) = absurd cc
-  come nonce second rows (stamping.put row next early two left few fewer (inl settles)) = settled nonce next settles
+  come nonce second rows (stamping.put row next early two left few fewer (inl settles)) = settled nonce second next settles
   come nonce second rows (stamping.put row next early two left few fewer (inr busy)) = let is = busy.1 in reply.busy cc
 
-  comes_of : (nonce : Option (List ℕ)) (second : ℕ) (rows : List Row) → ComesOf nonce leaf uri second limit seen rows (Ok due) → IsDigestReply leaf due
+  comes_of : (nonce : Option (List ℕ)) (second : ℕ) (rows : List Row) → ComesOf nonce leaf key uri second limit seen rows (Ok due) → IsDigestReply leaf due
   comes_of (Some nonce) second rows comes = come nonce second rows comes
   comes_of None second rows comes = let is = comes.1 in reply.no_nonce cc
 
-done : (uri : List ℕ) (limit : ℕ) (request : Request) (old new : SourcesTold) (seen : List Record) (rows : List Row) (due : Due) → Does uri limit request old new seen rows (Ok due) → IsDueFor request due
-done uri limit (Digest leaf) old new seen rows due does = comes_of leaf uri limit seen due does.nonce does.second rows does.comes
-done uri limit (Timestamp commitment) old new seen rows due does = (seen, does.2)
-done uri limit (Records number) old new seen rows due does = (seen, does.2)
-done uri limit (Refused status) old new seen rows due does = let is = does.2 in cc
+done : (key uri : List ℕ) (limit : ℕ) (request : Request) (old new : SourcesTold) (seen : List Record) (rows : List Row) (due : Due) → Does key uri limit request old new seen rows (Ok due) → IsDueFor request due
+done key uri limit (Digest leaf) old new seen rows due does = comes_of leaf key uri limit seen due does.nonce does.second rows does.comes
+done key uri limit (Timestamp commitment) old new seen rows due does = (seen, does.2)
+done key uri limit (Records number) old new seen rows due does = (seen, does.2)
+done key uri limit (Refused status) old new seen rows due does = let is = does.2 in cc
 
 -- ---- the link
 
@@ -71,32 +71,32 @@ module _ (x y : LinkTold) (before now : ℕ) (result : Served) (given : x.given 
   } ∣₁
   sent request due reads is_due (cut n within is rose t) = λ no_fault some. absurd (omega arith)
 
-  module _ (uri : List ℕ) (limit : ℕ) (p q : PassTold) (s r : SourcesTold) (answers : is_answer result ≡ true) where
+  module _ (key uri : List ℕ) (limit : ℕ) (p q : PassTold) (s r : SourcesTold) (answers : is_answer result ≡ true) where
     ended : (request : Result Request RequestError) → IsRequestAnswer x.left request
-        → Ends uri limit request (record { pass = p; link = found; sources = s }) (record { pass = q; link = left; sources = r }) result → IsAnswered (Some y) now
+        → Ends key uri limit request (record { pass = p; link = found; sources = s }) (record { pass = q; link = left; sources = r }) result → IsAnswered (Some y) now
     ended (Ok request) reads ends = replied ends.due ends.handles ends.ends where
-      replied : (due : Result Due OutOfMemory) → Handles uri limit request s r p q due → EndsWith due found left result → IsAnswered (Some y) now
-      replied (Ok due) handles e = sent request due reads (done uri limit request s r q.seen handles.rows due handles.does) e
+      replied : (due : Result Due OutOfMemory) → Handles key uri limit request s r p q due → EndsWith due found left result → IsAnswered (Some y) now
+      replied (Ok due) handles e = sent request due reads (done key uri limit request s r q.seen handles.rows due handles.does) e
       replied (Err e) handles none_written = absurd (let is = ap is_answer none_written.0 in cc)
     ended (Err unread.Closed) reads ends = λ no_fault some. absurd (some (fresh_input x y [] given ends.1.link ∙ reads))
     ended (Err unread.LinkFault) reads ends = λ no_fault some. absurd (let rose = ends.1 in omega arith)
 
 -- ---- told before and after, or neither
 
-some_bytes : (uri : List ℕ) (limit : ℕ) (old new : Seen) (result : Served) (request : Result Request RequestError) → Ends uri limit request old new result
+some_bytes : (key uri : List ℕ) (limit : ℕ) (old new : Seen) (result : Served) (request : Result Request RequestError) → Ends key uri limit request old new result
     → (bytes : List ℕ) × Takes bytes old.link new.link
-some_bytes uri limit old new result (Ok request) ends = written ends.due ends.ends where
+some_bytes key uri limit old new result (Ok request) ends = written ends.due ends.ends where
   written : (due : Result Due OutOfMemory) → EndsWith due old.link new.link result → (bytes : List ℕ) × Takes bytes old.link new.link
   written (Ok due) (whole is t) = (_, t)
   written (Ok due) (cut n within is rose t) = (_, t)
   written (Err e) none = (_, none.1)
-some_bytes uri limit old new result (Err unread.Closed) ends = (_, ends.1.link)
-some_bytes uri limit old new result (Err unread.LinkFault) ends = (_, ends.2.link)
+some_bytes key uri limit old new result (Err unread.Closed) ends = (_, ends.1.link)
+some_bytes key uri limit old new result (Err unread.LinkFault) ends = (_, ends.2.link)
 
-pub serves_answered : (uri : List ℕ) (limit : ℕ) (p q : PassTold) (s r : SourcesTold) (before now : ℕ) (result : Served) (o n : Option LinkTold)
-    → Serves uri limit (record { pass = p; link = record { told = o; faults = before }; sources = s }) (record { pass = q; link = record { told = n; faults = now }; sources = r }) result
+pub serves_answered : (key uri : List ℕ) (limit : ℕ) (p q : PassTold) (s r : SourcesTold) (before now : ℕ) (result : Served) (o n : Option LinkTold)
+    → Serves key uri limit (record { pass = p; link = record { told = o; faults = before }; sources = s }) (record { pass = q; link = record { told = n; faults = now }; sources = r }) result
     → IsFresh o before → is_answer result ≡ true → IsAnswered n now
-serves_answered uri limit p q s r before now result o None serves fresh answers = tt
-serves_answered uri limit p q s r before now result None (Some y) serves fresh answers = absurd (some_bytes uri limit _ _ result serves.request serves.ends).1
-serves_answered uri limit p q s r before now result (Some x) (Some y) serves fresh answers =
-    ended x y before now result fresh.given fresh.taken fresh.no_fault uri limit p q s r answers serves.request serves.reads serves.ends
+serves_answered key uri limit p q s r before now result o None serves fresh answers = tt
+serves_answered key uri limit p q s r before now result None (Some y) serves fresh answers = absurd (some_bytes key uri limit _ _ result serves.request serves.ends).1
+serves_answered key uri limit p q s r before now result (Some x) (Some y) serves fresh answers =
+    ended x y before now result fresh.given fresh.taken fresh.no_fault key uri limit p q s r answers serves.request serves.reads serves.ends

@@ -1,10 +1,10 @@
 -- What closing a round comes to, by each of its answers.
-use Rattle.std.proofs.Common.{◌≡◌, inl, inr, ℕ, ◌<◌, List, [], ◌∷◌, ◌++◌, length, refl, sym, ap, subst, ◌∙◌, arith, length-append}
+use Rattle.std.proofs.Common.{◌≡◌, inl, inr, ℕ, ◌+◌, ◌<◌, ◌≤◌, Bool, true, false, List, [], ◌∷◌, ◌++◌, length, refl, sym, ap, subst, ◌∙◌, arith, length-append}
 use Rattle.std.specs.Int.{w32, to_be_bytes}
 use Rattle.std.specs.Prelude.{Option, None, Some, IfSome, Result, Ok, Err}
 use Rattle.ots_calendar.specs.Book.{BookTold}
 use Rattle.ots_calendar.specs.Rounds.{Closes, round_answer}
-use Rattle.ots_journal.specs.Journal.{JournalTold, size_with}
+use Rattle.ots_journal.specs.Journal.{JournalTold, Refreshed, size_with}
 use Rattle.ots_journal.specs.declared.errors.AppendError.{AppendError}
 use Rattle.ots_journal.specs.declared.errors.AppendError.TheVariants.{Full}
 use Rattle.ots_merkle.specs.CalendarTree.{root}
@@ -15,19 +15,23 @@ use Rattle.ots_round.proofs.Leading.{length_root, are_leaves}
 use Rattle.sha2.specs.Sha256.{sha256}
 use Rattle.sha2.proofs.Facts256.{length-sha256}
 use Rattle.std.proofs.lemmas.List.{length-map, length-take-le}
-use Rattle.ots_store.specs.Records.{CommitRecord, entry_of}
-use Rattle.ots_store.specs.Store.{Adds}
+use Rattle.ots_store.specs.Records.{CommitRecord, entry_of, record_of}
+use Rattle.ots_store.specs.Store.{Adds, with_room}
 use Rattle.ots_base.specs.declared.out_of_memory.OutOfMemory.{OutOfMemory as NoMemory}
 use Rattle.ots_shared.specs.declared.row.Row.{Row}
 use Rattle.ots_store.specs.Records.{Record}
-use Rattle.ots_tickets.specs.Tickets.{settles}
+use Rattle.ots_store.specs.Order.{commits_of, records_of}
+use Rattle.ots_round.specs.declared.ticket.Receipt.{Receipt}
+use Rattle.ots_shared.specs.Rows.{row}
+use Rattle.ots_tickets.specs.Tickets.{IsSettled, NoneIs, OneIs, Waits, settles}
 use Rattle.ots_connection.specs.declared.due.Due.{Due}
 use Rattle.ots_journal.specs.declared.entry.Entry.{Entry}
 use Rattle.ots_tickets.proofs.Places.{settles_long}
 use native.Mathlib.Decide.{dec_le}
 use mathlib.Core.Logic.{dite}
-use Rattle.ots_connection.specs.Closing.{Closed, kept}
-use Rattle.ots_connection.specs.Stamping.{IsFull, Settles, StoresWithin, stamped, disk, full, no_memory}
+use Rattle.ots_connection.proofs.Withdrawn.{closed_bears}
+use Rattle.ots_connection.specs.Closing.{AllBear, Closed, kept}
+use Rattle.ots_connection.specs.Stamping.{IsFull, IsStored, Settles, stamped, disk, full, no_memory}
 
 -- something waits, so it is not nothing
 some_index : (added : Result ℕ AppendError) → Ok None ≡ round_answer added → ⊥
@@ -85,21 +89,54 @@ module _ {D : Type 0} (bytes : D → Option (List ℕ)) (clock : D → ℕ) (sin
 
 -- what was closed
 pub closed_of : {D : Type 0} (key : List ℕ) (second : ℕ) (old new : BookTold D) (o : Option ℕ) → (o ≡ None → ⊥)
-    → IfSome o (λ i. new.tickets.settled ≡ old.tickets.settled ++ settles key second i old.tickets.waiting) → Closed key second old new
-closed_of key second old new None not is = absurd (not refl)
-closed_of key second old new (Some i) not is = record { index = i; settled = is }
+    → IfSome o (λ i. new.tickets.settled ≡ old.tickets.settled ++ settles key second i old.tickets.waiting) → IfSome o (λ i. i + 1 ≡ length (commits_of new.store.records)) → Closed key second old new
+closed_of key second old new None not is last = absurd (not refl)
+closed_of key second old new (Some i) not is last = record { index = i; settled = is; last = last }
 
--- a row of which as much is the same as counts
-same_within : (limit : ℕ) (row later : Row) → (later.records_found ≡ row.records_found) × (later.records_left ≡ row.records_left) → later.gate_left ≡ row.gate_left → StoresWithin limit row → StoresWithin limit later
-same_within limit row later records gate (inl none) = inl (records.1 ∙ none ∙ sym records.0)
-same_within limit row later records gate (inr within) = inr (omega arith)
+-- what is known of the receipt of a ticket whose round this hold has closed
+pub closes_it : {D : Type 0} (faults : D → ℕ) (key : List ℕ) (second limit : ℕ) (old mid new : BookTold D) (t : Ticket) → OneIs (Waits t) old.tickets.waiting → NoneIs (IsSettled t) old.tickets.settled
+    → Closed key second old mid → length old.store.records < length mid.store.records → length mid.tickets.waiting ≡ 0 → mid.store.journal.gate < limit → new.store ≡ mid.store → length new.tickets.waiting ≤ length mid.tickets.waiting
+    → AllBear t (IsStored t.leaf t.nonce key second limit new.store.records (row faults old new)) mid.tickets.settled
+closes_it faults key second limit old mid new t one none closed more empty fits same fewer =
+    closed_bears t (IsStored t.leaf t.nonce key second limit new.store.records (row faults old new)) key second closed.index old.tickets.waiting old.tickets.settled mid.tickets.settled none closed.settled
+    (inr (record {
+      more = rw same more;
+      tickets = old.tickets.waiting;
+      there = record { before = one.before; one = one.one; after = one.after; whole = one.whole; is = (ap (λ (x : Ticket). x.leaf) one.is, ap (λ (x : Ticket). x.nonce) one.is) };
+      all = omega arith;
+      commitment = refl;
+      last = rw same closed.last;
+      none_waits = omega arith;
+      within = rw same fits;
+    }))
 
-pub settles_by : (leaf nonce uri : List ℕ) (limit : ℕ) (seen : List Record) (due : Result Due NoMemory) (row later : Row) → (later.records_found ≡ row.records_found) × (later.records_left ≡ row.records_left) → later.faults_found ≡ row.faults_found → later.faults_left ≡ row.faults_left
-    → later.gate_left ≡ row.gate_left → Settles leaf nonce uri limit seen row due → Settles leaf nonce uri limit seen later due
-settles_by leaf nonce uri limit seen due row later records found left gate (stamped tree receipt stamps within is) = stamped tree receipt stamps (same_within limit row later records gate within) is
-settles_by leaf nonce uri limit seen due row later records found left gate (disk rose is) = disk (omega arith) is
-settles_by leaf nonce uri limit seen due row later records found left gate (full over is) = full (subst (IsFull limit) (sym gate) over) is
-settles_by leaf nonce uri limit seen due row later records found left gate (no_memory why is) = no_memory why is
+-- a row of which as much is the same, and of which no more waited as the book was found
+pub record SameWith (row later : Row) : Type 0 where
+  pub records : (later.records_found ≡ row.records_found) × (later.records_left ≡ row.records_left)
+  pub faults : (later.faults_found ≡ row.faults_found) × (later.faults_left ≡ row.faults_left)
+  pub gate : later.gate_left ≡ row.gate_left
+  pub found : later.waiting_found ≤ row.waiting_found
+  pub left : later.waiting_left ≡ row.waiting_left
+
+module _ (leaf nonce key uri : List ℕ) (second limit : ℕ) (seen : List Record) (row later : Row) (same : SameWith row later) where
+  stored_by : (receipt : Receipt) → IsStored leaf nonce key second limit seen row receipt → IsStored leaf nonce key second limit seen later receipt
+  stored_by receipt (inl none) = inl ((same.records).1 ∙ none ∙ sym (same.records).0)
+  stored_by receipt (inr closes) = inr (record {
+    more = (let a = closes.more in let b = same.records in omega arith);
+    tickets = closes.tickets;
+    there = closes.there;
+    all = (let a = closes.all in let b = same.found in omega arith);
+    commitment = closes.commitment;
+    last = closes.last;
+    none_waits = same.left ∙ closes.none_waits;
+    within = (let a = closes.within in let b = same.gate in omega arith);
+  })
+
+  pub settles_by : (due : Result Due NoMemory) → Settles leaf nonce key uri second limit seen row due → Settles leaf nonce key uri second limit seen later due
+  settles_by due (stamped tree receipt stamps stored is) = stamped tree receipt stamps (stored_by receipt stored) is
+  settles_by due (disk rose is) = disk (let e = same.faults in omega arith) is
+  settles_by due (full over is) = full (subst (IsFull limit) (sym same.gate) over) is
+  settles_by due (no_memory why is) = no_memory why is
 
 -- it fits where it was stored
 fits_of : {D : Type 0} (bytes : D → Option (List ℕ)) (clock : D → ℕ) (since : D → ℕ → List ℕ → Type 0) (old new : JournalTold D) (group : List Entry) (i : ℕ) → Adds bytes clock since old new group (is_index i) → new.gate < old.limit
@@ -122,6 +159,35 @@ closes_fits bytes clock since key second old new o some (inl r) =
     fits_of bytes clock since old.store.journal new.store.journal _ at.0 (subst (λ (a : Result ℕ AppendError). Adds bytes clock since old.store.journal new.store.journal _ a) at.1 r.adds)
 closes_fits bytes clock since key second old new o some (inr (inl n)) = absurd (let e = ap length n.nothing in omega arith)
 closes_fits bytes clock since key second old new o some (inr (inr n)) = let e = n.answer in absurd cc
+
+-- there are more records where it was stored
+refreshed_all : {D : Type 0} (bytes : D → Option (List ℕ)) (old mid : JournalTold D) (sure : Bool) → old.is_sure ≡ sure → Refreshed bytes old mid → length old.entries ≤ length mid.entries
+refreshed_all {D} bytes old mid true is r = let e = ap (λ (j : JournalTold D). length j.entries) (r.already is) in omega arith
+refreshed_all bytes old mid false is r = elim (r.decided is) [ inl e ↦ (let f = ap length e.0 in omega arith) | inr e ↦ (let f = ap length e.0 in omega (arith, length-append old.entries old.flight)) ]
+
+adds_more : {D : Type 0} (bytes : D → Option (List ℕ)) (clock : D → ℕ) (since : D → ℕ → List ℕ → Type 0) (old new : JournalTold D) (e : Entry) (i : ℕ) → Adds bytes clock since old new (e ∷ []) (is_index i) → length old.entries < length new.entries
+adds_more bytes clock since old new e i (inl after) =
+    let put = ap length (after.added.outcome).entries in
+    omega (arith, length-append after.mid.entries (e ∷ []), refreshed_all bytes (with_room old after.spare_entries after.spare_bytes) after.mid old.is_sure refl after.refreshed)
+adds_more bytes clock since old new e i (inr (inl nothing)) = let f = nothing.fault in absurd cc
+adds_more bytes clock since old new e i (inr (inr untouched)) = let f = untouched.no_memory in absurd cc
+
+pub closes_more : {D : Type 0} (bytes : D → Option (List ℕ)) (clock : D → ℕ) (since : D → ℕ → List ℕ → Type 0) (key : List ℕ) (second : ℕ) (old new : BookTold D) (o : Option ℕ)
+    → 0 < length old.tickets.waiting → old.store.records ≡ records_of old.store.journal.entries → new.store.records ≡ records_of new.store.journal.entries
+    → Closes bytes clock since key second old new (Ok o) → length old.store.records < length new.store.records
+closes_more bytes clock since key second old new o some before now (inl r) =
+    let at = index_of r.added o r.answer in
+    let adds = subst (λ (a : Result ℕ AppendError). Adds bytes clock since old.store.journal new.store.journal (entry_of (CommitRecord (round_commitment key second old.tickets.waiting)) ∷ []) a) at.1 r.adds in
+    omega (
+      arith,
+      ap length before,
+      ap length now,
+      length-map old.store.journal.entries record_of,
+      length-map new.store.journal.entries record_of,
+      adds_more bytes clock since old.store.journal new.store.journal (entry_of (CommitRecord (round_commitment key second old.tickets.waiting))) at.0 adds,
+    )
+closes_more bytes clock since key second old new o some before now (inr (inl n)) = absurd (let e = ap length n.nothing in omega arith)
+closes_more bytes clock since key second old new o some before now (inr (inr n)) = let e = n.answer in absurd cc
 
 -- as many tickets are kept
 pub closed_kept : {D : Type 0} (key : List ℕ) (second : ℕ) (old new : BookTold D) → length new.tickets.waiting ≡ 0 → Closed key second old new → kept new.tickets ≡ kept old.tickets

@@ -39,45 +39,45 @@ module _ (receipt : Receipt) (d : Due) (is : served.Stamped receipt ≡ d.served
   not_paged None e = let f = ap (λ (x : Due). x.served) e in cc
   not_paged (Some page) e = let f = ap (λ (x : Due). x.served) e in cc
 
-  module _ (leaf uri : List ℕ) (limit : ℕ) (seen : List Record) where
-    settled : (nonce : List ℕ) (row : Row) → Settles leaf nonce uri limit seen row (Ok d) → StandsAt seen receipt.index receipt.commitment
-    settled nonce row (stamping.stamped tree other stamps within e) =
+  module _ (leaf key uri : List ℕ) (limit : ℕ) (seen : List Record) where
+    settled : (nonce : List ℕ) (second : ℕ) (row : Row) → Settles leaf nonce key uri second limit seen row (Ok d) → StandsAt seen receipt.index receipt.commitment
+    settled nonce second row (stamping.stamped tree other stamps within e) =
         let same : d.served ≡ served.Stamped other = (let f : d ≡ stamp tree other = cc in ap (λ (x : Due). x.served) f) in
         let one : other ≡ receipt = cc in
         subst (λ (r : Receipt). StandsAt seen r.index r.commitment) one (stamps.gives).stands
-    settled nonce row (stamping.disk rose e) = absurd (not_words Disk (Ok d) refl e)
-    settled nonce row (stamping.full full e) = absurd (not_words JournalFull (Ok d) refl e)
-    settled nonce row (stamping.no_memory why e) = absurd cc
+    settled nonce second row (stamping.disk rose e) = absurd (not_words Disk (Ok d) refl e)
+    settled nonce second row (stamping.full full e) = absurd (not_words JournalFull (Ok d) refl e)
+    settled nonce second row (stamping.no_memory why e) = absurd cc
 
-    come : (nonce : List ℕ) (second : ℕ) (rows : List Row) → Comes leaf nonce uri second limit seen rows (Ok d) → StandsAt seen receipt.index receipt.commitment
+    come : (nonce : List ℕ) (second : ℕ) (rows : List Row) → Comes leaf nonce key uri second limit seen rows (Ok d) → StandsAt seen receipt.index receipt.commitment
     come nonce second rows (stamping.late late none e) = absurd (not_words Clock (Ok d) refl e)
     come nonce second rows (stamping.busy row early one left busy) = absurd (not_words Busy (Ok d) refl busy.1)
     come nonce second rows (stamping.no_memory row early one left few why e) = absurd cc
-    come nonce second rows (stamping.put row next early two left few fewer (inl settles)) = settled nonce next settles
+    come nonce second rows (stamping.put row next early two left few fewer (inl settles)) = settled nonce second next settles
     come nonce second rows (stamping.put row next early two left few fewer (inr busy)) = absurd (not_words Busy (Ok d) refl busy.1)
 
-    comes_of : (nonce : Option (List ℕ)) (second : ℕ) (rows : List Row) → ComesOf nonce leaf uri second limit seen rows (Ok d) → StandsAt seen receipt.index receipt.commitment
+    comes_of : (nonce : Option (List ℕ)) (second : ℕ) (rows : List Row) → ComesOf nonce leaf key uri second limit seen rows (Ok d) → StandsAt seen receipt.index receipt.commitment
     comes_of (Some nonce) second rows comes = come nonce second rows comes
     comes_of None second rows comes = absurd (not_words Nonce (Ok d) refl comes.1)
 
-  done : (uri : List ℕ) (limit : ℕ) (request : Request) (old new : SourcesTold) (seen : List Record) (rows : List Row) → Does uri limit request old new seen rows (Ok d) → StandsAt seen receipt.index receipt.commitment
-  done uri limit (Digest leaf) old new seen rows does = comes_of leaf uri limit seen does.nonce does.second rows does.comes
-  done uri limit (Timestamp commitment) old new seen rows does = absurd (not_answered (answer seen commitment) does.2)
-  done uri limit (Records number) old new seen rows does = absurd (not_paged (page_of seen number) does.2)
-  done uri limit (Refused status) old new seen rows does = absurd (not_words (refusal status) (Ok d) refl does.2)
+  done : (key uri : List ℕ) (limit : ℕ) (request : Request) (old new : SourcesTold) (seen : List Record) (rows : List Row) → Does key uri limit request old new seen rows (Ok d) → StandsAt seen receipt.index receipt.commitment
+  done key uri limit (Digest leaf) old new seen rows does = comes_of leaf key uri limit seen does.nonce does.second rows does.comes
+  done key uri limit (Timestamp commitment) old new seen rows does = absurd (not_answered (answer seen commitment) does.2)
+  done key uri limit (Records number) old new seen rows does = absurd (not_paged (page_of seen number) does.2)
+  done key uri limit (Refused status) old new seen rows does = absurd (not_words (refusal status) (Ok d) refl does.2)
 
-stands_at : (uri : List ℕ) (limit : ℕ) (old new : Seen) (receipt : Receipt) (request : Result Request RequestError) → Ends uri limit request old new (served.Stamped receipt) → StandsAt new.pass.seen receipt.index receipt.commitment
-stands_at uri limit old new receipt (Err unread.Closed) ends = let e = ends.0 in absurd cc
-stands_at uri limit old new receipt (Err unread.LinkFault) ends = let e = ends.0 in absurd cc
-stands_at uri limit old new receipt (Ok request) ends = by_due ends.due ends.handles.rows ends.handles.does ends.ends where
-  by_due : (due : Result Due NoMemory) (rows : List Row) → Does uri limit request old.sources new.sources new.pass.seen rows due → EndsWith due old.link new.link (served.Stamped receipt) → StandsAt new.pass.seen receipt.index receipt.commitment
-  by_due (Ok d) rows does (whole is t) = done receipt d is uri limit request old.sources new.sources new.pass.seen rows does
+stands_at : (key uri : List ℕ) (limit : ℕ) (old new : Seen) (receipt : Receipt) (request : Result Request RequestError) → Ends key uri limit request old new (served.Stamped receipt) → StandsAt new.pass.seen receipt.index receipt.commitment
+stands_at key uri limit old new receipt (Err unread.Closed) ends = let e = ends.0 in absurd cc
+stands_at key uri limit old new receipt (Err unread.LinkFault) ends = let e = ends.0 in absurd cc
+stands_at key uri limit old new receipt (Ok request) ends = by_due ends.due ends.handles.rows ends.handles.does ends.ends where
+  by_due : (due : Result Due NoMemory) (rows : List Row) → Does key uri limit request old.sources new.sources new.pass.seen rows due → EndsWith due old.link new.link (served.Stamped receipt) → StandsAt new.pass.seen receipt.index receipt.commitment
+  by_due (Ok d) rows does (whole is t) = done receipt d is key uri limit request old.sources new.sources new.pass.seen rows does
   by_due (Ok d) rows does (cut n within is rose t) = absurd cc
   by_due (Err e) rows does none = let f = none.0 in absurd cc
 
-pub stands : (uri : List ℕ) (limit : ℕ) (old new : Seen) (result : Served) → Serves uri limit old new result → IfStamped result (λ (receipt : Receipt). StandsAt new.pass.seen receipt.index receipt.commitment)
-stands uri limit old new (served.Stamped receipt) s = stands_at uri limit old new receipt s.request s.ends
-stands uri limit old new (served.Replied status) s = tt
-stands uri limit old new served.Closed s = tt
-stands uri limit old new served.LinkFault s = tt
-stands uri limit old new served.OutOfMemory s = tt
+pub stands : (key uri : List ℕ) (limit : ℕ) (old new : Seen) (result : Served) → Serves key uri limit old new result → IfStamped result (λ (receipt : Receipt). StandsAt new.pass.seen receipt.index receipt.commitment)
+stands key uri limit old new (served.Stamped receipt) s = stands_at key uri limit old new receipt s.request s.ends
+stands key uri limit old new (served.Replied status) s = tt
+stands key uri limit old new served.Closed s = tt
+stands key uri limit old new served.LinkFault s = tt
+stands key uri limit old new served.OutOfMemory s = tt

@@ -1,10 +1,11 @@
 -- A ticket among others: given where its round is closed, and gone where it is withdrawn.
 use Rattle.std.proofs.Common.{◌≡◌, ◌≢◌, inl, inr, ℕ, suc, ◌<◌, ◌≤◌, Bool, true, false, List, [], ◌∷◌, ◌++◌, length, refl, sym, ap, subst, arith, length-append}
 use Rattle.std.specs.List.{AllByRecursion}
+use Rattle.ots_round.specs.Round.{leaves, round_commitment}
 use Rattle.ots_round.specs.declared.ticket.Ticket.{Ticket}
 use Rattle.ots_round.specs.declared.ticket.Receipt.{Receipt}
 use Rattle.ots_tree.specs.declared.token.Token.{Token}
-use Rattle.ots_connection.specs.Closing.{IsKept, kept}
+use Rattle.ots_connection.specs.Closing.{AllBear, IsKept, kept}
 use Rattle.ots_tickets.specs.Calls.{Takes, Withdraws}
 use Rattle.ots_tickets.specs.Tickets.{TicketsTold, IsSettled, NoneIs, OneIs, Waits, settles, settles_from}
 use Rattle.ots_tickets.specs.declared.settled.Settled.{Settled}
@@ -47,6 +48,35 @@ settles_it key second index ws earlier settled t one all none =
     let parted : NoneIs (IsSettled t) (settles key second index (one.before ++ one.one ∷ one.after)) =
     subst (λ (l : List Ticket). NoneIs (IsSettled t) (settles key second index l)) one.whole round in
     in_round index _ _ 0 one.before one.one one.after t one.is parted
+
+-- ---- the receipt of a ticket
+
+all_one : {A : Type 0} (P : A → Type 0) (before : List A) (one : A) (after : List A) → AllByRecursion P (before ++ one ∷ after) → P one
+all_one P [] one after all = all.0
+all_one P (x ∷ before) one after all = all_one P before one after all.1
+
+module _ (t : Ticket) (P : Receipt → Type 0) where
+  later_bear : (earlier later : List Settled) → NoneIs (IsSettled t) earlier → AllBear t P later → AllBear t P (earlier ++ later)
+  later_bear [] later none all = all
+  later_bear (s ∷ earlier) later none all = ((λ is. absurd (none.0 is)), later_bear earlier later none.1 all)
+
+  round_bears : (index : ℕ) (c : List ℕ) (leaves : List (List ℕ)) (i : ℕ) (ws : List Ticket) → P (record { index = index; commitment = c }) → AllBear t P (settles_from index c leaves i ws)
+  round_bears index c leaves i [] p = tt
+  round_bears index c leaves i (w ∷ ws) p = ((λ is. p), round_bears index c leaves (suc i) ws p)
+
+  -- only the round has settled it
+  pub closed_bears : (key : List ℕ) (second index : ℕ) (ws : List Ticket) (earlier settled : List Settled) → NoneIs (IsSettled t) earlier → settled ≡ earlier ++ settles key second index ws
+      → P (record { index = index; commitment = round_commitment key second ws }) → AllBear t P settled
+  closed_bears key second index ws earlier settled none all p =
+      subst (AllBear t P) (sym all) (later_bear earlier (settles key second index ws) none (round_bears index (round_commitment key second ws) (leaves ws) 0 ws p))
+
+  pub taken_bears : (uri : List ℕ) (old new : TicketsTold) (tree : List Token) (receipt : Receipt) → Takes t uri old new (taken.Settled tree receipt) → AllBear t P old.settled → P receipt
+  taken_bears uri old new tree receipt (inl g) all =
+      let x = g.takes in
+      let same : receipt ≡ (g.one).receipt = (let e = g.answer in cc) in
+      subst P (sym same) (all_one (λ (s : Settled). IsSettled t s → P s.receipt) x.before g.one x.after (subst (AllBear t P) x.whole all) x.is)
+  taken_bears uri old new tree receipt (inr (inl g)) all = let e = g.3 in absurd cc
+  taken_bears uri old new tree receipt (inr (inr g)) all = let e = g.3 in absurd cc
 
 -- ---- how many wait
 

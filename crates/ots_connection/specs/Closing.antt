@@ -1,9 +1,13 @@
 -- What a book is left with where the round of a ticket is closed. It serves the code alone.
 use Rattle.std.specs.Prelude.{◌≡◌, ◌⊎◌, ◌≤◌, ℕ, ◌+◌, List, ◌++◌, length}
 use Rattle.ots_calendar.specs.Book.{BookTold}
+use Rattle.std.specs.List.{AllByRecursion}
 use Rattle.ots_shared.specs.Records.{StartsWith}
+use Rattle.ots_store.specs.Order.{commits_of}
+use Rattle.ots_round.specs.declared.ticket.Receipt.{Receipt}
 use Rattle.ots_round.specs.declared.ticket.Ticket.{Ticket}
 use Rattle.ots_tickets.specs.Tickets.{TicketsTold, IsSettled, OneIs, Waits, settles}
+use Rattle.ots_tickets.specs.declared.settled.Settled.{Settled}
 
 -- Records are added at the end alone, the limit stays, and no more tickets wait than before.
 pub record Goes {D : Type 0} (old new : BookTold D) : Type 0 where
@@ -19,7 +23,12 @@ kept t = length t.waiting + length t.settled
 abbrev pub IsKept : Ticket → TicketsTold → Type 0
 IsKept ticket t = OneIs (Waits ticket) t.waiting ⊎ OneIs (IsSettled ticket) t.settled
 
--- All that waited are settled by one round.
+-- The receipt has P wherever this ticket is settled.
+abbrev pub AllBear : Ticket → (Receipt → Type 0) → List Settled → Type 0
+AllBear ticket P settled = AllByRecursion (λ (s : Settled). IsSettled ticket s → P s.receipt) settled
+
+-- All that waited are settled by one round, whose commitment is the last.
 pub record Closed {D : Type 0} (key : List ℕ) (second : ℕ) (old new : BookTold D) : Type 0 where
   pub index : ℕ
   pub settled : new.tickets.settled ≡ old.tickets.settled ++ settles key second index old.tickets.waiting
+  pub last : index + 1 ≡ length (commits_of new.store.records)

@@ -18,7 +18,7 @@ use Rattle.ots_connection.specs.declared.due.Due.{Due}
 use Rattle.ots_connection.specs.declared.served.Served.{Served}
 use Rattle.ots_connection.specs.declared.served.Served.TheVariants.{Stamped, Replied, Closed, LinkFault}
 use Rattle.ots_connection.specs.declared.served.Served.TheVariants.{OutOfMemory as ran_out}
-use Rattle.ots_connection.specs.Holds.{Holds}
+use Rattle.ots_connection.specs.Holds.{ChangesNothing, Holds}
 use Rattle.ots_http.specs.ReplyText.{refusal}
 use Rattle.ots_connection.specs.Replies.{in_words, answered, paged}
 use Rattle.ots_http.specs.Seen.{LinkSeen, Takes}
@@ -31,25 +31,25 @@ pub record Seen : Type 0 where
   pub link : LinkSeen
   pub sources : SourcesTold
 
--- What comes of a request, where the calendar's URI and its journal's limit are these, and the call leaves these
+-- What comes of a request, where the calendar's key, its URI and its journal's limit are these, and the call leaves these
 -- records seen and made holds with these rows. Nothing is drawn but for a digest, and for a commitment or a page the
--- book is held once.
-abbrev pub Does : List ℕ → ℕ → Request → SourcesTold → SourcesTold → List Record → List Row → Result Due OutOfMemory
+-- book is held once, and nothing of it changed.
+abbrev pub Does : List ℕ → List ℕ → ℕ → Request → SourcesTold → SourcesTold → List Record → List Row → Result Due OutOfMemory
     → Type 0
-Does uri limit (Digest leaf) old new seen rows due = Stamping leaf uri limit old new seen rows due
-Does uri limit (Timestamp commitment) old new seen rows due = (new ≡ old) × ((row : Row) × (rows ≡ row ∷ []))
+Does key uri limit (Digest leaf) old new seen rows due = Stamping leaf key uri limit old new seen rows due
+Does key uri limit (Timestamp commitment) old new seen rows due = (new ≡ old) × ((row : Row) × (rows ≡ row ∷ []) × ChangesNothing row)
     × IfOk due (λ d. d ≡ answered (answer seen commitment))
-Does uri limit (Records number) old new seen rows due = (new ≡ old) × ((row : Row) × (rows ≡ row ∷ []))
+Does key uri limit (Records number) old new seen rows due = (new ≡ old) × ((row : Row) × (rows ≡ row ∷ []) × ChangesNothing row)
     × IfOk due (λ d. d ≡ paged (page_of seen number))
-Does uri limit (Refused status) old new seen rows due = (new ≡ old) × (rows ≡ [])
+Does key uri limit (Refused status) old new seen rows due = (new ≡ old) × (rows ≡ [])
     × (due ≡ Ok (in_words (refusal status)))
 
 -- What comes of a request, with the rows of the call's holds.
-pub record Handles (uri : List ℕ) (limit : ℕ) (request : Request) (old new : SourcesTold) (pass left : PassTold)
+pub record Handles (key uri : List ℕ) (limit : ℕ) (request : Request) (old new : SourcesTold) (pass left : PassTold)
     (due : Result Due OutOfMemory) : Type 0 where
   pub rows : List Row
   pub holds : Holds pass left rows
-  pub does : Does uri limit request old new left.seen rows due
+  pub does : Does key uri limit request old new left.seen rows due
 
 -- How the call ends by what is due: nothing is written where memory ran out.
 abbrev pub EndsWith : Result Due OutOfMemory → LinkSeen → LinkSeen → Served → Type 0
@@ -65,9 +65,9 @@ IfStamped LinkFault P = Unit {0}
 IfStamped ran_out P = Unit {0}
 
 -- What a request comes to, and its reply.
-pub record Replies (uri : List ℕ) (limit : ℕ) (request : Request) (old new : Seen) (result : Served) : Type 0 where
+pub record Replies (key uri : List ℕ) (limit : ℕ) (request : Request) (old new : Seen) (result : Served) : Type 0 where
   pub due : Result Due OutOfMemory
-  pub handles : Handles uri limit request old.sources new.sources old.pass new.pass due
+  pub handles : Handles key uri limit request old.sources new.sources old.pass new.pass due
   pub ends : EndsWith due old.link new.link result
 
 -- Without a request nothing is drawn, held or written.
@@ -76,14 +76,14 @@ pub record Leaves (old new : Seen) : Type 0 where
   pub sources : new.sources ≡ old.sources
   pub link : Takes [] old.link new.link
 
-abbrev pub Ends : List ℕ → ℕ → Result Request RequestError → Seen → Seen → Served → Type 0
-Ends uri limit (Ok request) old new result = Replies uri limit request old new result
-Ends uri limit (Err unread.Closed) old new result = (result ≡ Closed) × Leaves old new
-Ends uri limit (Err unread.LinkFault) old new result = (result ≡ LinkFault) × Rose old.link.faults new.link.faults
+abbrev pub Ends : List ℕ → List ℕ → ℕ → Result Request RequestError → Seen → Seen → Served → Type 0
+Ends key uri limit (Ok request) old new result = Replies key uri limit request old new result
+Ends key uri limit (Err unread.Closed) old new result = (result ≡ Closed) × Leaves old new
+Ends key uri limit (Err unread.LinkFault) old new result = (result ≡ LinkFault) × Rose old.link.faults new.link.faults
     × Leaves old new
 
 -- One connection: the request is that of the link's bytes, where they are told.
-pub record Serves (uri : List ℕ) (limit : ℕ) (old new : Seen) (result : Served) : Type 0 where
+pub record Serves (key uri : List ℕ) (limit : ℕ) (old new : Seen) (result : Served) : Type 0 where
   pub request : Result Request RequestError
   pub reads : IfTold old.link.told (λ link. IsRequestAnswer link.left request)
-  pub ends : Ends uri limit request old new result
+  pub ends : Ends key uri limit request old new result

@@ -10,8 +10,11 @@ use Rattle.ots_journal.specs.Journal.{size_with}
 use Rattle.ots_outside.specs.Streams as bytes
 use Rattle.ots_round.specs.declared.ticket.Receipt.{Receipt}
 use Rattle.ots_round.specs.declared.ticket.Ticket.{Ticket}
+use Rattle.ots_round.specs.Round.{round_commitment}
 use Rattle.ots_shared.specs.declared.row.Row.{Row}
+use Rattle.ots_store.specs.Order.{commits_of}
 use Rattle.ots_store.specs.Records.{Record, CommitRecord, entry_of}
+use Rattle.ots_tickets.specs.Tickets.{OneIs}
 use Rattle.ots_tickets.specs.declared.tickets.TheConstants.{MAX_WAITING}
 use Rattle.ots_tree.specs.declared.token.Token.{Token}
 use Rattle.ots_connection.specs.declared.due.Due.{Due}
@@ -51,20 +54,42 @@ pub record IsFull (limit gate : ℕ) : Type 0 where
   pub long : length commitment ≡ 44
   pub past : limit < size_with gate (entry_of (CommitRecord commitment) ∷ [])
 
--- The hold stored nothing, or what it stored is within the limit: the closed gate is the last byte of the file.
-abbrev pub StoresWithin : ℕ → Row → Type 0
-StoresWithin limit row = (row.records_left ≡ row.records_found) ⊎ (row.gate_left < limit)
+-- A ticket of this digest and this nonce.
+abbrev pub IsOf : List ℕ → List ℕ → Ticket → Type 0
+IsOf leaf nonce ticket = (ticket.leaf ≡ leaf) × (ticket.nonce ≡ nonce)
+
+-- The hold closed the round: the receipt's commitment is that of this second, this key, and the tickets that waited, one
+-- of them of this digest and nonce. It is the last commitment that the hold left, and no ticket waits then.
+pub record ClosesRound (leaf nonce key : List ℕ) (second limit : ℕ) (seen : List Record) (row : Row)
+    (receipt : Receipt) : Type 0 where
+  pub more : row.records_found < row.records_left
+  pub tickets : List Ticket
+  pub there : OneIs (IsOf leaf nonce) tickets
+  -- all that waited as the book was found
+  pub all : row.waiting_found ≤ length tickets
+  pub commitment : receipt.commitment ≡ round_commitment key second tickets
+  pub last : receipt.index + 1 ≡ length (commits_of seen)
+  pub none_waits : row.waiting_left ≡ 0
+  -- the closed gate is the last byte of the file
+  pub within : row.gate_left < limit
+
+-- The hold stored nothing, since another caller had closed the round, or it closed the round.
+abbrev pub IsStored : List ℕ → List ℕ → List ℕ → ℕ → ℕ → List Record → Row → Receipt → Type 0
+IsStored leaf nonce key second limit seen row receipt = (row.records_left ≡ row.records_found)
+    ⊎ ClosesRound leaf nonce key second limit seen row receipt
 
 -- What comes of a ticket whose round is closed, in this hold or before it, where the hold leaves these records and this
 -- row.
-pub data Settles (leaf nonce uri : List ℕ) (limit : ℕ) (seen : List Record) (row : Row)
+pub data Settles (leaf nonce key uri : List ℕ) (second limit : ℕ) (seen : List Record) (row : Row)
     (due : Result Due OutOfMemory) : Type 0 where
-  stamped : (tree : List Token) (receipt : Receipt) → Stamps seen leaf nonce uri tree receipt → StoresWithin limit row
-      → due ≡ Ok (stamp tree receipt)
-      → Settles leaf nonce uri limit seen row due
-  disk : Rose row.faults_found row.faults_left → due ≡ Ok (in_words Disk) → Settles leaf nonce uri limit seen row due
-  full : IsFull limit row.gate_left → due ≡ Ok (in_words JournalFull) → Settles leaf nonce uri limit seen row due
-  no_memory : (why : OutOfMemory) → due ≡ Err why → Settles leaf nonce uri limit seen row due
+  stamped : (tree : List Token) (receipt : Receipt) → Stamps seen leaf nonce uri tree receipt
+      → IsStored leaf nonce key second limit seen row receipt → due ≡ Ok (stamp tree receipt)
+      → Settles leaf nonce key uri second limit seen row due
+  disk : Rose row.faults_found row.faults_left → due ≡ Ok (in_words Disk)
+      → Settles leaf nonce key uri second limit seen row due
+  full : IsFull limit row.gate_left → due ≡ Ok (in_words JournalFull)
+      → Settles leaf nonce key uri second limit seen row due
+  no_memory : (why : OutOfMemory) → due ≡ Err why → Settles leaf nonce key uri second limit seen row due
 
 -- A hold that was to put a ticket found as many waiting as may.
 abbrev pub IsBusy : Row → Result Due OutOfMemory → Type 0
@@ -74,31 +99,31 @@ IsBusy row due = (row.waiting_found ≡ MAX_WAITING) × (due ≡ Ok (in_words Bu
 
 -- What comes of a digest whose nonce was drawn at this second, with the rows of the call's holds. The first hold puts a
 -- ticket. The second puts it once more where another caller has given it up.
-pub data Comes (leaf nonce uri : List ℕ) (second limit : ℕ) (seen : List Record) (rows : List Row)
+pub data Comes (leaf nonce key uri : List ℕ) (second limit : ℕ) (seen : List Record) (rows : List Row)
     (due : Result Due OutOfMemory) : Type 0 where
-  late : 2 ^ 32 ≤ second → rows ≡ [] → due ≡ Ok (in_words Clock) → Comes leaf nonce uri second limit seen rows due
+  late : 2 ^ 32 ≤ second → rows ≡ [] → due ≡ Ok (in_words Clock) → Comes leaf nonce key uri second limit seen rows due
   busy : (row : Row) → second < 2 ^ 32 → rows ≡ row ∷ [] → row.waiting_left ≡ row.waiting_found → IsBusy row due
-      → Comes leaf nonce uri second limit seen rows due
+      → Comes leaf nonce key uri second limit seen rows due
   no_memory : (row : Row) → second < 2 ^ 32 → rows ≡ row ∷ [] → row.waiting_left ≡ row.waiting_found
       → row.waiting_found < MAX_WAITING → (why : OutOfMemory) → due ≡ Err why
-      → Comes leaf nonce uri second limit seen rows due
+      → Comes leaf nonce key uri second limit seen rows due
   put : (row next : Row) → second < 2 ^ 32 → rows ≡ row ∷ next ∷ [] → row.waiting_left ≡ row.waiting_found + 1
       → row.waiting_found < MAX_WAITING
-      → next.waiting_left ≤ next.waiting_found → Settles leaf nonce uri limit seen next due ⊎ IsBusy next due
-      → Comes leaf nonce uri second limit seen rows due
+      → next.waiting_left ≤ next.waiting_found → Settles leaf nonce key uri second limit seen next due ⊎ IsBusy next due
+      → Comes leaf nonce key uri second limit seen rows due
 
 -- By the nonce that was drawn, if one was.
-abbrev pub ComesOf : Option (List ℕ) → List ℕ → List ℕ → ℕ → ℕ → List Record → List Row → Result Due OutOfMemory
-    → Type 0
-ComesOf (Some nonce) leaf uri second limit seen rows due = Comes leaf nonce uri second limit seen rows due
-ComesOf None leaf uri second limit seen rows due = (rows ≡ []) × (due ≡ Ok (in_words Nonce))
+abbrev pub ComesOf : Option (List ℕ) → List ℕ → List ℕ → List ℕ → ℕ → ℕ → List Record → List Row
+    → Result Due OutOfMemory → Type 0
+ComesOf (Some nonce) leaf key uri second limit seen rows due = Comes leaf nonce key uri second limit seen rows due
+ComesOf None leaf key uri second limit seen rows due = (rows ≡ []) × (due ≡ Ok (in_words Nonce))
 
 -- A digest is handed in.
-pub record Stamping (leaf uri : List ℕ) (limit : ℕ) (old new : SourcesTold) (seen : List Record) (rows : List Row)
+pub record Stamping (leaf key uri : List ℕ) (limit : ℕ) (old new : SourcesTold) (seen : List Record) (rows : List Row)
     (due : Result Due OutOfMemory) : Type 0 where
   pub nonce : Option (List ℕ)
   pub draws : Draws nonce old new
   -- the clock's second
   pub second : ℕ
   pub told : IfTold old.second (λ told. second ≡ told)
-  pub comes : ComesOf nonce leaf uri second limit seen rows due
+  pub comes : ComesOf nonce leaf key uri second limit seen rows due

@@ -5,7 +5,7 @@ ghost use Rattle.ots_shared.specs.Told.{IsPassOf};
 ghost use Rattle.ots_shared.specs.declared.row.Row.{Row};
 ghost use Rattle.ots_calendar.specs.Answer.{answer};
 ghost use Rattle.ots_store.specs.Page.{page_of};
-ghost use Rattle.ots_connection.specs.Holds.{Holds};
+ghost use Rattle.ots_connection.specs.Holds.{ChangesNothing, Holds};
 ghost use Rattle.ots_connection.specs.Replies.{answered, paged};
 
 use crate::due::{Due, in_words, with_page, with_tree};
@@ -26,7 +26,7 @@ pub(crate) fn answer_of<D: Disk, R: Wait>(
 ) -> Result<Due, OutOfMemory>
     requires own { IsPassOf shared.now pass.old }
     requires free { pass.old.holding ≡ false }
-    ensures holds { (row : Row) × Holds pass.old pass.new (row ∷ []) }
+    ensures holds { (row : Row) × Holds pass.old pass.new (row ∷ []) × ChangesNothing row }
     ensures due { IfOk result (λ due. due ≡ answered (answer pass.new.seen wanted)) }
     ensures reply { IfOk result (λ due. IsReply due.reply) }
 {
@@ -61,7 +61,7 @@ pub(crate) fn page_at<D: Disk, R: Wait>(
 ) -> Result<Due, OutOfMemory>
     requires own { IsPassOf shared.now pass.old }
     requires free { pass.old.holding ≡ false }
-    ensures holds { (row : Row) × Holds pass.old pass.new (row ∷ []) }
+    ensures holds { (row : Row) × Holds pass.old pass.new (row ∷ []) × ChangesNothing row }
     ensures due { IfOk result (λ due. due ≡ paged (page_of pass.new.seen number)) }
     ensures reply { IfOk result (λ due. IsReply due.reply) }
 {

@@ -1,12 +1,12 @@
 //! The round of a ticket, closed while the book is held.
-ghost use Rattle.std.specs.Prelude.{◌≡◌, ◌⊎◌, ◌<◌, ◌≤◌, ℕ, Err, IfOk, OnOk, OnErr, length};
+ghost use Rattle.std.specs.Prelude.{◌≡◌, ◌⊎◌, ◌<◌, ◌≤◌, ℕ, List, Err, IfOk, OnOk, OnErr, length};
 ghost use Rattle.ots_base.specs.Cause.{Rose};
 ghost use Rattle.ots_http.specs.ReplyText.{IsReply};
 ghost use Rattle.ots_shared.specs.Rows.{row};
 ghost use Rattle.ots_shared.specs.declared.row.Row.{Row};
 ghost use Rattle.ots_tickets.specs.Tickets.{IsSettled, NoneIs, OneIs, Waits};
-ghost use Rattle.ots_connection.specs.Closing.{Closed, Goes, IsKept, kept};
-ghost use Rattle.ots_connection.specs.Stamping.{IsBusy, IsFull, Settles, StoresWithin};
+ghost use Rattle.ots_connection.specs.Closing.{AllBear, Closed, Goes, IsKept, kept};
+ghost use Rattle.ots_connection.specs.Stamping.{IsBusy, IsFull, IsStored, Settles};
 
 use crate::Service;
 use crate::due::{Due, in_words, stamp};
@@ -28,8 +28,8 @@ pub(crate) fn settle<D: Disk>(
 ) -> Result<Due, OutOfMemory>
     ensures goes { Goes book.old book.new }
     ensures gone { IsKept ticket.now book.old.tickets → kept book.new.tickets < kept book.old.tickets }
-    ensures settles { Settles ticket.now.leaf ticket.now.nonce service.now.uri book.old.store.journal.limit
-        book.new.store.records (row D.faults book.old book.new) result
+    ensures settles { Settles ticket.now.leaf ticket.now.nonce service.now.key service.now.uri second
+        book.old.store.journal.limit book.new.store.records (row D.faults book.old book.new) result
         ⊎ IsBusy (row D.faults book.old book.new) result }
     ensures reply { IfOk result (λ due. IsReply due.reply) }
 {
@@ -52,8 +52,8 @@ fn put_again<D: Disk>(
     ticket: &Ticket,
 ) -> Result<Due, OutOfMemory>
     ensures goes { Goes book.old book.new }
-    ensures settles { Settles ticket.now.leaf ticket.now.nonce service.now.uri book.old.store.journal.limit
-        book.new.store.records (row D.faults book.old book.new) result
+    ensures settles { Settles ticket.now.leaf ticket.now.nonce service.now.key service.now.uri second
+        book.old.store.journal.limit book.new.store.records (row D.faults book.old book.new) result
         ⊎ IsBusy (row D.faults book.old book.new) result }
     ensures reply { IfOk result (λ due. IsReply due.reply) }
 {
@@ -77,8 +77,8 @@ fn close_round<D: Disk>(
     ensures goes { Goes book.old book.new }
     ensures fewer { length book.new.tickets.waiting < length book.old.tickets.waiting }
     ensures gone { kept book.new.tickets < kept book.old.tickets }
-    ensures settles { Settles ticket.now.leaf ticket.now.nonce service.now.uri book.old.store.journal.limit
-        book.new.store.records (row D.faults book.old book.new) result }
+    ensures settles { Settles ticket.now.leaf ticket.now.nonce service.now.key service.now.uri second
+        book.old.store.journal.limit book.new.store.records (row D.faults book.old book.new) result }
     ensures reply { IfOk result (λ due. IsReply due.reply) }
 {
     match close(book, service, second) {
@@ -99,6 +99,7 @@ fn close<D: Disk>(book: &mut Book<D>, service: &Service, second: u32) -> Result<
     requires { 0 < length book.old.tickets.waiting }
     ensures goes { Goes book.old book.new }
     ensures closed { OnOk result (Closed service.now.key second book.old book.new) }
+    ensures more { OnOk result (length book.old.store.records < length book.new.store.records) }
     ensures none { OnOk result (length book.new.tickets.waiting ≡ 0) }
     ensures kept { OnOk result (kept book.new.tickets ≡ kept book.old.tickets) }
     ensures fits { OnOk result (book.new.store.journal.gate < book.old.store.journal.limit) }
@@ -123,8 +124,9 @@ fn take_settled<D: Disk>(book: &mut Book<D>, uri: &Uri, ticket: &Ticket) -> Resu
     ensures store { book.new.store ≡ book.old.store }
     ensures waiting { length book.new.tickets.waiting ≤ length book.old.tickets.waiting }
     ensures gone { kept book.new.tickets < kept book.old.tickets }
-    ensures settles { (limit : ℕ) (row : Row) → StoresWithin limit row
-        → Settles ticket.now.leaf ticket.now.nonce uri.now limit book.new.store.records row result }
+    ensures settles { (key : List ℕ) (second limit : ℕ) (row : Row) → AllBear ticket.now
+        (IsStored ticket.now.leaf ticket.now.nonce key second limit book.new.store.records row) book.old.tickets.settled
+        → Settles ticket.now.leaf ticket.now.nonce key uri.now second limit book.new.store.records row result }
     ensures reply { IfOk result (λ due. IsReply due.reply) }
 {
     match book.take(ticket, uri) {

@@ -42,7 +42,7 @@ pub fn serve_connection<L: Link, D: Disk, C: Clock, N: Nonces, R: Wait>(
     requires own { IsPassOf shared.now pass.old }
     requires free { pass.old.holding ≡ false }
     // what is read, done and written, each answer with its cause
-    ensures serves { Serves service.now.uri shared.now.limit
+    ensures serves { Serves service.now.key service.now.uri shared.now.limit
         (record {
           pass = pass.old;
           link = record { told = L.told link.old; faults = L.faults link.old };
@@ -81,7 +81,7 @@ fn serve<L: Link, D: Disk, C: Clock, N: Nonces, R: Wait>(
 ) -> Served
     requires own { IsPassOf shared.now pass.old }
     requires free { pass.old.holding ≡ false }
-    ensures serves { Serves service.now.uri shared.now.limit
+    ensures serves { Serves service.now.key service.now.uri shared.now.limit
         (record {
           pass = pass.old;
           link = record { told = L.told link.old; faults = L.faults link.old };
@@ -125,7 +125,7 @@ fn handle<D: Disk, C: Clock, N: Nonces, R: Wait>(
 ) -> Result<Due, OutOfMemory>
     requires own { IsPassOf shared.now pass.old }
     requires free { pass.old.holding ≡ false }
-    ensures handles { Handles service.now.uri shared.now.limit request
+    ensures handles { Handles service.now.key service.now.uri shared.now.limit request
         (record { left = N.left nonces.old; faults = N.faults nonces.old; second = C.coming clock.old })
         (record { left = N.left nonces.new; faults = N.faults nonces.new; second = C.coming clock.new })
         pass.old pass.new result }

@@ -33,7 +33,7 @@ pub(crate) fn stamp_digest<D: Disk, C: Clock, N: Nonces, R: Wait>(
 ) -> Result<Due, OutOfMemory>
     requires own { IsPassOf shared.now pass.old }
     requires free { pass.old.holding ≡ false }
-    ensures handles { Handles service.now.uri shared.now.limit (Digest leaf)
+    ensures handles { Handles service.now.key service.now.uri shared.now.limit (Digest leaf)
         (record { left = N.left nonces.old; faults = N.faults nonces.old; second = C.coming clock.old })
         (record { left = N.left nonces.new; faults = N.faults nonces.new; second = C.coming clock.new })
         pass.old pass.new result }
@@ -66,7 +66,7 @@ fn stamp_at<D: Disk, R: Wait>(
     requires own { IsPassOf shared.now pass.old }
     requires free { pass.old.holding ≡ false }
     ensures comes { (rows : List Row) × Holds pass.old pass.new rows
-        × Comes leaf nonce service.now.uri second shared.now.limit pass.new.seen rows result }
+        × Comes leaf nonce service.now.key service.now.uri second shared.now.limit pass.new.seen rows result }
     ensures reply { IfOk result (λ due. IsReply due.reply) }
 {
     match put_held(rt, shared, pass, leaf, nonce) {
@@ -107,7 +107,8 @@ fn settle_held<D: Disk, R: Wait>(
     requires own { IsPassOf shared.now pass.old }
     requires free { pass.old.holding ≡ false }
     ensures settles { (row : Row) × Holds pass.old pass.new (row ∷ []) × (row.waiting_left ≤ row.waiting_found)
-        × (Settles ticket.now.leaf ticket.now.nonce service.now.uri shared.now.limit pass.new.seen row result
+        × (Settles ticket.now.leaf ticket.now.nonce service.now.key service.now.uri second shared.now.limit
+        pass.new.seen row result
         ⊎ IsBusy row result) }
     ensures reply { IfOk result (λ due. IsReply due.reply) }
 {

@@ -1,4 +1,6 @@
-use Rattle.std.proofs.Common.{inr, refl}
+use Rattle.std.proofs.Common.{refl}
+use Rattle.ots_shared.specs.Rows.{row}
+use Rattle.ots_connection.proofs.Closes.{closes_it}
 use Rattle.ots_connection.specs.Stamping.{no_memory}
 use Rattle.ots_connection.proofs.Withdrawn.{settles_it, refused_fewer, refused_gone}
 use Rattle.ots_connection.proofs.closing.close_round.Goals as goal
@@ -9,7 +11,13 @@ take_settled-requires g c = λ none.
     settles_it c.args.service.now.key c.args.second closed.index _ _ _ c.args.ticket.now c.requires.waits closed.settled none
 
 pub returns-in-Ok-clause-settles : goal.returns-in-Ok-clause-settles
-returns-in-Ok-clause-settles g c = c.take_settled.ensures.settles _ _ (inr (rw c.take_settled.ensures.store c.in-Ok.ensures.fits))
+returns-in-Ok-clause-settles g c =
+    let faults = g.D.Disk.faults in
+    let old = c.args.book.now in
+    let new = c.take_settled.new.book in
+    c.take_settled.ensures.settles c.args.service.now.key c.args.second old.store.journal.limit (row faults old new)
+    (closes_it faults c.args.service.now.key c.args.second old.store.journal.limit old c.close.new.book new c.args.ticket.now c.requires.waits c.requires.unsettled
+    c.in-Ok.ensures.closed c.in-Ok.ensures.more c.in-Ok.ensures.none c.in-Ok.ensures.fits c.take_settled.ensures.store c.take_settled.ensures.waiting)
 
 pub returns-in-DiskFault-clause-fewer : goal.returns-in-DiskFault-clause-fewer
 returns-in-DiskFault-clause-fewer g c = refused_fewer c.args.ticket.now c.args.book.now.tickets c.close.new.book.tickets c.withdraw.new.self.tickets c.withdraw.result c.in-Err.ensures.refused c.requires.waits c.requires.unsettled c.withdraw.ensures.withdraws

@@ -25,7 +25,7 @@ returns-in-Ok-Waiting-clause-settles g c =
     let new = c.close_round.new.book in
     let tickets : mid.tickets ≡ old.tickets = taken_waiting _ _ _ _ (rw c.in-Ok-Waiting.field-0-is at c.in-Ok-Waiting.ensures.takes) in
     let same : mid ≡ old = (λ i. record { store = c.in-Ok-Waiting.ensures.store i; tickets = tickets i }) in
-    inl (subst (λ (b : BookTold g.row.D.Denot). Settles t.leaf t.nonce c.args.service.now.uri b.store.journal.limit new.store.records (row g.D.Disk.faults b new) c.close_round.result) same
+    inl (subst (λ (b : BookTold g.row.D.Denot). Settles t.leaf t.nonce c.args.service.now.key c.args.service.now.uri c.args.second b.store.journal.limit new.store.records (row g.D.Disk.faults b new) c.close_round.result) same
     c.close_round.ensures.settles)
 
 pub returns-in-Ok-Unknown-clause-settles : goal.returns-in-Ok-Unknown-clause-settles
@@ -36,7 +36,7 @@ returns-in-Ok-Unknown-clause-settles g c =
     let new = c.put_again.new.book in
     let tickets : mid.tickets ≡ old.tickets = taken_unknown _ _ _ _ (rw c.in-Ok-Unknown.field-0-is at c.in-Ok-Unknown.ensures.takes) in
     let same : mid ≡ old = (λ i. record { store = c.in-Ok-Unknown.ensures.store i; tickets = tickets i }) in
-    subst (λ (b : BookTold g.row.D.Denot). Settles t.leaf t.nonce c.args.service.now.uri b.store.journal.limit new.store.records (row g.D.Disk.faults b new) c.put_again.result
+    subst (λ (b : BookTold g.row.D.Denot). Settles t.leaf t.nonce c.args.service.now.key c.args.service.now.uri c.args.second b.store.journal.limit new.store.records (row g.D.Disk.faults b new) c.put_again.result
     ⊎ IsBusy (row g.D.Disk.faults b new) c.put_again.result) same c.put_again.ensures.settles
 
 pub returns-in-Err-clause-settles : goal.returns-in-Err-clause-settles

@@ -26,7 +26,7 @@ returns-in-Ok-handle-clause-serves g c =
 
 pub returns-in-Ok-handle-clause-answered : goal.returns-in-Ok-handle-clause-answered
 returns-in-Ok-handle-clause-answered g c = λ fresh answers.
-    serves_answered _ _ _ _ _ _ _ _ _ _ _ (returns-in-Ok-handle-clause-serves g c) fresh answers
+    serves_answered _ _ _ _ _ _ _ _ _ _ _ _ (returns-in-Ok-handle-clause-serves g c) fresh answers
 
 pub returns-in-Err-clause-serves : goal.returns-in-Err-clause-serves
 returns-in-Err-clause-serves g c = record {
@@ -36,4 +36,4 @@ returns-in-Err-clause-serves g c = record {
 }
 
 pub returns-in-Ok-handle-clause-stamped : goal.returns-in-Ok-handle-clause-stamped
-returns-in-Ok-handle-clause-stamped g c = stands _ _ _ _ _ (returns-in-Ok-handle-clause-serves g c)
+returns-in-Ok-handle-clause-stamped g c = stands _ _ _ _ _ _ (returns-in-Ok-handle-clause-serves g c)

@@ -17,7 +17,7 @@ returns-clause-settles g c =
     let more : StartsWith left.store.records h.book.store.records = rw (← c.book.ensures.value) goes.records in
     let fewer : length left.tickets.waiting ≤ length h.found.tickets.waiting = rw same goes.waiting in
     let t = c.args.ticket.now in
-    let settles : Settles t.leaf t.nonce c.args.service.now.uri c.args.shared.now.limit c.release.new.pass.seen (row g.D.Disk.faults h.found left) c.settle-due.result
+    let settles : Settles t.leaf t.nonce c.args.service.now.key c.args.service.now.uri c.args.second c.args.shared.now.limit c.release.new.pass.seen (row g.D.Disk.faults h.found left) c.settle-due.result
     ⊎ IsBusy (row g.D.Disk.faults h.found left) c.settle-due.result = rw (limit, c.release.ensures.seen, same) c.settle-due.ensures.settles in (
       row g.D.Disk.faults h.found left,
       one_hold g.D.Disk.faults c.args.pass.now c.hold-held.new.pass c.release.new.pass h left c.hold-held.ensures.rest c.hold-held.ensures.seat c.hold-held.ensures.seen
