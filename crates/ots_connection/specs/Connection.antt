@@ -31,15 +31,17 @@ pub record Seen : Type 0 where
   pub link : LinkSeen
   pub sources : SourcesTold
 
--- What comes of a request, where the calendar's key, its URI and its journal's limit are these, and the call leaves these
--- records seen and made holds with these rows. Nothing is drawn but for a digest, and for a commitment or a page the
--- book is held once, and nothing of it changed.
-abbrev pub Does : List ℕ → List ℕ → ℕ → Request → SourcesTold → SourcesTold → List Record → List Row → Result Due OutOfMemory
-    → Type 0
+-- What comes of a request, where the calendar's key, its URI and its journal's limit are these, and the call leaves
+-- these records seen and made holds with these rows. Nothing is drawn but for a digest. For a commitment or a page the
+-- book is held once, and nothing of it changes.
+abbrev pub Does : List ℕ → List ℕ → ℕ → Request → SourcesTold → SourcesTold → List Record → List Row
+    → Result Due OutOfMemory → Type 0
 Does key uri limit (Digest leaf) old new seen rows due = Stamping leaf key uri limit old new seen rows due
-Does key uri limit (Timestamp commitment) old new seen rows due = (new ≡ old) × ((row : Row) × (rows ≡ row ∷ []) × ChangesNothing row)
+Does key uri limit (Timestamp commitment) old new seen rows due = (new ≡ old)
+    × ((row : Row) × (rows ≡ row ∷ []) × ChangesNothing row)
     × IfOk due (λ d. d ≡ answered (answer seen commitment))
-Does key uri limit (Records number) old new seen rows due = (new ≡ old) × ((row : Row) × (rows ≡ row ∷ []) × ChangesNothing row)
+Does key uri limit (Records number) old new seen rows due = (new ≡ old)
+    × ((row : Row) × (rows ≡ row ∷ []) × ChangesNothing row)
     × IfOk due (λ d. d ≡ paged (page_of seen number))
 Does key uri limit (Refused status) old new seen rows due = (new ≡ old) × (rows ≡ [])
     × (due ≡ Ok (in_words (refusal status)))

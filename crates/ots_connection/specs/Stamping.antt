@@ -58,8 +58,8 @@ pub record IsFull (limit gate : ℕ) : Type 0 where
 abbrev pub IsOf : List ℕ → List ℕ → Ticket → Type 0
 IsOf leaf nonce ticket = (ticket.leaf ≡ leaf) × (ticket.nonce ≡ nonce)
 
--- The hold closed the round: the receipt's commitment is that of this second, this key, and the tickets that waited, one
--- of them of this digest and nonce. It is the last commitment that the hold left, and no ticket waits then.
+-- The hold closed the round: the receipt's commitment is that of this second, this key, and the tickets that waited,
+-- one of them of this digest and nonce. It is the last commitment that the hold left, and no ticket waits then.
 pub record ClosesRound (leaf nonce key : List ℕ) (second limit : ℕ) (seen : List Record) (row : Row)
     (receipt : Receipt) : Type 0 where
   pub more : row.records_found < row.records_left

@@ -29,12 +29,12 @@ Draws (Some nonce) old new before now = (length nonce ≡ 16) × Gives old new n
 Draws None old new before now = (new ≡ old) × Rose before now
 
 -- The connection of the turn was served with the turn's second and nonce. `see` says what contracts see of a link.
-pub record ServesTurn {L : Type 0} (see : L → LinkSeen) (uri : List ℕ) (limit : ℕ) (pass : PassTold) (turn : Turn L)
-    (left : PassTold) (link : L) (answered : Bool)
+pub record ServesTurn {L : Type 0} (see : L → LinkSeen) (key uri : List ℕ) (limit : ℕ) (pass : PassTold)
+    (turn : Turn L) (left : PassTold) (link : L) (answered : Bool)
     : Type 0 where
   pub served : Served
   pub sources : SourcesTold
-  pub serves : Serves uri limit
+  pub serves : Serves key uri limit
       (record {
         pass = pass;
         link = see turn.link;

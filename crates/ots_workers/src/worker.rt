@@ -28,8 +28,8 @@ fn serve_turn<D: Disk, L: Link, R: Wait>(
     requires own { IsPassOf shared.now pass.old }
     requires free { pass.old.holding ≡ false }
     requires fresh { IsFresh (L.told turn.link) (L.faults turn.link) }
-    ensures serves { ServesTurn (λ link. record { told = L.told link; faults = L.faults link }) service.now.uri
-        shared.now.limit pass.old turn pass.new result.0 result.1 }
+    ensures serves { ServesTurn (λ link. record { told = L.told link; faults = L.faults link }) service.now.key
+        service.now.uri shared.now.limit pass.old turn pass.new result.0 result.1 }
     ensures answered { result.1 ≡ true → IsAnswered (L.told result.0) (L.faults result.0) }
     ensures seat { (pass.new.seat ≡ pass.old.seat) × (pass.new.holding ≡ false) }
     ensures seen { StartsWith pass.new.seen pass.old.seen }
