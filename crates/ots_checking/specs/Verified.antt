@@ -97,8 +97,8 @@ RunsShort v old new = OpensPrefix (header_names v) old.opened new.opened ⊎ Ros
 
 -- the verdict that comes of what was read, whichever proof and headers were found to be so
 abbrev pub ComesOf : Evidence → Verdict → Type 0
-ComesOf x v = (proof : Detached) (bitcoin : Table) (litecoin : Option Table) → IsCheckOf proof bitcoin litecoin x.checked
-    → IsVerdict proof x.digest bitcoin litecoin v
+ComesOf x v = (proof : Detached) (bitcoin : Table) (litecoin : Option Table)
+    → IsCheckOf proof bitcoin litecoin x.checked → IsVerdict proof x.digest bitcoin litecoin v
 
 abbrev pub TellsEvidence : Evidence → Ending → Type 0
 TellsEvidence x e = (v : Verdict) × ComesOf x v × TellsVerdict v e

@@ -1,8 +1,8 @@
 //! The command `chain`.
 ghost use Rattle.std.specs.Prelude.{◌≡◌, ◌∷◌, length};
 ghost use Rattle.std.specs.Option.{option_map};
-ghost use Rattle.ots_checking.specs.Chain.{ChecksChain, ChecksFile, HasPerhapsPins, RefusesPerhapsPins, failing_of, items_of};
-ghost use Rattle.ots_checking.specs.Chain.{names_perhaps};
+ghost use Rattle.ots_checking.specs.Chain.{ChecksChain, ChecksFile, HasPerhapsPins, RefusesPerhapsPins, failing_of};
+ghost use Rattle.ots_checking.specs.Chain.{items_of, names_perhaps};
 ghost use Rattle.ots_client_endings.specs.Reading.{Reads};
 ghost use Rattle.ots_client_endings.specs.Runs.{Finishes, Runs, at};
 ghost use Rattle.ots_client_words.specs.Words.{read_chaining};
@@ -72,7 +72,8 @@ pub fn chain<S: Shelf, K: Sink>(
 
 /// Checks headers, and then by pins where they are given, and prints that.
 fn tell_chain<K: Sink>(headers: &Headers, pins: &Option<Vec<Pin>>, out: &mut K) -> Status
-    ensures finishes { (shelf : ShelfTold) (faults : ShelfFaults) → Finishes (ChecksChain headers.now (items_of pins.now))
+    ensures finishes { (shelf : ShelfTold) (faults : ShelfFaults)
+        → Finishes (ChecksChain headers.now (items_of pins.now))
         (record { shelf = shelf; faults = faults; taken = K.taken out.old; lost = K.faults out.old })
         (record { shelf = shelf; faults = faults; taken = K.taken out.new; lost = K.faults out.new }) result }
     ensures same { K.same out.old out.new }

@@ -37,7 +37,8 @@ pub fn verify<S: Shelf, K: Sink>(
     shelf: &mut S,
     out: &mut K,
 ) -> Status
-    ensures runs { Runs (λ told. Verifies told (read_verification asked.entry)) (names_verified (read_verification asked.entry))
+    ensures runs { Runs (λ told. Verifies told (read_verification asked.entry))
+        (names_verified (read_verification asked.entry))
         (at S.told S.faults K.taken K.faults shelf.old out.old)
         (at S.told S.faults K.taken K.faults shelf.new out.new) result }
     ensures bounded { result ≡ Status.OutOfMemory

@@ -6,7 +6,8 @@ use Rattle.ots_checking.specs.Verified.{Verifies, names_verified}
 use Rattle.ots_client_endings.specs.Ending.{Ending, refused}
 use Rattle.ots_client_endings.specs.Outside.{Outside}
 use Rattle.ots_client_text.specs.declared.status.Status.TheVariants.{Usage}
-use Rattle.ots_client_words.specs.Words.{ClientCommand, info, canon, merge, prune, verify, stamp, upgrade, sample, chain}
+use Rattle.ots_client_words.specs.Words.{ClientCommand, info, canon, merge, prune, verify, stamp, upgrade}
+use Rattle.ots_client_words.specs.Words.{sample, chain}
 use Rattle.ots_completing.specs.Upgrade.{Upgrades}
 use Rattle.ots_outside.specs.Shelf.{Names}
 use Rattle.ots_rewriting.specs.Info.{TellsProof}

@@ -1,7 +1,8 @@
 -- What a command draws and asks.
 use Rattle.std.specs.Prelude.{◌≡◌, ◌⊎◌, ℕ, List, length, Option, Some, None}
 use Rattle.ots_client_endings.specs.Outside.{DrawsSome}
-use Rattle.ots_client_words.specs.Words.{ClientCommand, info, canon, merge, prune, verify, stamp, upgrade, sample, chain}
+use Rattle.ots_client_words.specs.Words.{ClientCommand, info, canon, merge, prune, verify, stamp, upgrade}
+use Rattle.ots_client_words.specs.Words.{sample, chain}
 use Rattle.ots_completing.specs.Asking.{AsksUpTo}
 use Rattle.ots_outside.specs.Dialer.{DialerTold}
 use Rattle.ots_outside.specs.Shelf.{Names}

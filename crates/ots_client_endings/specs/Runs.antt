@@ -37,7 +37,8 @@ pub data Comes (answers : Ending → Type 0) (stops_at : List ℕ → Type 0) (e
 -- out first, nothing was done. All that is told but this stays.
 pub record Runs (answers : Option Names → Ending → Type 0) (reads : List (List ℕ)) (old new : Moment)
     (r : Status) : Type 0 where
-  pub ends : Ends (Comes (answers old.shelf.names) (StopsAt reads old.shelf.opened new.shelf.opened old.faults new.faults))
+  pub ends : Ends
+      (Comes (answers old.shelf.names) (StopsAt reads old.shelf.opened new.shelf.opened old.faults new.faults))
       (Rose old.faults.writing new.faults.writing) (Rose old.lost new.lost) old.shelf.names new.shelf.names old.taken
       new.taken r
   pub opened : OpensPrefix reads old.shelf.opened new.shelf.opened

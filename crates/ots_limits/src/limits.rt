@@ -1,7 +1,8 @@
 //! The laws.
 ghost use Rattle.std.specs.Prelude.{◌≡◌};
 ghost use Rattle.ots_address.specs.declared.limits.TheConstants.{DEFAULT_PORT, MAX_CALENDARS, MAX_HOST};
-ghost use Rattle.ots_base.specs.declared.limits.TheConstants.{MAX_ARGUMENT, MAX_HEADER_FILE, MAX_HEXLIFIED, MAX_MESSAGE};
+ghost use Rattle.ots_base.specs.declared.limits.TheConstants.{MAX_ARGUMENT, MAX_HEADER_FILE, MAX_HEXLIFIED};
+ghost use Rattle.ots_base.specs.declared.limits.TheConstants.{MAX_MESSAGE};
 ghost use Rattle.ots_base.specs.declared.limits.TheConstants.{MAX_OPERATIONS, MAX_PAYLOAD, MAX_PROOF_FILE};
 ghost use Rattle.ots_base.specs.declared.limits.TheConstants.{MAX_REPLY_BODY, MAX_TARGET_FILE, MAX_URI};
 ghost use Rattle.ots_block.specs.declared.limits.TheConstants.{MAX_COMPACT};
