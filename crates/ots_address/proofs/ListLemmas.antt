@@ -1,13 +1,13 @@
 -- Lists of addresses, piece by piece.
 use Rattle.std.proofs.Common.{◌≡◌, ◌≢◌, ◌+◌, ◌<◌, ◌==◌, ℕ, Bool, false, List, [], ◌∷◌, ◌++◌, length, map, take, drop, get_or, refl, sym, ap, subst, ◌∙◌, arith, append_assoc, append-nil, length-drop, Option, Some, None}
 use Rattle.std.specs.Prelude.{sum_by, codes, bytes_eq, true, IfNone, All}
-use Rattle.std.specs.List.{position_or_len, before_first, after_first}
+use Rattle.std.specs.List.{AllByRecursion, position_or_len, before_first, after_first}
 use Rattle.std.proofs.lemmas.List.{length-take, length-map, get_or-map, map-append, take_more}
 use Rattle.std.proofs.lemmas.List.Elements.{All-push}
 use Rattle.std.proofs.lemmas.List.Splits.{slice_split_first, slice_split_none}
 use Rattle.std.proofs.lemmas.List.Sums.{fails_before_first, sum_by-append}
 use Rattle.std.specs.Cmp.Lexicographic.{bytes_decides}
-use Rattle.ots_address.specs.Address.{AddressParts, IsAddress, text_of}
+use Rattle.ots_address.specs.Address.{AddressParts, IsAddress, IsNamed, text_of}
 use Rattle.ots_address.specs.AddressList.{comma, pieces_of, pieces_left, CutsPiece, IsNext, AreNext, AreAddresses, IsBadAddress, begins_with}
 
 -- ---- the first piece
@@ -89,20 +89,26 @@ pub no_next : {T : Type 0} (r : Option T) (before : List (List ℕ)) (piece byte
 no_next None before piece bytes is none = λ next. none next.address.0 next.address.1 (subst (λ (z : List ℕ). IsAddress z next.address.0 next.address.1) (sym is) next.address.2)
 no_next (Some x) before piece bytes is none = tt
 
+one_more : (xs : List AddressParts) (a : AddressParts) → AllByRecursion IsNamed xs → IsNamed a → AllByRecursion IsNamed (xs ++ a ∷ [])
+one_more [] a all is = (is, tt)
+one_more (x ∷ xs) a all is = (all.0, one_more xs a all.1 is)
+
 -- an address more was read
 pub record ReadsMore (list : List ℕ) (addresses : List AddressParts) (place : ℕ) (rest : Option (List ℕ)) : Type 0 where
   pub pieces : pieces_of list ≡ map text_of addresses ++ pieces_left rest
+  pub named : AllByRecursion IsNamed addresses
   pub good : AreAddresses (map text_of addresses)
   pub place_is : place ≡ sum_by (λ (piece : List ℕ). length piece + 1) (map text_of addresses)
 
 pub reads_more : (list : List ℕ) (old new : List AddressParts) (address : AddressParts) (text piece : List ℕ) (place : ℕ) (rest : Option (List ℕ))
-    → ReadsMore list old place (Some text) → CutsPiece text piece rest → address.text ≡ piece → IsNext (map text_of old) piece → new ≡ old ++ address ∷ []
+    → ReadsMore list old place (Some text) → CutsPiece text piece rest → address.text ≡ piece → IsNamed address → IsNext (map text_of old) piece → new ≡ old ++ address ∷ []
     → ReadsMore list new (place + (length piece + 1)) rest
-reads_more list old new address text piece place rest before cut is next more =
+reads_more list old new address text piece place rest before cut is named next more =
     let texts : map text_of new ≡ map text_of old ++ piece ∷ [] = ap (map text_of) more ∙ map-append text_of old (address ∷ []) ∙ ap (λ (z : List ℕ). map text_of old ++ z ∷ []) is in
     record {
       pieces = before.pieces ∙ ap (λ (z : List (List ℕ)). map text_of old ++ z) cut.pieces ∙ sym (append_assoc (map text_of old) (piece ∷ []) (pieces_left rest))
           ∙ ap (λ (z : List (List ℕ)). z ++ pieces_left rest) (sym texts);
+      named = subst (AllByRecursion IsNamed) (sym more) (one_more old address before.named named);
       good = subst AreAddresses (sym texts) (next_more [] (map text_of old) piece before.good next);
       place_is = rw texts (omega (arith, before.place_is, sum_by-append (λ (p : List ℕ). length p + 1) (map text_of old) (piece ∷ [])));
     }

@@ -1,12 +1,13 @@
 -- A word that is one address or none.
-use Rattle.std.proofs.Common.{◌≡◌, refl, ◌≤◌, ◌+◌, ℕ, Bool, true, false, List, [], ◌∷◌, length, cond, map, get_or, sym, ap, subst, ◌∙◌, arith}
+use Rattle.std.proofs.Common.{◌≡◌, refl, ◌≤◌, ◌+◌, ℕ, Bool, true, false, List, [], ◌∷◌, length, cond, map, drop, get_or, sym, ap, subst, ◌∙◌, arith}
 use Rattle.std.specs.Prelude.{Result, Ok, Err, ◌==◌, IfErr}
-use Rattle.std.specs.List.{onto_first}
-use Rattle.ots_address.specs.Address.{AddressParts, text_of}
+use Rattle.std.specs.List.{AllByRecursion, onto_first}
+use Rattle.ots_address.specs.Address.{AddressParts, IsNamed, text_of}
 use Rattle.ots_address.specs.AddressList.{IfBadAddress, IsListOf, comma, pieces_of}
 use Rattle.ots_address.specs.OneAddress.{IsOneAddress, IsNotOneAddress, IfNotOneAddress, IsOnly, bad, several}
 use Rattle.ots_address.specs.declared.list.AddressError.{AddressError}
 use Rattle.ots_address.specs.declared.list.AddressError.TheVariants.{BadAddress, OutOfMemory}
+use Rattle.ots_address.proofs.AddressLemmas.{one_address}
 use Rattle.ots_address.proofs.ListLemmas.{none_bad, one_bad}
 
 -- there is always a piece
@@ -48,8 +49,22 @@ first_text : (a b : AddressParts) (more others : List AddressParts) → map text
     → a.text ≡ b.text
 first_text a b more others same = ap (λ (z : List (List ℕ)). get_or z 0 []) same
 
-pub given_once : (word : List ℕ) (a b : AddressParts) → IsOneAddress word a → IsOneAddress word b → a.text ≡ b.text
-given_once word a b f g = first_text a b [] [] (sym f.texts ∙ g.texts)
+same_parts : (a b : AddressParts) → a.text ≡ b.text → IsNamed a → IsNamed b → a ≡ b
+same_parts a b same p q =
+    let rest = one_address a.text a.host b.host a.port b.port p (rw same q) in λ i. record { text = same i; host = rest.0 i; port = rest.1 i }
+
+same_addresses : (xs ys : List AddressParts) → map text_of xs ≡ map text_of ys → AllByRecursion IsNamed xs → AllByRecursion IsNamed ys → xs ≡ ys
+same_addresses [] [] same p q = refl
+same_addresses [] (y ∷ ys) same p q = absurd cc
+same_addresses (x ∷ xs) [] same p q = absurd cc
+same_addresses (x ∷ xs) (y ∷ ys) same p q =
+    let first = same_parts x y (first_text x y xs ys same) p.0 q.0 in let rest = same_addresses xs ys (ap (drop 1) same) p.1 q.1 in λ i. first i ∷ rest i
+
+pub one_list : (list : List ℕ) (xs ys : List AddressParts) → IsListOf list xs → IsListOf list ys → xs ≡ ys
+one_list list xs ys f g = same_addresses xs ys (sym f.texts ∙ g.texts) f.named g.named
+
+pub given_once : (word : List ℕ) (a b : AddressParts) → IsOneAddress word a → IsOneAddress word b → a ≡ b
+given_once word a b f g = ap (λ (z : List AddressParts). get_or z 0 a) (one_list word (a ∷ []) (b ∷ []) f g)
 
 pub refused_once : (word : List ℕ) (place other : ℕ) (https another : Bool) → IsNotOneAddress word place https
     → IsNotOneAddress word other another → (place ≡ other) × (https ≡ another)

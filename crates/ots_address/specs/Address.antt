@@ -43,5 +43,9 @@ pub record AddressParts : Type 0 where
   pub host : List ℕ
   pub port : ℕ
 
+-- The host and the port are those that the text names.
+abbrev pub IsNamed : AddressParts → Type 0
+IsNamed address = IsAddress address.text address.host address.port
+
 abbrev pub text_of : AddressParts → List ℕ
 text_of address = address.text

@@ -1,11 +1,11 @@
 -- Lists of calendar addresses, with commas between. Source: this project's profile.
 use Rattle.std.specs.Prelude.{◌≡◌, ◌≢◌, ℕ, ◌+◌, ◌<◌, ◌==◌, Bool, List, [], ◌∷◌, ◌++◌, length, sum_by, map, All, Option}
 use Rattle.std.specs.Prelude.{Some, None, codes, bytes_eq, take}
-use Rattle.std.specs.List.{slice_split}
+use Rattle.std.specs.List.{AllByRecursion, slice_split}
 use Rattle.ots_address.specs.declared.limits.TheConstants.{MAX_CALENDARS}
 use Rattle.ots_address.specs.declared.list.AddressError.{AddressError}
 use Rattle.ots_address.specs.declared.list.AddressError.TheVariants.{BadAddress, OutOfMemory}
-use Rattle.ots_address.specs.Address.{IsAddress, AddressParts, text_of}
+use Rattle.ots_address.specs.Address.{IsAddress, AddressParts, IsNamed, text_of}
 
 abbrev pub comma : ℕ
 comma = 44
@@ -31,9 +31,10 @@ AreNext before (piece ∷ pieces) = IsNext before piece × AreNext (before ++ pi
 abbrev pub AreAddresses : List (List ℕ) → Type 0
 AreAddresses pieces = AreNext [] pieces
 
--- The addresses of a list, in order.
+-- The addresses of a list, in order: each has a piece's text, and the host and the port that the text names.
 pub record IsListOf (list : List ℕ) (addresses : List AddressParts) : Type 0 where
   pub texts : pieces_of list ≡ map text_of addresses
+  pub named : AllByRecursion IsNamed addresses
   pub good : AreAddresses (pieces_of list)
 
 -- The first piece that is not the next address stands at this place, and begins with `https://` or does not.

@@ -3,7 +3,7 @@ ghost use Rattle.std.specs.Prelude.{◌≡◌, ◌≢◌, ◌<◌, ◌≤◌, �
 ghost use Rattle.std.specs.Prelude.{IfOk, IfErr, IfSome, IfNone, IsTrue};
 ghost use Rattle.std.specs.Option.{option_copied};
 ghost use Rattle.ots_address.specs.declared.list.AddressError.TheVariants.{OutOfMemory};
-ghost use Rattle.ots_address.specs.Address.{KeepsAddress, text_of};
+ghost use Rattle.ots_address.specs.Address.{IsNamed, KeepsAddress, text_of};
 ghost use Rattle.ots_address.specs.AddressList.{IsNext, IsListOf, IfBadAddress, IsRefusal, CutsPiece};
 
 use crate::address::Address;
@@ -81,6 +81,7 @@ fn read_next(
     place: usize,
 ) -> Result<Address, AddressError>
     ensures ok { IfOk result (λ address. (address.text ≡ piece.now) × IsNext (map text_of before.now) piece.now) }
+    ensures named { IfOk result IsNamed }
     ensures bad { IfErr result (IsRefusal (map text_of before.now) piece.now place) }
 {
     match next_parts(before, piece) {

@@ -10,7 +10,7 @@ use Rattle.std.specs.Ordering.{is_eq}
 use Rattle.std.proofs.lemmas.Map.Text.{is_eq-slice_cmp}
 use Rattle.ots_varint.proofs.OneNumber.{parts_equal}
 use Rattle.ots_attest.specs.Kind.{pending_kind, bitcoin_kind, litecoin_kind}
-use Rattle.ots_attest.specs.declared.other.Other.{Other}
+use Rattle.ots_attest.specs.declared.other.OtherParts.{OtherParts}
 use Rattle.ots_attest.specs.declared.attestation.Attestation.{Attestation}
 use Rattle.ots_attest.specs.declared.attestation.Attestation.TheVariants.{Pending, Bitcoin, Litecoin, Unknown}
 use Rattle.ots_attest.specs.Attestation.{kind, held, key, attestation_cmp, IsAttestation}
@@ -84,5 +84,5 @@ two_bitcoin_heights m n = same_prefix bitcoin_kind (m ∷ []) (n ∷ []) ∙ num
 pub two_litecoin_heights : (m n : ℕ) → attestation_cmp (Litecoin m) (Litecoin n) ≡ nat_cmp m n
 two_litecoin_heights m n = same_prefix litecoin_kind (m ∷ []) (n ∷ []) ∙ numbers m n
 
-pub two_payloads : (o p : Other) → o.kind ≡ p.kind → attestation_cmp (Unknown o) (Unknown p) ≡ slice_cmp nat_cmp o.payload p.payload
+pub two_payloads : (o p : OtherParts) → o.kind ≡ p.kind → attestation_cmp (Unknown o) (Unknown p) ≡ slice_cmp nat_cmp o.payload p.payload
 two_payloads o p same = rw same (same_prefix p.kind o.payload p.payload)

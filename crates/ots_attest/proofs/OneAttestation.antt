@@ -4,7 +4,7 @@ use mathlib.Core.HLevel.{is_prop→PathP}
 use Rattle.ots_varint.specs.Varuint.{varuint, varbytes}
 use Rattle.ots_varint.proofs.OneNumber.{varuint-apart, varbytes-apart, parts_equal}
 use Rattle.ots_attest.specs.Kind.{IsUnknown}
-use Rattle.ots_attest.specs.declared.other.Other.{Other}
+use Rattle.ots_attest.specs.declared.other.OtherParts.{OtherParts}
 use Rattle.ots_attest.specs.declared.attestation.Attestation.{Attestation}
 use Rattle.ots_attest.specs.declared.attestation.Attestation.TheVariants.{Pending, Bitcoin, Litecoin, Unknown}
 use Rattle.ots_attest.specs.Attestation.{kind, payload, spell, IsAttestation}
@@ -17,7 +17,7 @@ kind-len (Litecoin n) h = refl
 kind-len (Unknown o) h = h.0
 
 -- the fact that a kind is unknown has one proof
-pub same_other : (o p : Other) → o.kind ≡ p.kind → o.payload ≡ p.payload → o ≡ p
+pub same_other : (o p : OtherParts) → o.kind ≡ p.kind → o.payload ≡ p.payload → o ≡ p
 same_other o p k q = λ i. record { kind = k i; payload = q i; unknown = is_prop→PathP (λ j. IsUnknown (k j)) (λ j. hlevel) o.unknown p.unknown i }
 
 -- the first bytes of equal lists
@@ -26,12 +26,12 @@ heads e = cc
 
 -- Two attestations of one kind are of one variant, in which what they hold decides.
 pub same_by : (held : Attestation → List ℕ) → ((u v : List ℕ) → held (Pending u) ≡ held (Pending v) → u ≡ v) → ((m n : ℕ) → held (Bitcoin m) ≡ held (Bitcoin n) → m ≡ n)
-    → ((m n : ℕ) → held (Litecoin m) ≡ held (Litecoin n) → m ≡ n) → ((o q : Other) → held (Unknown o) ≡ held (Unknown q) → o.payload ≡ q.payload)
+    → ((m n : ℕ) → held (Litecoin m) ≡ held (Litecoin n) → m ≡ n) → ((o q : OtherParts) → held (Unknown o) ≡ held (Unknown q) → o.payload ≡ q.payload)
     → (a b : Attestation) → kind a ≡ kind b → held a ≡ held b → a ≡ b
 same_by held uri bitcoin litecoin other (Pending u) (Pending v) k p = ap (λ (z : List ℕ). Pending z) (uri u v p)
 same_by held uri bitcoin litecoin other (Bitcoin m) (Bitcoin n) k p = ap (λ (z : ℕ). Bitcoin z) (bitcoin m n p)
 same_by held uri bitcoin litecoin other (Litecoin m) (Litecoin n) k p = ap (λ (z : ℕ). Litecoin z) (litecoin m n p)
-same_by held uri bitcoin litecoin other (Unknown o) (Unknown q) k p = ap (λ (z : Other). Unknown z) (same_other o q k (other o q p))
+same_by held uri bitcoin litecoin other (Unknown o) (Unknown q) k p = ap (λ (z : OtherParts). Unknown z) (same_other o q k (other o q p))
 same_by held uri bitcoin litecoin other (Unknown o) (Pending v) k p = absurd (o.unknown.0 k)
 same_by held uri bitcoin litecoin other (Unknown o) (Bitcoin n) k p = absurd (o.unknown.1 k)
 same_by held uri bitcoin litecoin other (Unknown o) (Litecoin n) k p = absurd (o.unknown.2 k)

@@ -57,8 +57,8 @@ impl Attestation {
             Attestation::Pending(uri) => varbytes_length(uri.text().len()),
             Attestation::Bitcoin(height) | Attestation::Litecoin(height) => varuint_length(*height),
             Attestation::Unknown(other) => {
-                let _ = copy_kind(&other.kind);
-                other.payload.bytes().len()
+                let _ = copy_kind(other.kind());
+                other.payload().bytes().len()
             }
         }
     }
@@ -72,7 +72,7 @@ impl Attestation {
             Attestation::Pending(_) => PENDING,
             Attestation::Bitcoin(_) => BITCOIN,
             Attestation::Litecoin(_) => LITECOIN,
-            Attestation::Unknown(other) => copy_kind(&other.kind),
+            Attestation::Unknown(other) => copy_kind(other.kind()),
         }
     }
 }

@@ -3,7 +3,7 @@ ghost use Rattle.std.specs.Prelude.{◌≡◌, IfOk};
 ghost use Rattle.ots_attest.specs.AttestationRef.{attestation_of, other_of};
 
 use crate::attestation::Attestation;
-use crate::other::{Other, Payload};
+use crate::other::{Other, OtherParts, Payload};
 use crate::other_ref::OtherRef;
 use crate::uri_ref::UriRef;
 use ots_base::OutOfMemory;
@@ -45,9 +45,10 @@ impl<'a> OtherRef<'a> {
         ensures { IfOk result (λ owned. owned ≡ other_of self.entry) }
     {
         let payload = Payload::new(alloc, self.payload)?;
-        Ok(Other {
+        let parts = OtherParts {
             kind: self.kind,
             payload,
-        })
+        };
+        Other::new(alloc, parts)
     }
 }

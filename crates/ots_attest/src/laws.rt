@@ -6,12 +6,13 @@ ghost use Rattle.std.specs.Cmp.Lexicographic.{slice_cmp};
 ghost use Rattle.ots_attest.specs.Attestation.{attestation_cmp, key, kind, payload, spell, IsAttestation};
 ghost use Rattle.ots_attest.specs.AttestationRef.{attestation_of};
 ghost use Rattle.ots_attest.specs.PayloadFault.{payload_fault, IsOf};
+ghost use Rattle.ots_attest.specs.declared.other.OtherParts.{OtherParts};
 ghost use Rattle.ots_attest.specs.declared.payload.PayloadError.{PayloadError};
 ghost use Rattle.ots_attest.specs.declared.payload.PayloadError.TheVariants.{OutOfMemory};
 
 use crate::attestation::Attestation;
 use crate::attestation_ref::AttestationRef;
-use crate::other::{Other, copy_kind};
+use crate::other::copy_kind;
 use ots_base::{MAX_PAYLOAD, are_bytes};
 
 /// A spelling determines its attestation and begins no other's. Nor does it begin with an
@@ -67,7 +68,7 @@ pub fn order_of_attestations()
         ≡ slice_cmp nat_cmp u v }
     ensures bitcoin { (m n : ℕ) → attestation_cmp (Attestation.Bitcoin m) (Attestation.Bitcoin n) ≡ nat_cmp m n }
     ensures litecoin { (m n : ℕ) → attestation_cmp (Attestation.Litecoin m) (Attestation.Litecoin n) ≡ nat_cmp m n }
-    ensures payloads { (o p : Other) → o.kind ≡ p.kind → attestation_cmp (Attestation.Unknown o) (Attestation.Unknown p)
+    ensures payloads { (o p : OtherParts) → o.kind ≡ p.kind → attestation_cmp (Attestation.Unknown o) (Attestation.Unknown p)
         ≡ slice_cmp nat_cmp o.payload p.payload }
 {}
 

@@ -22,7 +22,7 @@ pub use laws::{
     limits_of_attestation, limits_of_borrowed_attestation, one_attestation, one_fault, one_key,
     order_of_attestations,
 };
-pub use other::{Other, Payload};
+pub use other::{Other, OtherParts, Payload};
 pub use other_ref::OtherRef;
 pub use payload::{PayloadError, from_payload, read_payload};
 pub use spelling::{MAX_SPELLED_ATTESTATION, spell_attestation};

@@ -60,7 +60,7 @@ fn compare_held(first: &Attestation, second: &Attestation) -> Ordering
         (Attestation::Bitcoin(one), Attestation::Bitcoin(two))
         | (Attestation::Litecoin(one), Attestation::Litecoin(two)) => one.cmp(two),
         (Attestation::Unknown(one), Attestation::Unknown(two)) => {
-            one.payload.bytes().cmp(two.payload.bytes())
+            one.payload().bytes().cmp(two.payload().bytes())
         }
         _ => unreachable!(),
     }

@@ -28,6 +28,11 @@ impl Model for Payload {
 }
 
 impl Payload {
+    /// Where its memory comes from.
+    pub(crate) fn allocator(&self) -> Global {
+        *self.bytes.allocator()
+    }
+
     /// The bytes, 0 to 8192 of them.
     pub fn bytes(&self) -> &[u8]
         ensures bytes { result.now ≡ self.now }
@@ -56,8 +61,25 @@ impl Payload {
 
 /// An attestation whose kind is neither Pending nor Bitcoin nor Litecoin. Its kind and payload are
 /// kept and written back unread.
+///
+/// Contracts see its parts.
 #[derive(Debug, Drop)]
 pub struct Other {
+    // in a box, so that a token of a tree with no such attestation is small
+    parts: Box<OtherParts>,
+}
+
+impl Model for Other {
+    ghost use Rattle.ots_attest.specs.declared.other.OtherParts.{OtherParts};
+
+    ghost Value = { OtherParts };
+
+    ghost view = { λ o. o.parts.value };
+}
+
+/// The kind and the payload of an attestation of an unknown kind.
+#[derive(Debug, Drop)]
+pub struct OtherParts {
     /// The eight bytes that name the kind.
     pub kind: [u8; 8],
     /// What stands after the kind.
@@ -66,14 +88,39 @@ pub struct Other {
 }
 
 impl Other {
-    /// An equal attestation.
+    /// The attestation of these parts, in memory of `alloc`, which it keeps.
+    pub fn new(alloc: Global, parts: OtherParts) -> Result<Other, OutOfMemory>
+        ensures { IfOk result (λ other. other ≡ parts) }
+    {
+        Ok(Other {
+            parts: Box::new(alloc, parts)?,
+        })
+    }
+
+    /// The eight bytes that name the kind.
+    pub fn kind(&self) -> &[u8; 8]
+        ensures { result.now ≡ self.now.kind }
+    {
+        &self.parts.kind
+    }
+
+    /// What stands after the kind.
+    pub fn payload(&self) -> &Payload
+        ensures { result.now ≡ self.now.payload }
+    {
+        &self.parts.payload
+    }
+
+    /// An equal attestation, in memory of this one's allocator.
+    #[tactic(auto, using(crate::proofs::OneAttestation::same_other))]
     pub fn copy(&self) -> Result<Other, OutOfMemory>
         ensures { IfOk result (λ copied. copied ≡ self.now) }
     {
-        Ok(Other {
-            kind: self.kind,
-            payload: self.payload.copy()?,
-        })
+        let parts = OtherParts {
+            kind: self.parts.kind,
+            payload: self.parts.payload.copy()?,
+        };
+        Other::new(self.payload().allocator(), parts)
     }
 }
 

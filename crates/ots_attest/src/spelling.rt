@@ -59,7 +59,7 @@ fn put_payload(attestation: &Attestation, out: &mut [u8])
             put_varbytes(&spelled[..length], out);
         }
         Attestation::Unknown(other) => {
-            put_varbytes(other.payload.bytes(), out);
+            put_varbytes(other.payload().bytes(), out);
         }
     }
 }

@@ -16,7 +16,8 @@ use thiserror::Error;
 /// Contracts see the list of these bytes.
 #[derive(Debug, Drop)]
 pub struct Uri {
-    text: String,
+    // in a box, so that a token of a tree without a URI is small
+    text: Box<String>,
 }
 
 impl Model for Uri {
@@ -25,9 +26,9 @@ impl Model for Uri {
 
     ghost Value = { List ℕ };
 
-    ghost view = { λ u. string_bytes u.text };
+    ghost view = { λ u. string_bytes u.text.value };
 
-    ghost invariant = { λ u. IsUri (string_bytes u.text) };
+    ghost invariant = { λ u. IsUri (string_bytes u.text.value) };
 }
 
 /// Why bytes are no URI of a pending attestation.
@@ -71,12 +72,15 @@ impl Uri {
         }
     }
 
-    /// The URI that keeps this text, which is one.
-    pub(crate) fn kept(text: String) -> Uri
-        requires { IsUri (string_bytes text) }
-        ensures { result ≡ string_bytes text }
+    /// The URI of this text, which is one, in memory of `alloc`.
+    pub(crate) fn copy_of(alloc: Global, text: &str) -> Result<Uri, OutOfMemory>
+        requires { IsUri text.now }
+        ensures { IfOk result (λ uri. uri ≡ text.now) }
     {
-        Uri { text }
+        let text = String::from_str(alloc, text)?;
+        Ok(Uri {
+            text: Box::new(alloc, text)?,
+        })
     }
 
     /// The text, 0 to 1000 bytes.

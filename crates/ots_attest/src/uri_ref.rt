@@ -44,7 +44,6 @@ impl<'a> UriRef<'a> {
     pub fn to_owned(self, alloc: Global) -> Result<Uri, OutOfMemory>
         ensures { IfOk result (λ owned. owned ≡ self.entry.text.now) }
     {
-        let text = String::from_str(alloc, self.text())?;
-        Ok(Uri::kept(text))
+        Uri::copy_of(alloc, self.text())
     }
 }

@@ -3,7 +3,7 @@ use Rattle.std.proofs.Common.{◌≡◌, ◌<◌, ◌≤◌, ℕ, zero, suc, Lis
 use Rattle.std.specs.Prelude.{IsTrue, codes, replicate, slice_index}
 use Rattle.std.specs.FinMap as map
 use Rattle.std.specs.Cmp.Lexicographic.{nat_list_cmp_total}
-use Rattle.ots_address.specs.Address.{AddressParts, is_host_byte}
+use Rattle.ots_address.specs.Address.{AddressParts, IsAddress, is_host_byte}
 use Rattle.ots_address.specs.AddressList.{IsListOf}
 use Rattle.ots_attest.specs.declared.attestation.Attestation.TheVariants.{Bitcoin}
 use Rattle.ots_base.specs.declared.limits.TheConstants.{MAX_PROOF_FILE}
@@ -24,29 +24,29 @@ no_names = map.empty
 abbrev address : AddressParts
 address = record { text = codes "http://a"; host = codes "a"; port = 80 }
 
+is_address : IsAddress (codes "http://a") (codes "a") 80
+is_address = record {
+  rest = codes "a";
+  scheme = refl;
+  parts = record { least = omega arith; greatest = omega arith; bytes = host_bytes; after = []; text = refl; port_is = inl (refl, refl) };
+} where
+  host_bytes : (k : ℕ) → k < length (codes "a") → IsTrue (is_host_byte (slice_index (codes "a") k))
+  host_bytes zero less = refl
+  host_bytes (suc k) less = absurd (omega arith)
+
 is_list : IsListOf (codes "http://a") (address ∷ [])
 is_list = record {
   texts = refl;
+  named = (is_address, tt);
   good = (
     record {
-      address = (
-        codes "a",
-        80,
-        record {
-          rest = codes "a";
-          scheme = refl;
-          parts = record { least = omega arith; greatest = omega arith; bytes = host_bytes; after = []; text = refl; port_is = inl (refl, refl) };
-        },
-      );
+      address = (codes "a", 80, is_address);
       fresh = λ k d less same. absurd (omega arith);
       few = omega arith;
     },
     tt,
   );
-} where
-  host_bytes : (k : ℕ) → k < length (codes "a") → IsTrue (is_host_byte (slice_index (codes "a") k))
-  host_bytes zero less = refl
-  host_bytes (suc k) less = absurd (omega arith)
+}
 
 abbrev tree : Node
 tree = last (attested (Bitcoin 0))

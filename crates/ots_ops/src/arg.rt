@@ -15,7 +15,8 @@ use thiserror::Error;
 /// Contracts see the list of these bytes.
 #[derive(Debug, Drop)]
 pub struct Arg {
-    bytes: Vec<u8>,
+    // in a box, so that a token of a tree without an argument is small
+    bytes: Box<Vec<u8>>,
 }
 
 impl Model for Arg {
@@ -24,9 +25,9 @@ impl Model for Arg {
 
     ghost Value = { List ℕ };
 
-    ghost view = { λ a. a.bytes.items };
+    ghost view = { λ a. a.bytes.value.items };
 
-    ghost invariant = { λ a. IsArg a.bytes.items };
+    ghost invariant = { λ a. IsArg a.bytes.value.items };
 }
 
 /// Why bytes are no argument.
@@ -65,16 +66,9 @@ impl Arg {
         ensures { IfOk result (λ argument. argument ≡ bytes.now) }
     {
         let bytes = Vec::from_slice(alloc, bytes)?;
-        Ok(Arg { bytes })
-    }
-
-    /// The argument that keeps these bytes, 1 to 4096 of them.
-    pub(crate) fn kept(bytes: Vec<u8>) -> Arg
-        requires least { 1 ≤ length bytes.items }
-        requires greatest { length bytes.items ≤ MAX_ARGUMENT }
-        ensures { result ≡ bytes.items }
-    {
-        Arg { bytes }
+        Ok(Arg {
+            bytes: Box::new(alloc, bytes)?,
+        })
     }
 
     /// The same argument, whose bytes stand in this one. It takes no memory.

@@ -57,7 +57,6 @@ impl<'a> ArgRef<'a> {
     pub fn to_owned(self, alloc: Global) -> Result<Arg, OutOfMemory>
         ensures { IfOk result (λ owned. owned ≡ self.entry.bytes.now) }
     {
-        let bytes = Vec::from_slice(alloc, self.bytes())?;
-        Ok(Arg::kept(bytes))
+        Arg::copy_of(alloc, self.bytes())
     }
 }
