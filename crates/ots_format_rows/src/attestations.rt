@@ -98,8 +98,8 @@ pub fn say_attestation(attestation: &Attestation, said: &mut Said) {
         Attestation::Pending(uri) => say_uri(uri.text(), said),
         Attestation::Unknown(other) => {
             said.word("unknown");
-            said.bytes(&other.kind);
-            said.bytes(other.payload.bytes());
+            said.bytes(other.kind());
+            said.bytes(other.payload().bytes());
         }
     }
 }

@@ -123,9 +123,9 @@ fn put_attestation<K: Sink>(attestation: &Attestation, out: &mut Printer<'_, K>)
             out.number(*height);
         }
         Attestation::Unknown(other) => {
-            put_with_hex("unknown ", &other.kind, out);
+            put_with_hex("unknown ", other.kind(), out);
             out.word(" ");
-            put_payload(other.payload.bytes(), out);
+            put_payload(other.payload().bytes(), out);
         }
     }
 }

@@ -16,5 +16,7 @@ pub returns-in-Litecoin : goal.returns-in-Litecoin
 returns-in-Litecoin g c = puts_as (ap attestation_words (sym c.in-Litecoin.is)) (puts_then c.word-in-Litecoin.ensures c.number-in-Litecoin.ensures g.met.K.Sink.same_trans)
 
 pub returns-in-Unknown : goal.returns-in-Unknown
-returns-in-Unknown g c = puts_as (ap (λ z. codes "unknown " ++ encode_lower c.in-Unknown.other.kind ++ codes " " ++ or_dash (encode_lower z)) c.bytes.ensures.bytes ∙ ap attestation_words (sym c.in-Unknown.is))
+returns-in-Unknown g c =
+    let payload = c.bytes.ensures.bytes ∙ c.payload.ensures in
+    puts_as ((λ i. codes "unknown " ++ encode_lower (c.kind.ensures i) ++ codes " " ++ or_dash (encode_lower (payload i))) ∙ ap attestation_words (sym c.in-Unknown.is))
     (puts_then (puts_then c.put_with_hex.ensures c.word-in-Unknown.ensures g.met.K.Sink.same_trans) c.put_payload.ensures g.met.K.Sink.same_trans)
