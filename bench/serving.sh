@@ -3,15 +3,16 @@
 #
 #     bench/serving.sh OTSD [REQUESTS]
 #
-# OTSD is the built program. For 1, 4, 16 and 64 clients with as many workers it prints how many requests a
-# second each server answered and the 99th percentile in milliseconds, first for POST and then for GET, in
-# turn on the same disk. It needs rustc, speaks to 127.0.0.1 alone, and is run by hand.
+# OTSD is the built program. For POST and then GET, and for 1, 4, 16 and 64 clients with as many workers, both servers
+# run at once, on the same disk, and are asked in turn, five times each. It prints the medians of how many requests a
+# second each answered and of the 99th percentile in milliseconds, and what part of the plain server's requests
+# `otsd` answers. It needs rustc, speaks to 127.0.0.1 alone, and is run by hand.
 set -eu
 otsd=$1
 requests=${2:-2000}
 top=$(cd "$(dirname "$0")" && pwd)
 work=$(mktemp -d -p "${BENCH_FOLDER:-$PWD}")
-trap 'kill "${server:-}" 2>/dev/null || true; rm -rf "$work"' EXIT
+trap 'kill ${server:-} ${plain:-} 2>/dev/null || true; rm -rf "$work"' EXIT
 rustc -O -o "$work/plain" "$top/serving/plain.rs"
 rustc -O -o "$work/load" "$top/serving/load.rs"
 printf 'kkkkkkkkkkkkkkkkkkkkkkkkkkkkkkkk' > "$work/key"
@@ -27,23 +28,33 @@ wait_for() {
     done
 }
 
+# The median of a column of five lines.
+median() {
+    cut -d ' ' -f "$2" "$1" | sort -n | sed -n 3p
+}
+
 for kind in post get; do
     for clients in 1 4 16 64; do
-        for which in otsd plain; do
-            port=$((port + 1))
-            out=$work/out-$port
-            if [ "$which" = otsd ]; then
-                "$otsd" "$work/journal-$port" serve --key "$work/key" --uri "http://127.0.0.1:$port" \
-                    --port "$port" --workers "$clients" > "$out" &
-            else
-                "$work/plain" "$work/file-$port" "$port" "$clients" > "$out" &
-            fi
-            server=$!
-            wait_for "$out"
-            figures=$("$work/load" "$port" "$kind" "$clients" "$requests")
-            kill "$server"
-            wait "$server" 2>/dev/null || true
-            printf '%s %s clients, %s: %s a second, 99th percentile %s ms\n' "$kind" "$clients" "$which" "${figures% *}" "${figures#* }"
+        port=$((port + 2))
+        "$otsd" "$work/journal-$port" serve --key "$work/key" --uri "http://127.0.0.1:$port" \
+            --port "$port" --workers "$clients" > "$work/out-otsd-$port" &
+        server=$!
+        "$work/plain" "$work/file-$port" "$((port + 1))" "$clients" > "$work/out-plain-$port" &
+        plain=$!
+        wait_for "$work/out-otsd-$port"
+        wait_for "$work/out-plain-$port"
+        rm -f "$work/otsd-figures" "$work/plain-figures"
+        for time in 1 2 3 4 5; do
+            "$work/load" "$port" "$kind" "$clients" "$requests" >> "$work/otsd-figures"
+            "$work/load" "$((port + 1))" "$kind" "$clients" "$requests" >> "$work/plain-figures"
         done
+        kill "$server" "$plain"
+        wait "$server" "$plain" 2>/dev/null || true
+        for which in otsd plain; do
+            printf '%s %s clients, %s: %s a second, 99th percentile %s ms\n' "$kind" "$clients" "$which" \
+                "$(median "$work/$which-figures" 1)" "$(median "$work/$which-figures" 2)"
+        done
+        printf '%s %s clients: %s of the plain server\n' "$kind" "$clients" \
+            "$(awk "BEGIN { printf \"%.2f\", $(median "$work/otsd-figures" 1) / $(median "$work/plain-figures" 1) }")"
     done
 done

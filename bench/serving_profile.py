@@ -1,12 +1,13 @@
 #!/usr/bin/env python3
-"""What a POST costs `otsd serve` and a plain threaded server of std that appends and syncs once a request.
+"""What a request costs `otsd serve` and a plain threaded server of std that appends and syncs once a POST.
 
-    bench/serving_profile.py OTSD [FOLDER]
+    bench/serving_profile.py OTSD [post|get] [FOLDER]
 
-OTSD is the built program; files lie in FOLDER, /dev/shm where none is given. For 1, 4, 16 and 64 clients with as many
-workers it prints, of each server and for one request: the processor's microseconds, its own and the system's part; how
-often a thread gave the processor up or lost it; and, from a second run under strace, how many system calls it made, by
-their names. These hardly depend on what else runs on the machine. It needs rustc and strace.
+OTSD is the built program; files lie in FOLDER, /dev/shm where none is given. For POST, or for GET of a commitment that
+is not stored, and for 1, 4, 16 and 64 clients with as many workers it prints, of each server and for one request: the
+processor's microseconds, its own and the system's part; how often a thread gave the processor up or lost it; and, from
+a second run under strace, how many system calls it made, by their names. These hardly depend on what else runs on the
+machine. It needs rustc and strace.
 """
 import os
 import re
@@ -47,19 +48,20 @@ def words_of(which, otsd, folder, port, clients):
             "--port", str(port), "--workers", str(clients)]
 
 
-def load(folder, port, clients, requests):
-    subprocess.run([f"{folder}/load", str(port), "post", str(clients), str(requests)], stdout=subprocess.DEVNULL, check=True)
+def load(folder, port, kind, clients, requests):
+    words = [f"{folder}/load", str(port), kind, str(clients), str(requests)]
+    subprocess.run(words, stdout=subprocess.DEVNULL, check=True)
 
 
-def measured(which, otsd, folder, port, clients):
+def measured(which, otsd, folder, port, kind, clients):
     """Microseconds of the processor a request, its own and the system's, and switches."""
     out = f"{folder}/out-{port}"
     with open(out, "w") as file:
         server = subprocess.Popen(words_of(which, otsd, folder, port, clients), stdout=file)
     wait_for(out)
-    load(folder, port, clients, 4 * clients)
+    load(folder, port, kind, clients, 4 * clients)
     before = used(server.pid)
-    load(folder, port, clients, REQUESTS)
+    load(folder, port, kind, clients, REQUESTS)
     after = used(server.pid)
     server.kill()
     server.wait()
@@ -68,14 +70,14 @@ def measured(which, otsd, folder, port, clients):
     return own / count * 1e6, system / count * 1e6, switches / count
 
 
-def calls(which, otsd, folder, port, clients):
+def calls(which, otsd, folder, port, kind, clients):
     """System calls a request, by name."""
     out, counted = f"{folder}/out-{port}", f"{folder}/calls-{port}"
     requests = 640
     with open(out, "w") as file:
         server = subprocess.Popen(["strace", "-f", "-c", "-o", counted, *words_of(which, otsd, folder, port, clients)], stdout=file)
     wait_for(out)
-    load(folder, port, clients, requests)
+    load(folder, port, kind, clients, requests)
     traced = subprocess.run(["pgrep", "-P", str(server.pid)], stdout=subprocess.PIPE, text=True, check=True).stdout.split()
     for pid in traced:
         os.kill(int(pid), signal.SIGTERM)
@@ -91,7 +93,8 @@ def calls(which, otsd, folder, port, clients):
 
 def main():
     otsd = os.path.abspath(sys.argv[1])
-    with tempfile.TemporaryDirectory(dir=sys.argv[2] if len(sys.argv) > 2 else "/dev/shm") as folder:
+    kind = sys.argv[2] if len(sys.argv) > 2 else "post"
+    with tempfile.TemporaryDirectory(dir=sys.argv[3] if len(sys.argv) > 3 else "/dev/shm") as folder:
         for name in ["plain", "load"]:
             subprocess.run(["rustc", "-O", "-o", f"{folder}/{name}", f"{TOP}/serving/{name}.rs"], check=True)
         with open(f"{folder}/key", "wb") as file:
@@ -99,10 +102,10 @@ def main():
         port = 25788
         for clients in (1, 4, 16, 64):
             for which in ("otsd", "plain"):
-                own, system, switches = measured(which, otsd, folder, port, clients)
-                by_name = calls(which, otsd, folder, port + 1, clients)
+                own, system, switches = measured(which, otsd, folder, port, kind, clients)
+                by_name = calls(which, otsd, folder, port + 1, kind, clients)
                 port += 2
-                print(f"{clients} clients, {which}: {own:.0f} us own, {system:.0f} us system, {switches:.1f} switches, "
+                print(f"{kind}, {clients} clients, {which}: {own:.0f} us own, {system:.0f} us system, {switches:.1f} switches, "
                       f"{sum(by_name.values()):.1f} calls: " + ", ".join(f"{name} {count:.1f}" for name, count in by_name.items()),
                       flush=True)
 

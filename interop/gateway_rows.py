@@ -96,10 +96,9 @@ class Client(Link):
         self.call()
         return super().read(most)
 
-    def write(self, *pieces):
-        for piece in pieces:
-            self.call()
-            self.taken += piece
+    def write(self, piece):
+        self.call()
+        self.taken += piece
 
 
 def reply_in_words(words):
@@ -202,7 +201,7 @@ class Run:
             assert tree is None or len(tree) <= MOST_BYTES
             head = tree and reply_head(200, 'OK', 'application/octet-stream', len(tree))
             try:
-                one.link.write(*([head, tree] if tree else [reply_in_words('upstream')]))
+                one.link.write(head + tree if tree else reply_in_words('upstream'))
                 stamped += tree is not None
             except Failed:
                 pass

@@ -355,12 +355,13 @@ def pieces_of(kind, rest, script):
     if kind == 'tree':
         data = script.bytes_of(rest)
         assert spelled(read_tree(data, 0, 32, 0)) == data and len(data) < 24_000
-        return [reply_head(200, 'OK', 'application/octet-stream', len(data)), data]
+        head = reply_head(200, 'OK', 'application/octet-stream', len(data))
+        return [head + data] if len(data) <= 10_000 else [head, data]
     if kind == 'page':
         data = script.bytes_of(rest)
         if len(data) > 10_000:
             return None
-        return [reply_head(200, 'OK', 'application/octet-stream', len(data)), data]
+        return [reply_head(200, 'OK', 'application/octet-stream', len(data)) + data]
     first = text_of(rest[0])
     if kind == 'records':
         return [(f'GET /records/{int(rest[1])} HTTP/1.1\r\nHost: {host_of(first)}\r\n'

@@ -3,13 +3,12 @@ ghost use Rattle.std.specs.Prelude.{◌≡◌, ◌≤◌, ◌+◌, ◌*◌, [], 
 ghost use Rattle.hex.specs.Hex.{encode_lower};
 
 use itoa::Buffer;
-use ots_address::MAX_HOST;
-use ots_base::MAX_MESSAGE;
+use ots_base::MAX_REPLY_BODY;
 use std::marker::Model;
 
-/// How many bytes the text of a message has room for, but the tree of a reply: the longest is a
-/// request for a message's timestamp, with two digits a byte, the host, and the words between.
-pub(crate) const ROOM: usize = 2 * MAX_MESSAGE + MAX_HOST + 256;
+/// How many bytes the text of a message has room for: its head, and a page of records or a tree as
+/// long as one. A request is shorter, also one for a message's timestamp, with two digits a byte.
+pub(crate) const ROOM: usize = MAX_REPLY_BODY + 256;
 
 /// A text that grows in place, so that a whole message is written at once and takes no memory.
 ///
@@ -71,6 +70,13 @@ impl Draft {
         let end = self.length + 2 * bytes.len();
         hex::encode_to_slice(bytes, &mut self.bytes[self.length..end]).unwrap();
         self.length = end;
+    }
+
+    /// How many bytes more it has room for.
+    pub(crate) fn room(&self) -> usize
+        ensures { length self.now + result ≡ ROOM }
+    {
+        ROOM - self.length
     }
 
     /// The bytes.

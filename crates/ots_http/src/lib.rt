@@ -7,6 +7,7 @@
 
 mod asking;
 mod draft;
+mod draft_sink;
 mod fields;
 mod heads;
 mod laws;

@@ -1,14 +1,15 @@
 //! Replies that a calendar writes.
-ghost use Rattle.std.specs.Prelude.{◌≡◌, ◌≤◌, length, codes};
+ghost use Rattle.std.specs.Prelude.{◌≡◌, ◌≤◌, ◌<◌, [], length, codes};
 ghost use Rattle.ots_base.specs.Cause.{HasCause};
 ghost use Rattle.ots_tree.specs.Wire.{spelled};
 ghost use Rattle.ots_http.specs.ReplyText.{IsReply, reply_bytes, reply_head, text_reply, octets_reply, status_of};
 ghost use Rattle.ots_http.specs.Written.{WritesAll};
 
 use crate::draft::Draft;
+use crate::draft_sink::add_tree;
 use crate::word::Word;
 use crate::writing::{LinkFault, write_bytes};
-use ots_base::MAX_PROOF_FILE;
+use ots_base::{MAX_PROOF_FILE, MAX_REPLY_BODY};
 use ots_outside::{Bytes, Link, LinkSink};
 use ots_tree::{Tree, spell_to, spelled_length};
 
@@ -23,8 +24,8 @@ pub enum Reply {
     Text(u16, Word),
 }
 
-/// Writes a reply: words in one piece, a page after its head, and a tree after its head as `spell_to`
-/// spells it.
+/// Writes a reply, in one piece where its body has at most `MAX_REPLY_BODY` bytes, and a longer tree
+/// after its head as `spell_to` spells it.
 ///
 /// `LinkFault` comes only where the link's count of faults rose, and the link has then taken a prefix
 /// of the reply. It takes no memory.
@@ -48,7 +49,9 @@ fn write_text<L: Link>(link: &mut L, status: u16, word: Word) -> Result<(), Link
     ensures same { L.same link.old link.new }
 {
     let words = word.words();
-    let mut draft = draft_head(status, word.phrase(), "text/plain", words.len() as u64 + 1);
+    let size = words.len() as u64 + 1;
+    let mut draft = Draft::new();
+    add_head(&mut draft, status, word.phrase(), "text/plain", size);
     draft.add(words.as_bytes());
     draft.add(b"\n");
     write_bytes(link, draft.text())
@@ -61,24 +64,38 @@ fn write_tree<L: Link>(link: &mut L, tree: &Tree) -> Result<(), LinkFault>
     ensures cause { HasCause (L.faults link.old) (L.faults link.new) result }
     ensures same { L.same link.old link.new }
 {
-    let head = draft_octets(spelled_length(tree));
-    match write_bytes(link, head.text()) {
+    let size = size_of(tree);
+    let mut draft = Draft::new();
+    add_octets_head(&mut draft, size);
+    if size <= MAX_REPLY_BODY as u64 {
+        add_tree(&mut draft, tree);
+        return write_bytes(link, draft.text());
+    }
+    match write_bytes(link, draft.text()) {
         Ok(()) => write_spelling(link, tree),
         Err(_) => Err(LinkFault),
     }
 }
 
+/// How many bytes the spelling of a tree has that fits into a proof file.
+fn size_of(tree: &Tree) -> u64
+    requires { length (spelled tree.now) ≤ MAX_PROOF_FILE }
+    ensures { result ≡ length (spelled tree.now) }
+{
+    spelled_length(tree)
+}
+
 /// Writes the reply with this page.
 fn write_page<L: Link>(link: &mut L, page: &[u8]) -> Result<(), LinkFault>
+    requires { length page.now ≤ MAX_REPLY_BODY }
     ensures written { WritesAll (octets_reply page.now) (L.told link.old) (L.told link.new) result }
     ensures cause { HasCause (L.faults link.old) (L.faults link.new) result }
     ensures same { L.same link.old link.new }
 {
-    let head = draft_octets(page.len() as u64);
-    match write_bytes(link, head.text()) {
-        Ok(()) => write_bytes(link, page),
-        Err(_) => Err(LinkFault),
-    }
+    let mut draft = Draft::new();
+    add_octets_head(&mut draft, page.len() as u64);
+    draft.add(page);
+    write_bytes(link, draft.text())
 }
 
 /// Writes the bytes of a tree.
@@ -93,21 +110,23 @@ fn write_spelling<L: Link>(link: &mut L, tree: &Tree) -> Result<(), LinkFault>
     }
 }
 
-/// The head of a reply with as many bytes, of a tree or of a page.
-fn draft_octets(size: u64) -> Draft
-    ensures head { result ≡ reply_head 200 (codes "OK") (codes "application/octet-stream") size }
+/// Begins a reply with as many bytes, of a tree or of a page.
+fn add_octets_head(draft: &mut Draft, size: u64)
+    requires { draft.old ≡ [] }
+    ensures head { draft.new ≡ reply_head 200 (codes "OK") (codes "application/octet-stream") size }
+    ensures short { length draft.new < 256 }
 {
-    draft_head(200, "OK", "application/octet-stream", size)
+    add_head(draft, 200, "OK", "application/octet-stream", size);
 }
 
-/// The head of a reply.
-fn draft_head(status: u16, phrase: &str, kind: &str, size: u64) -> Draft
+/// Begins a reply with its head.
+fn add_head(draft: &mut Draft, status: u16, phrase: &str, kind: &str, size: u64)
+    requires empty { draft.old ≡ [] }
     requires phrase { length phrase.now ≤ 32 }
     requires kind { length kind.now ≤ 32 }
-    ensures head { result ≡ reply_head status phrase.now kind.now size }
-    ensures short { length result ≤ 256 }
+    ensures head { draft.new ≡ reply_head status phrase.now kind.now size }
+    ensures short { length draft.new < 256 }
 {
-    let mut draft = Draft::new();
     draft.add(b"HTTP/1.1 ");
     draft.add_number(u64::from(status));
     draft.add(b" ");
@@ -117,5 +136,4 @@ fn draft_head(status: u16, phrase: &str, kind: &str, size: u64) -> Draft
     draft.add(b"\r\nContent-Length: ");
     draft.add_number(size);
     draft.add(b"\r\nConnection: close\r\n\r\n");
-    draft
 }

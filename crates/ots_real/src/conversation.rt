@@ -31,6 +31,11 @@ pub const DRAIN_SECONDS: u64 = 1;
 /// a request that was refused early. The limit is this project's.
 pub const DRAIN_BYTES: usize = 8_192;
 
+/// The most seconds that one call waits for its peer. A call that was waited for so long is made again
+/// as long as its limit isn't over, so a socket mostly has one timeout from its first call on: setting
+/// another is a call of the system.
+pub const WAIT_SECONDS: u64 = 1;
+
 /// The least that a call waits, in milliseconds. A time limit of 0 would mean none to the system.
 const LEAST_WAIT: u64 = 1;
 

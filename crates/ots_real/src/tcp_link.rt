@@ -6,9 +6,9 @@ ghost use Rattle.ots_real.specs.Counting.{count_after};
 ghost use Rattle.ots_real.specs.Sockets.{link_faults, link_stream, open_bytes, read_limit, write_limit, KeepsTime};
 
 use crate::TimeLimit;
-use crate::timed_stream::TimedStream;
+use crate::timed_stream::{TimedStream, is_cut_short};
 use ots_outside::{Count, Failed, Link};
-use std::io::{ErrorKind, Read, Write};
+use std::io::{Read, Write};
 use std::net::OpenStream;
 use std::time::Clock;
 
@@ -74,11 +74,11 @@ impl<C: Clock, S: Read + Write + OpenStream + Drop> Link for TcpLink<C, S> {
         ensures cause { HasCause (link_faults self.old) (link_faults self.new) result }
         ensures counted { link_faults self.new ≡ count_after (link_faults self.old) result }
     {
-        // A call that a signal cut short is made again, with what is left of its limit.
+        // A call that was cut short is made again, with what is left of its limit.
         for _ in 0..u64::MAX {
             match self.stream.read(buf) {
                 Ok(count) => return Ok(count),
-                Err(error) if error.kind() == ErrorKind::Interrupted => {}
+                Err(error) if is_cut_short(&error) => {}
                 Err(_) => break,
             }
         }
@@ -100,7 +100,7 @@ impl<C: Clock, S: Read + Write + OpenStream + Drop> Link for TcpLink<C, S> {
         for _ in 0..u64::MAX {
             match self.stream.write(piece) {
                 Ok(count) if count > 0 || piece.is_empty() => return Ok(count),
-                Err(error) if error.kind() == ErrorKind::Interrupted => {}
+                Err(error) if is_cut_short(&error) => {}
                 _ => break,
             }
         }

@@ -4,7 +4,7 @@ ghost use Rattle.std.specs.Prelude.{max, min};
 ghost use Rattle.std.specs.Duration.{as_nanos};
 ghost use Rattle.ots_real.specs.TimeLimit.{began_by, limit_began, limit_length, limit_timeout, passed_at, IsLeft, Runs};
 
-use crate::conversation::time_left;
+use crate::conversation::{WAIT_SECONDS, time_left};
 use std::io;
 use std::io::ErrorKind;
 use std::time::{Clock, Duration, Instant};
@@ -51,6 +51,19 @@ impl TimeLimit {
         }
     }
 
+    /// A limit of this length that has not begun, for further calls of the same way.
+    pub(crate) fn renewed(&self, length: Duration) -> TimeLimit
+        ensures length { limit_length result ≡ length }
+        ensures began { limit_began result ≡ None }
+        ensures timeout { limit_timeout result ≡ limit_timeout self.now }
+    {
+        TimeLimit {
+            length,
+            began: None,
+            timeout: self.timeout,
+        }
+    }
+
     /// What is left of it at this time, which is where it begins if it has not: at least a
     /// millisecond, and `None` exactly where it has passed whole.
     fn left_at(&mut self, now: Instant) -> Option<Duration>
@@ -87,8 +100,8 @@ impl TimeLimit {
         late > MOST_LATE || late > self.length.as_nanos() / LATE_PART
     }
 
-    /// The timeout that the socket is to get before a call: `None` where the one that it has will
-    /// do. It begins the limit, and is `TimedOut` where nothing is left.
+    /// The timeout that the socket is to get before a call, at most [`WAIT_SECONDS`]: `None` where the
+    /// one that it has will do. It begins the limit, and is `TimedOut` where nothing is left.
     pub fn new_timeout(&mut self, clock: &impl Clock) -> io::Result<Option<Duration>>
         ensures runs { Runs self.old self.new }
         ensures timeout { limit_timeout self.new ≡ limit_timeout self.old }
@@ -100,7 +113,7 @@ impl TimeLimit {
         let left = self.left(clock)?;
         match self.timeout {
             Some(timeout) if !self.is_late(timeout, left) => Ok(None),
-            _ => Ok(Some(left)),
+            _ => Ok(Some(left.min(Duration::from_secs(WAIT_SECONDS)))),
         }
     }
 

@@ -10,10 +10,14 @@ use std::io::{ErrorKind, Read, Write};
 use std::net::{OpenStream, Shutdown};
 use std::time::{Clock, Duration};
 
-/// A stream of a conversation each way of which is to end in time. A call waits for its peer no
-/// longer than what is left of its way's limit, or a tenth of that limit and at most a second more,
-/// which saves calls of the system. Where nothing is left it is `TimedOut` at once, and the system
-/// isn't asked.
+/// How many bytes are dropped at once: mostly there are none.
+const DRAIN_PIECE: usize = 512;
+
+/// A stream of a conversation each way of which is to end in time. A call waits for its peer at most
+/// [`WAIT_SECONDS`](crate::conversation::WAIT_SECONDS), and no longer than what is left of its way's
+/// limit, or a tenth of that limit more, which saves calls of the system. A call that waited so long
+/// is [cut short](is_cut_short), and may be made again. Where nothing is left it is `TimedOut` at once,
+/// and the system isn't asked.
 ///
 /// Once it is closed each call is `NotConnected`.
 #[derive(Drop)]
@@ -59,21 +63,28 @@ impl<C: Clock, S: Read + Write + OpenStream + Drop> TimedStream<C, S> {
             return;
         };
         if stream.shutdown(Shutdown::Write).is_ok() {
-            let limit = TimeLimit::new(Duration::from_secs(DRAIN_SECONDS));
-            drain(&mut TimedStream::new(&self.clock, stream, limit, limit));
+            let reads = self.reads.renewed(Duration::from_secs(DRAIN_SECONDS));
+            drain(&mut TimedStream::new(&self.clock, stream, reads, self.writes));
         }
     }
+}
+
+/// Whether a call ended before its peer did anything, by a signal or since it waited as long as the
+/// socket's timeout lets it. It is to be made again, with what is left of its limit.
+pub fn is_cut_short(error: &io::Error) -> bool {
+    matches!(error.kind(), ErrorKind::Interrupted | ErrorKind::WouldBlock)
 }
 
 /// Reads and drops what a reader still gives, at most [`DRAIN_BYTES`]. A socket that is closed with
 /// bytes unread sends its peer a reset, at which the peer may lose a reply that it has not read yet
 /// (RFC 9112 section 9.6).
 fn drain<R: Read>(reader: &mut R) {
-    let mut dropped = [0; DRAIN_BYTES];
-    let mut count = 0;
+    let mut dropped = [0; DRAIN_PIECE];
+    let mut left = DRAIN_BYTES;
     for _ in 0..DRAIN_BYTES {
-        match reader.read(&mut dropped[count..]) {
-            Ok(more) if more > 0 => count += more,
+        match reader.read(&mut dropped[..left.min(DRAIN_PIECE)]) {
+            Ok(more) if more > 0 => left -= more,
+            Err(error) if is_cut_short(&error) => {}
             _ => return,
         }
     }

@@ -1,7 +1,7 @@
 // A network and a clock in memory. Its first accepts fail with one error of the system, and each
 // later one gives a stream without an end.
 use std::io;
-use std::io::{Read, Write};
+use std::io::{ErrorKind, Read, Write};
 use std::net::{Ipv4Addr, Net, OpenListener, OpenStream, Shutdown, SocketAddr};
 use std::os::fd::{AsRawFd, RawFd};
 use std::sync::atomic::{AtomicU64, Ordering};
@@ -18,6 +18,9 @@ pub struct Outside {
     /// The most bytes that a read gives, and how long it takes.
     piece: usize,
     pace: u64,
+    /// How many reads are still to wait in vain, each as long as the timeout of the reads lets it.
+    vain: AtomicU64,
+    timeout: AtomicU64,
     /// How many timeouts sockets were given, and how many bytes reads gave.
     timeouts: AtomicU64,
     given: AtomicU64,
@@ -32,6 +35,8 @@ impl Outside {
             now: AtomicU64::new(0),
             piece: 1_000,
             pace: 0,
+            vain: AtomicU64::new(0),
+            timeout: AtomicU64::new(0),
             timeouts: AtomicU64::new(0),
             given: AtomicU64::new(0),
         }
@@ -39,12 +44,19 @@ impl Outside {
 
     /// Peers send pieces of this length, each after this time.
     pub fn sending(piece: usize, pace: u64) -> Outside {
+        Outside::silent(0, piece, pace)
+    }
+
+    /// The same, once this many reads have waited in vain.
+    pub fn silent(vain: u64, piece: usize, pace: u64) -> Outside {
         Outside {
             number: 0,
             failures: AtomicU64::new(0),
             now: AtomicU64::new(0),
             piece,
             pace,
+            vain: AtomicU64::new(vain),
+            timeout: AtomicU64::new(0),
             timeouts: AtomicU64::new(0),
             given: AtomicU64::new(0),
         }
@@ -144,7 +156,10 @@ impl<'a> OpenStream for FakeStream<'a> {
         Ok(())
     }
 
-    fn set_read_timeout(&self, _timeout: Option<Duration>) -> io::Result<()> {
+    fn set_read_timeout(&self, timeout: Option<Duration>) -> io::Result<()> {
+        let millis = timeout.map_or(0, |timeout| timeout.as_millis());
+        let millis = u64::try_from(millis).unwrap_or(u64::MAX);
+        self.outside.timeout.store(millis, Ordering::SeqCst);
         self.outside.timeouts.fetch_add(1, Ordering::SeqCst);
         Ok(())
     }
@@ -163,6 +178,13 @@ impl<'a> AsRawFd for FakeStream<'a> {
 
 impl<'a> Read for FakeStream<'a> {
     fn read(&mut self, buf: &mut [u8]) -> io::Result<usize> {
+        let vain = self.outside.vain.load(Ordering::SeqCst);
+        if vain > 0 {
+            self.outside.vain.store(vain - 1, Ordering::SeqCst);
+            self.outside
+                .wait(self.outside.timeout.load(Ordering::SeqCst));
+            return Err(io::Error::from(ErrorKind::WouldBlock));
+        }
         let count = buf.len().min(self.outside.piece);
         self.outside.wait(self.outside.pace);
         self.outside.given.fetch_add(count as u64, Ordering::SeqCst);

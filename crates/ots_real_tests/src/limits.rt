@@ -17,16 +17,48 @@ fn a_request_has_ten_seconds_from_its_first_read(rt: HostRuntime) -> Result<(), 
     outside.wait(900);
     assert_eq!(rt; link.read(&mut [0; 4]), Ok(4));
     assert_eq!(rt; outside.timeouts(), 1);
-    // The timeout of the socket would now end over a second late.
     outside.wait(200);
     assert_eq!(rt; link.read(&mut [0; 4]), Ok(4));
-    assert_eq!(rt; outside.timeouts(), 2);
     outside.wait(8_899);
     assert_eq!(rt; link.read(&mut [0; 4]), Ok(4));
+    // The timeout of the socket, a second, ends no call over a second late.
+    assert_eq!(rt; outside.timeouts(), 1);
     outside.wait(1);
     assert_eq!(rt; link.read(&mut [0; 4]), Err(Failed));
     // The system isn't asked.
     assert_eq!(rt; outside.given(), 16);
+    Ok(())
+}
+
+#[test]
+fn a_read_that_waited_a_second_is_made_again(rt: HostRuntime) -> Result<(), Fail> {
+    let outside = Outside::silent(9, 4, 0);
+    let mut accepter = TcpAccepter::new(FakeNet { outside: &outside });
+    assert_eq!(rt; accepter.listen(1), Ok(()));
+    let Ok(Some(mut link)) = accepter.accept() else {
+        return Err(Fail::new("no connection"));
+    };
+    assert_eq!(rt; link.read(&mut [0; 4]), Ok(4));
+    assert_eq!(rt; outside.now(), 9_000);
+    assert_eq!(rt; outside.timeouts(), 1);
+    // What a finished link still reads waits by the same timeout.
+    link.finish();
+    assert_eq!(rt; outside.given(), 4 + 8_192);
+    assert_eq!(rt; outside.timeouts(), 1);
+    Ok(())
+}
+
+#[test]
+fn a_peer_that_is_silent_for_ten_seconds_is_cut_off(rt: HostRuntime) -> Result<(), Fail> {
+    let outside = Outside::silent(11, 4, 0);
+    let mut accepter = TcpAccepter::new(FakeNet { outside: &outside });
+    assert_eq!(rt; accepter.listen(1), Ok(()));
+    let Ok(Some(mut link)) = accepter.accept() else {
+        return Err(Fail::new("no connection"));
+    };
+    assert_eq!(rt; link.read(&mut [0; 4]), Err(Failed));
+    assert_eq!(rt; outside.now(), 10_000);
+    assert_eq!(rt; outside.timeouts(), 1);
     Ok(())
 }
 
