@@ -1,27 +1,22 @@
--- A walk over the tokens of a tree puts each tree that was given at each place of its pair.
-use Rattle.std.proofs.Common.{◌≡◌, ◌↔◌, ℕ, zero, suc, ◌-◌, ◌^◌, min, ◌≤◌, inl, inr, Bool, true, false, List, [], ◌∷◌, ◌++◌, map, take, Option, Some, None, refl, sym, ap, subst, ◌∙◌, arith, append_assoc, add-one}
+-- The messages on the path of a walk, the tokens of an item with the items of a tree that was given for it, and what
+-- paths gain.
+use Rattle.std.proofs.Common.{◌≡◌, ◌↔◌, ℕ, zero, suc, ◌-◌, ◌^◌, min, ◌≤◌, inl, inr, Bool, true, false, List, [], ◌∷◌, ◌++◌, map, take, Option, Some, None, refl, sym, ap, subst, ◌∙◌, arith, append_assoc}
 use Rattle.std.specs.Prelude.{option_and_then, option_to_list, ◌⊎◌}
-use Rattle.std.specs.List.{AllByRecursion, slice_get}
-use Rattle.std.proofs.lemmas.List.{append-nil}
+use Rattle.std.specs.List.{slice_get}
 use Rattle.ots_ops.specs.declared.op.Op.{Op}
 use Rattle.ots_ops.specs.Apply.{apply}
 use Rattle.ots_ops.specs.Value.{value}
 use Rattle.ots_attest.specs.declared.attestation.Attestation.{Attestation}
 use Rattle.ots_tree.specs.declared.token.Token.{Token}
 use Rattle.ots_tree.specs.declared.token.Token.TheVariants as token
-use Rattle.ots_tree.specs.declared.token.TokenAt.{TokenAt}
-use Rattle.ots_tree.specs.Listed.{listed, listed_item}
 use Rattle.ots_tree.specs.Made.{joined, after}
-use Rattle.ots_tree.specs.PendingWalk.{followed, result_at}
-use Rattle.ots_tree.specs.Sound.{IsSoundPath, IsSound}
-use Rattle.ots_tree.specs.Wire.{Node, Item, last, more, attested, step, pre, pre_item, Path, paths, paths_of_item, below}
-use Rattle.ots_tree.proofs.Closing.{all-left, all-right, down, step_leads}
+use Rattle.ots_tree.specs.Wire.{Node, Item, last, attested, pre, pre_item, Path, paths, paths_of_item, below}
 use Rattle.ots_tree.proofs.MadePaths.{paths-joined}
 use Rattle.ots_canon.specs.Order.{Has}
-use Rattle.ots_canon.proofs.Among.{onward, has_append, has_below, is_below}
+use Rattle.ots_canon.proofs.Among.{has_append, has_below}
 use Rattle.ots_pending.specs.Pairs.{PairAt}
 use Rattle.ots_pending.specs.Completed.{answer_to, paths_after, gained}
-use Rattle.ots_pending.specs.Grown.{forked, put, grown}
+use Rattle.ots_pending.specs.Grown.{forked, put}
 use Rattle.ots_pending.proofs.Putting.{joined_pre}
 
 abbrev pub Messages : Type 0
@@ -115,92 +110,6 @@ no_answer false i = refl
 no_answer true i = refl
 
 module _ (pairs : List PairAt) (given : List (Option Node)) where
-  -- what was given for an item that is an attestation on a message
-  abbrev answer : Option (List ℕ) → Item → Option Node
-  answer m (attested a) = answer_to pairs given a m
-  answer m (step o t) = None
-
-  -- what a node on a message becomes
-  abbrev mutual
-    pub woven : Option (List ℕ) → Node → Node
-    woven m (last i) = last_with (answer m i) (woven_item m i)
-    woven m (more i t) = more (woven_item m i) (joined_with (answer m i) (woven m t))
-
-    pub woven_item : Option (List ℕ) → Item → Item
-    woven_item m (attested a) = attested a
-    woven_item m (step o t) = step o (woven (option_and_then (apply o) m) t)
-
-  -- ---- the tokens
-
-  -- what is left of a walk after a part that becomes these tokens
-  record Becomes (b : Bool) (d : ℕ) (messages : Messages) (part : List TokenAt) (tokens : List Token) (rest : List TokenAt) : Type 0 where
-    after : Messages
-    same : Same d messages after
-    walk : grown pairs given b messages (part ++ rest) ≡ tokens ++ grown pairs given false after rest
-
-  mutual
-    node_becomes : (t : Node) (d k : ℕ) (m : Option (List ℕ)) (messages : Messages) (rest : List TokenAt) → IsSound k d t → slice_get messages d ≡ m
-        → Becomes false d messages (listed d t) (pre (woven m t)) rest
-    node_becomes (last i) d k m messages rest h here =
-        let p = item_becomes i false d k m messages rest h here in
-        record {
-          after = p.after;
-          same = p.same;
-          walk = p.walk ∙ ap (λ (z : List Token). z ++ grown pairs given false p.after rest) (last_tokens (answer m i) (woven_item m i));
-        }
-    node_becomes (more i t) d k m messages rest h here =
-        let p = item_becomes i true d k m messages (listed d t ++ rest) (all-left (IsSoundPath k d) (paths_of_item i) (paths t) h) here in
-        let q = node_becomes t d k m p.after rest (all-right (IsSoundPath k d) (paths_of_item i) (paths t) h) (here_still d messages p.after m here p.same) in
-        let tokens = item_tokens true (answer m i) (woven_item m i) in
-        record {
-          after = q.after;
-          same = record { is = q.same.is ∙ p.same.is };
-          walk =
-              ap (λ (z : List TokenAt). token.Fork ∷ grown pairs given true messages z) (append_assoc (listed_item d i) (listed d t) rest)
-              ∙ ap (λ (z : List Token). token.Fork ∷ z) p.walk
-              ∙ ap (λ (z : List Token). token.Fork ∷ (tokens ++ z)) q.walk
-              ∙ ap (λ (z : List Token). token.Fork ∷ z) (sym (append_assoc tokens (pre (woven m t)) (grown pairs given false q.after rest)))
-              ∙ ap (λ (z : List Token). token.Fork ∷ (z ++ grown pairs given false q.after rest)) (more_tokens (answer m i) (woven_item m i) (woven m t));
-        }
-
-    item_becomes : (i : Item) (b : Bool) (d k : ℕ) (m : Option (List ℕ)) (messages : Messages) (rest : List TokenAt) → AllByRecursion (IsSoundPath k d) (paths_of_item i)
-        → slice_get messages d ≡ m → Becomes b d messages (listed_item d i) (item_tokens b (answer m i) (woven_item m i)) rest
-    item_becomes (attested a) b d k m messages rest h here =
-        let low : min d (2 ^ 32 - 1) ≡ d = let short = h.0.short in cap-low d (omega arith) in
-        record {
-          after = messages;
-          same = record { is = refl };
-          walk =
-              ap (λ (z : ℕ). put b (token.Attestation a) (answer_to pairs given a (slice_get messages z)) ++ grown pairs given false messages rest) low
-              ∙ ap (λ (z : Option (List ℕ)). put b (token.Attestation a) (answer_to pairs given a z) ++ grown pairs given false messages rest) here
-              ∙ ap (λ (z : List Token). z ++ grown pairs given false messages rest) (put_attested b a (answer_to pairs given a m));
-        }
-    item_becomes (step o t) b d k m messages rest h here =
-        let l = step_leads o t k d h in
-        let room = l.room in
-        let low : min d (2 ^ 32 - 1) ≡ d = cap-low d (omega arith) in
-        let deeper = take (suc d) messages ++ option_to_list (option_and_then (apply o) (slice_get messages d)) in
-        let sound : IsSound l.result (suc d) t = subst (λ (z : ℕ). IsSound l.result z t) (add-one d) (down o k d l.result l.is (paths t) h) in
-        let there : slice_get deeper (suc d) ≡ option_and_then (apply o) m = after_depth (apply o) messages d ∙ ap (option_and_then (apply o)) here in
-        let p = node_becomes t (suc d) l.result (option_and_then (apply o) m) deeper rest sound there in
-        record {
-          after = p.after;
-          same = record { is = (same_above d deeper p.after p.same).is ∙ up_to_depth (apply o) messages d };
-          walk =
-              ap (λ (z : List Token). z ++ grown pairs given false (followed (token.Op o) (min d (2 ^ 32 - 1)) messages) (listed (suc d) t ++ rest)) (put_none b (token.Op o))
-              ∙ ap (λ (z : ℕ). token.Op o ∷ grown pairs given false (followed (token.Op o) z messages) (listed (suc d) t ++ rest)) low
-              ∙ ap (λ (z : ℕ). token.Op o ∷ grown pairs given false (take z messages ++ option_to_list (result_at o d messages)) (listed (suc d) t ++ rest)) (add-one d)
-              ∙ ap (λ (z : List Token). token.Op o ∷ z) p.walk
-              ∙ ap (λ (z : List Token). z ++ grown pairs given false p.after rest) (sym (no_answer b (woven_item m (step o t))));
-        }
-
-  pub root_becomes : (t : Node) (k : ℕ) (m : List ℕ) → IsSound k 0 t → grown pairs given false (m ∷ []) (listed 0 t) ≡ pre (woven (Some m) t)
-  root_becomes t k m h =
-      let p = node_becomes t 0 k (Some m) (m ∷ []) [] h refl in
-      ap (grown pairs given false (m ∷ [])) (sym (append-nil (listed 0 t))) ∙ p.walk ∙ append-nil (pre (woven (Some m) t))
-
-  -- ---- the paths
-
   pub record HasGain (m : Option (List ℕ)) (ps : List Path) (p : Path) : Type 0 where
     pub from : Path
     pub among : Has ps from
@@ -246,7 +155,7 @@ module _ (pairs : List PairAt) (given : List (Option Node)) where
   answer_before o ops None = refl
   answer_before o ops (Some t) = one_before o ops (paths t)
 
-  gain_below : (o : Op) (m : Option (List ℕ)) (q : Path) → gained pairs given m (below o q) ≡ map (below o) (gained pairs given (option_and_then (apply o) m) q)
+  pub gain_below : (o : Op) (m : Option (List ℕ)) (q : Path) → gained pairs given m (below o q) ≡ map (below o) (gained pairs given (option_and_then (apply o) m) q)
   gain_below o m q =
       ap (λ (z : Option (List ℕ)). paths_after (o ∷ q.ops) (answer_to pairs given q.end z)) (first_operation o q.ops m)
       ∙ answer_before o q.ops (answer_to pairs given q.end (option_and_then (value q.ops) (option_and_then (apply o) m)))
@@ -258,19 +167,6 @@ module _ (pairs : List PairAt) (given : List (Option Node)) where
     among = has_below o ps g.from g.among;
     gain = subst (λ (z : List Path). Has z (below o p)) (sym (gain_below o m g.from)) (has_below o (gained pairs given (option_and_then (apply o) m) g.from) p g.gain);
   })
-
-  record GainsInner (o : Op) (m : Option (List ℕ)) (ps : List Path) (p : Path) : Type 0 where
-    inner : Path
-    gains : Gains (option_and_then (apply o) m) ps inner
-    is : below o inner ≡ p
-
-  gains_inner : (o : Op) (m : Option (List ℕ)) (ps : List Path) (p : Path) → Gains m (map (below o) ps) p → GainsInner o m ps p
-  gains_inner o m ps p (inl h) = let b = is_below o ps p h in record { inner = b.inner; gains = inl b.has; is = b.is }
-  gains_inner o m ps p (inr g) =
-      let b = is_below o ps g.from g.among in
-      let gain : Has (gained pairs given m (below o b.inner)) p = subst (λ (z : Path). Has (gained pairs given m z) p) (sym b.is) g.gain in
-      let c = is_below o (gained pairs given (option_and_then (apply o) m) b.inner) p (subst (λ (z : List Path). Has z p) (gain_below o m b.inner) gain) in
-      record { inner = c.inner; gains = inr (record { from = b.inner; among = b.has; gain = c.has }); is = c.is }
 
   end_gain : (a : Attestation) (m : Option (List ℕ)) (t : Option Node) (p : Path) → t ≡ answer_to pairs given a m
       → HasAnswer t p ↔ Has (paths_after [] t) p
@@ -313,41 +209,3 @@ module _ (pairs : List PairAt) (given : List (Option Node)) where
     (λ h. (has_append (paths t) (paths u) p).1 (subst (λ (z : List Path). Has z p) (paths-joined t u) h)),
     (λ h. subst (λ (z : List Path). Has z p) (sym (paths-joined t u)) ((has_append (paths t) (paths u) p).0 h)),
   )
-
-  mutual
-    node_paths : (t : Node) (m : Option (List ℕ)) (p : Path) → Has (paths (woven m t)) p ↔ Gains m (paths t) p
-    node_paths (last i) m p = onward (with_last (answer m i) (woven_item m i) p) (item_paths i m p)
-    node_paths (more i t) m p =
-        let i_paths = item_paths i m p in
-        let t_paths = node_paths t m p in
-        let rest = with_more (answer m i) (woven m t) p in
-        let two = has_append (paths_of_item (woven_item m i)) (paths (joined_with (answer m i) (woven m t))) p in
-        let all = gains_append m (paths_of_item i) (paths t) p in (
-          λ h. all.0 (elim (two.1 h) [
-            | inl x ↦ inl (i_paths.0 (inl x))
-            | inr y ↦ elim (rest.0 y) [ inl z ↦ inl (i_paths.0 (inr z)) | inr z ↦ inr (t_paths.0 z) ]
-          ]),
-          λ h. two.0 (elim (all.1 h) [
-            | inl x ↦ elim (i_paths.1 x) [ inl z ↦ inl z | inr z ↦ inr (rest.1 (inl z)) ]
-            | inr y ↦ inr (rest.1 (inr (t_paths.1 y)))
-          ]),
-        )
-
-    item_paths : (i : Item) (m : Option (List ℕ)) (p : Path) → (Has (paths_of_item (woven_item m i)) p ⊎ HasAnswer (answer m i) p) ↔ Gains m (paths_of_item i) p
-    item_paths (attested a) m p = end_paths a m p
-    item_paths (step o t) m p =
-        let next = option_and_then (apply o) m in (
-          λ h. elim h [
-            | inl x ↦ (
-                let b = is_below o (paths (woven next t)) p x in
-                subst (Gains m (map (below o) (paths t))) b.is (gains_below o m (paths t) b.inner ((node_paths t next b.inner).0 b.has))
-                )
-            | inr y ↦ absurd y
-          ],
-          λ h.
-              let g = gains_inner o m (paths t) p h in
-              inl (subst (Has (map (below o) (paths (woven next t)))) g.is (has_below o (paths (woven next t)) g.inner ((node_paths t next g.inner).1 g.gains))),
-        )
-
-  pub woven_paths : (t : Node) (m : Option (List ℕ)) (p : Path) → Has (paths (woven m t)) p ↔ Gains m (paths t) p
-  woven_paths t m p = node_paths t m p

@@ -8,6 +8,7 @@ mod FoundPairs
 mod Putting
 mod GrownTrees
 mod PartGrown
+mod Windows
 mod Shorter
 mod Completion
 mod Askable

@@ -8,13 +8,13 @@ use Rattle.ots_tree.specs.declared.token.Token.{Token}
 use Rattle.ots_tree.specs.declared.token.Token.TheVariants as token
 use Rattle.ots_tree.specs.declared.token.TokenAt.{TokenAt}
 use Rattle.ots_tree.specs.Kept.{beside}
-use Rattle.ots_tree.specs.PendingWalk.{followed}
+use Rattle.ots_tree.specs.PendingWalk.{ended, followed}
 use Rattle.ots_tree.specs.Made.{lone, joined, IsBeside}
 use Rattle.ots_tree.specs.Wire.{Node, last, more, attested, pre, pre_item}
 use Rattle.ots_tree.proofs.Determined.{same_pre}
 use Rattle.ots_tree.proofs.Numbered.{beside_at, length-beside}
 use Rattle.ots_pending.specs.Pairs.{PairAt}
-use Rattle.ots_pending.specs.Grown.{forked, answer_at, put, is_fork, grown, GrowsInPart, MayBe, IsReady, IsReadyAt, AreReady, AreReadyTo, AreTrees, IsTree, IsPairOf, IsPutFor, last_first, turned, put_ready, tree_at}
+use Rattle.ots_pending.specs.Grown.{forked, answer_at, put, is_fork, GrowsInPart, MayBe, IsReady, IsReadyAt, AreReady, AreReadyTo, ArePut, AreTrees, IsTree, IsPairOf, IsPutFor, last_first, turned, put_ready, tree_at}
 use Rattle.ots_pending.proofs.Maps.{get_last, in_range}
 use Rattle.ots_pending.proofs.Lists.{some_same, none_some}
 
@@ -135,85 +135,65 @@ ready_or_not b x uri t (Some r) e h = put_as_ready b x uri t r e h
 given_long : (given : List (Option Node)) (trees : List (Option (List Token))) → map (option_map pre) given ≡ trees → length given ≡ length trees
 given_long given trees e = sym (length-map given (option_map pre)) ∙ ap (λ (z : List (Option (List Token))). length z) e
 
-put_for : (pairs : List PairAt) (trees ready : List (Option (List Token))) (b : Bool) (x : Token) (depth : ℕ) (messages : List (List ℕ)) (place : Option ℕ)
-    → AreReady pairs trees ready → IsPairOf pairs x depth messages place → (given : List (Option Node)) → map (option_map pre) given ≡ trees
-    → put_ready b x (tree_at ready place) ≡ put b x (answer_at pairs given x depth messages)
-put_for pairs trees ready b x depth messages None all is given e = ap (put b x) (sym (is given))
-put_for pairs trees ready b x depth messages (Some i) all is given e =
+pub put_of_ready : (pairs : List PairAt) (trees ready : List (Option (List Token))) (given : List (Option Node)) → AreReady pairs trees ready → map (option_map pre) given ≡ trees
+    → ArePut pairs given ready
+put_of_ready pairs trees ready given all e = record { long = given_long given trees e ∙ all.long; each = all.each given e }
+
+put_for : (pairs : List PairAt) (given : List (Option Node)) (ready : List (Option (List Token))) (b : Bool) (x : Token) (depth : ℕ) (messages : List (List ℕ)) (place : Option ℕ)
+    → ArePut pairs given ready → IsPairOf pairs x depth messages place → put_ready b x (tree_at ready place) ≡ put b x (answer_at pairs given x depth messages)
+put_for pairs given ready b x depth messages None all is = ap (put b x) (sym (is given))
+put_for pairs given ready b x depth messages (Some i) all is =
     let low : i < length pairs = in_range pairs is.pair i is.place in
-    let h = all.each given e i is.pair (answer_at pairs given x depth messages) low is.place (is.answer given (given_long given trees e ∙ all.long)) in
+    let h = all.each i is.pair (answer_at pairs given x depth messages) low is.place (is.answer given all.long) in
     ready_or_not b x is.pair.pair.uri (answer_at pairs given x depth messages) (slice_get ready i) is.pending h
 
--- what is put, with room or without
-pub record Puts (pairs : List PairAt) (given : List (Option Node)) (b : Bool) (x : Token) (depth : ℕ) (messages : List (List ℕ)) (tree : Option (List Token)) : Type 0 where
+-- what is put, in a window or outside it
+pub record Puts (pairs : List PairAt) (given : List (Option Node)) (b : Bool) (x : Token) (depth : ℕ) (messages : List (List ℕ)) (goes_on : Bool) (tree : Option (List Token)) : Type 0 where
   pub node : Option Node
   pub may : MayBe (answer_at pairs given x depth messages) node
+  pub must : goes_on ≡ true → node ≡ answer_at pairs given x depth messages
   pub is : put_ready b x tree ≡ put b x node
 
-pub puts_whole : (pairs : List PairAt) (trees ready : List (Option (List Token))) (b : Bool) (x : Token) (depth : ℕ) (messages : List (List ℕ)) (room : Bool) (tree : Option (List Token))
-    → AreReady pairs trees ready → room ≡ true → IsPutFor pairs ready x depth messages room tree → (given : List (Option Node)) → map (option_map pre) given ≡ trees
-    → put_ready b x tree ≡ put b x (answer_at pairs given x depth messages)
-puts_whole pairs trees ready b x depth messages true tree all has_room h given e =
-    ap (put_ready b x) h.tree_is ∙ put_for pairs trees ready b x depth messages h.place all h.is given e
-puts_whole pairs trees ready b x depth messages false tree all has_room h given e = absurd cc
+none_put : (b : Bool) (x : Token) → put_ready b x None ≡ put b x None
+none_put false x = refl
+none_put true x = refl
 
-pub puts : (pairs : List PairAt) (trees ready : List (Option (List Token))) (b : Bool) (x : Token) (depth : ℕ) (messages : List (List ℕ)) (room : Bool) (tree : Option (List Token))
-    → AreReady pairs trees ready → IsPutFor pairs ready x depth messages room tree → (given : List (Option Node)) → map (option_map pre) given ≡ trees
-    → Puts pairs given b x depth messages tree
-puts pairs trees ready b x depth messages true tree all h given e = record {
+pub puts : (pairs : List PairAt) (given : List (Option Node)) (ready : List (Option (List Token))) (b : Bool) (x : Token) (depth : ℕ) (messages : List (List ℕ)) (goes_on : Bool) (tree : Option (List Token))
+    → ArePut pairs given ready → IsPutFor pairs ready x depth messages goes_on tree → Puts pairs given b x depth messages goes_on tree
+puts pairs given ready b x depth messages true tree all h = record {
   node = answer_at pairs given x depth messages;
   may = inr refl;
-  is = puts_whole pairs trees ready b x depth messages true tree all refl h given e;
+  must = λ is. refl;
+  is = ap (put_ready b x) h.tree_is ∙ put_for pairs given ready b x depth messages h.place all h.is;
 }
-puts pairs trees ready b x depth messages false tree all h given e = record { node = None; may = inl refl; is = ap (put_ready b x) h ∙ none_put b x }
-  where
-    none_put : (b : Bool) (x : Token) → put_ready b x None ≡ put b x None
-    none_put false x = refl
-    none_put true x = refl
+puts pairs given ready b x depth messages false tree all h = record { node = None; may = inl refl; must = λ is. absurd cc; is = ap (put_ready b x) h ∙ none_put b x }
 
 -- ---- the loop
 
-pub grown_goes : (pairs : List PairAt) (given : List (Option Node)) (tokens : List Token) (depths : List ℕ) (i : ℕ) (b after : Bool) (x : Token) (messages next : List (List ℕ)) (made more_made all : List Token)
+-- whatever the tokens that are left become stands after what is made
+pub part_goes : (pairs : List PairAt) (given : List (Option Node)) (Must : ℕ → Type 0) (total : ℕ) (tokens : List Token) (depths : List ℕ) (i n more_n : ℕ) (b after : Bool) (x : Token) (messages next : List (List ℕ))
+    (goes_on : Bool) (tree : Option (List Token)) (made more_made : List Token) (All : List Token → Type 0)
     → after ≡ is_fork x → length depths ≡ length tokens → i < length tokens → x ≡ get_or tokens i x
-    → more_made ≡ made ++ put b x (answer_at pairs given x (get_or depths i 0) messages) → next ≡ followed x (get_or depths i 0) messages
-    → made ++ grown pairs given b messages (drop i (beside tokens depths)) ≡ all → more_made ++ grown pairs given after next (drop (i + 1) (beside tokens depths)) ≡ all
-grown_goes pairs given tokens depths i b after x messages next made more_made all after_is same in_range is put_is moved walk =
+    → (p : Puts pairs given b x (get_or depths i 0) messages goes_on tree) → (Must n → p.node ≡ answer_at pairs given x (get_or depths i 0) messages)
+    → more_made ≡ made ++ put_ready b x tree → next ≡ followed x (get_or depths i 0) messages → more_n ≡ ended x n
+    → ((others : List Token) → GrowsInPart pairs given Must total b n messages (drop i (beside tokens depths)) others → All (made ++ others))
+    → (others : List Token) → GrowsInPart pairs given Must total after more_n next (drop (i + 1) (beside tokens depths)) others → All (more_made ++ others)
+part_goes pairs given Must total tokens depths i n more_n b after x messages next goes_on tree made more_made All after_is same in_range is puts must put_is moved counted walk others h =
     let d = get_or depths i 0 in
     let rest = drop (i + 1) (beside tokens depths) in
-    let one = put b x (answer_at pairs given x d messages) in
-    ap (λ (z : Bool). more_made ++ grown pairs given z next rest) after_is
-    ∙ ap (λ (z : List Token). z ++ grown pairs given (is_fork x) next rest) put_is
-    ∙ append_assoc made one (grown pairs given (is_fork x) next rest)
-    ∙ ap (λ (z : List (List ℕ)). made ++ (one ++ grown pairs given (is_fork x) z rest)) moved
-    ∙ ap (λ (z : List TokenAt). made ++ grown pairs given b messages z) (sym (beside_at tokens depths i x same in_range is))
-    ∙ walk
-
-pub grown_ends : (pairs : List PairAt) (given : List (Option Node)) (tokens : List Token) (depths : List ℕ) (i : ℕ) (b : Bool) (messages : List (List ℕ)) (made all : List Token)
-    → length depths ≡ length tokens → length tokens ≤ i → made ++ grown pairs given b messages (drop i (beside tokens depths)) ≡ all → made ≡ all
-grown_ends pairs given tokens depths i b messages made all same over walk =
-    let none : drop i (beside tokens depths) ≡ [] = drop_all i (beside tokens depths) (omega (arith, length-beside tokens depths same)) in
-    sym (append-nil made) ∙ ap (λ (z : List TokenAt). made ++ grown pairs given b messages z) (sym none) ∙ walk
-
--- the same, where trees may be left out: whatever the tokens that are left become stands after what is made
-pub part_goes : (pairs : List PairAt) (given : List (Option Node)) (tokens : List Token) (depths : List ℕ) (i : ℕ) (b after : Bool) (x : Token) (messages next : List (List ℕ))
-    (tree : Option (List Token)) (made more_made : List Token) (All : List Token → Type 0)
-    → after ≡ is_fork x → length depths ≡ length tokens → i < length tokens → x ≡ get_or tokens i x
-    → Puts pairs given b x (get_or depths i 0) messages tree → more_made ≡ made ++ put_ready b x tree → next ≡ followed x (get_or depths i 0) messages
-    → ((others : List Token) → GrowsInPart pairs given b messages (drop i (beside tokens depths)) others → All (made ++ others))
-    → (others : List Token) → GrowsInPart pairs given after next (drop (i + 1) (beside tokens depths)) others → All (more_made ++ others)
-part_goes pairs given tokens depths i b after x messages next tree made more_made All after_is same in_range is puts put_is moved walk others h =
-    let d = get_or depths i 0 in
-    let rest = drop (i + 1) (beside tokens depths) in
-    let here : GrowsInPart pairs given (is_fork x) (followed x d messages) rest others =
-    subst (λ (z : List (List ℕ)). GrowsInPart pairs given (is_fork x) z rest others) moved (subst (λ (z : Bool). GrowsInPart pairs given z next rest others) after_is h) in
-    let one : GrowsInPart pairs given b messages (record { token = x; depth = d } ∷ rest) (put b x puts.node ++ others) =
-    record { tree = puts.node; others = others; may = puts.may; are = refl; follow = here } in
-    let all = walk (put b x puts.node ++ others) (subst (λ (z : List TokenAt). GrowsInPart pairs given b messages z (put b x puts.node ++ others)) (sym (beside_at tokens depths i x same in_range is)) one) in
+    let here : GrowsInPart pairs given Must total (is_fork x) (ended x n) (followed x d messages) rest others =
+    subst (λ (z : List (List ℕ)). GrowsInPart pairs given Must total (is_fork x) (ended x n) z rest others) moved
+    (subst (λ (z : ℕ). GrowsInPart pairs given Must total (is_fork x) z next rest others) counted
+    (subst (λ (z : Bool). GrowsInPart pairs given Must total z more_n next rest others) after_is h)) in
+    let one : GrowsInPart pairs given Must total b n messages (record { token = x; depth = d } ∷ rest) (put b x puts.node ++ others) =
+    record { tree = puts.node; others = others; may = puts.may; must = must; are = refl; follow = here } in
+    let all = walk (put b x puts.node ++ others)
+    (subst (λ (z : List TokenAt). GrowsInPart pairs given Must total b n messages z (put b x puts.node ++ others)) (sym (beside_at tokens depths i x same in_range is)) one) in
     subst All (sym (ap (λ (z : List Token). z ++ others) put_is ∙ append_assoc made (put_ready b x tree) others ∙ ap (λ (z : List Token). made ++ (z ++ others)) puts.is)) all
 
-pub part_ends : (pairs : List PairAt) (given : List (Option Node)) (tokens : List Token) (depths : List ℕ) (i : ℕ) (b : Bool) (messages : List (List ℕ)) (made : List Token) (All : List Token → Type 0)
-    → length depths ≡ length tokens → length tokens ≤ i
-    → ((others : List Token) → GrowsInPart pairs given b messages (drop i (beside tokens depths)) others → All (made ++ others)) → All made
-part_ends pairs given tokens depths i b messages made All same over walk =
+pub part_ends : (pairs : List PairAt) (given : List (Option Node)) (Must : ℕ → Type 0) (tokens : List Token) (depths : List ℕ) (i n : ℕ) (b : Bool) (messages : List (List ℕ)) (made : List Token)
+    (All : List Token → Type 0) → length depths ≡ length tokens → length tokens ≤ i
+    → ((others : List Token) → GrowsInPart pairs given Must n b n messages (drop i (beside tokens depths)) others → All (made ++ others)) → All made
+part_ends pairs given Must tokens depths i n b messages made All same over walk =
     let none : drop i (beside tokens depths) ≡ [] = drop_all i (beside tokens depths) (omega (arith, length-beside tokens depths same)) in
-    subst All (append-nil made) (walk [] (subst (λ (z : List TokenAt). GrowsInPart pairs given b messages z []) (sym none) refl))
+    subst All (append-nil made) (walk [] (subst (λ (z : List TokenAt). GrowsInPart pairs given Must n b n messages z []) (sym none) (refl, refl)))

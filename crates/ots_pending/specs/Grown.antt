@@ -1,13 +1,13 @@
 -- How a walk puts the answers into a tree, token by token: for the code. What comes of it is said by
 -- IsCompleted.
-use Rattle.std.specs.Prelude.{◌≡◌, ◌⊎◌, ℕ, ◌-◌, ◌^◌, ◌<◌, min, List, [], ◌∷◌, ◌++◌, map, length, Bool, true, false}
+use Rattle.std.specs.Prelude.{◌≡◌, ◌⊎◌, ℕ, ◌-◌, ◌^◌, ◌<◌, ◌≤◌, min, List, [], ◌∷◌, ◌++◌, map, length, Bool, true, false}
 use Rattle.std.specs.Prelude.{IsTrue, Option, None, Some, option_and_then, option_map, if◌then◌else◌}
 use Rattle.std.specs.List.{slice_get}
 use Rattle.ots_attest.specs.declared.attestation.Attestation.TheVariants as attestation
 use Rattle.ots_tree.specs.declared.token.Token.{Token}
 use Rattle.ots_tree.specs.declared.token.Token.TheVariants as token
 use Rattle.ots_tree.specs.declared.token.TokenAt.{TokenAt}
-use Rattle.ots_tree.specs.PendingWalk.{followed}
+use Rattle.ots_tree.specs.PendingWalk.{ended, followed}
 use Rattle.ots_tree.specs.Wire.{Node, last, more, pre, pre_item, spelled}
 use Rattle.ots_pending.specs.Pairs.{PairAt}
 use Rattle.ots_pending.specs.Completed.{answer_to}
@@ -38,40 +38,43 @@ is_fork token.Fork = true
 is_fork (token.Op o) = false
 is_fork (token.Attestation a) = false
 
--- what these tokens become, after a fork or not, with these messages on the path
-abbrev pub grown : List PairAt → List (Option Node) → Bool → List (List ℕ) → List TokenAt → List Token
-grown pairs given b messages [] = []
-grown pairs given b messages (l ∷ ls) =
-    put b l.token (answer_at pairs given l.token l.depth messages)
-    ++ grown pairs given (is_fork l.token) (followed l.token l.depth messages) ls
-
 -- no tree, or this one
 abbrev pub MayBe : Option Node → Option Node → Type 0
 MayBe answer t = (t ≡ None) ⊎ (t ≡ answer)
 
--- A token is the first of these, with the items of its answer or without, and others follow.
-pub record PutsFirst (b : Bool) (x : Token) (answer : Option Node) (Follow : List Token → Type 0)
+-- A token is the first of these, with the items of its answer, or without where they need not be put, and others
+-- follow.
+pub record PutsFirst (b : Bool) (x : Token) (answer : Option Node) (Must : Type 0) (Follow : List Token → Type 0)
     (made : List Token) : Type 0 where
   pub tree : Option Node
   pub others : List Token
   pub may : MayBe answer tree
+  pub must : Must → tree ≡ answer
   pub are : made ≡ put b x tree ++ others
   pub follow : Follow others
 
--- What these tokens may become where the trees are put at some places of their pairs, and perhaps not at others.
-abbrev pub GrowsInPart : List PairAt → List (Option Node) → Bool → List (List ℕ) → List TokenAt → List Token → Type 0
-GrowsInPart pairs given b messages [] made = made ≡ []
-GrowsInPart pairs given b messages (l ∷ ls) made =
-    PutsFirst b l.token (answer_at pairs given l.token l.depth messages)
-    (λ others. GrowsInPart pairs given (is_fork l.token) (followed l.token l.depth messages) ls others) made
+-- What these tokens may become, after a fork or not, where n paths have ended before them, with these messages on the
+-- path: the trees are put at the ends of the paths with certain numbers, and perhaps at others. `count` paths have ended
+-- after them.
+abbrev pub GrowsInPart : List PairAt → List (Option Node) → (ℕ → Type 0) → ℕ → Bool → ℕ → List (List ℕ) → List TokenAt
+    → List Token → Type 0
+GrowsInPart pairs given Must count b n messages [] made = (made ≡ []) × (n ≡ count)
+GrowsInPart pairs given Must count b n messages (l ∷ ls) made =
+    PutsFirst b l.token (answer_at pairs given l.token l.depth messages) (Must n)
+    (λ others. GrowsInPart pairs given Must count (is_fork l.token) (ended l.token n)
+    (followed l.token l.depth messages) ls others) made
 
--- A tree grew, in part, or whole where that is told.
-pub record Grows (pairs : List PairAt) (trees : List (Option (List Token))) (messages : List (List ℕ))
-    (ls : List TokenAt) (made : Growth) : Type 0 where
-  pub part : (given : List (Option Node)) → map (option_map pre) given ≡ trees
-      → GrowsInPart pairs given false messages ls made.tokens.items
-  pub whole : IsTrue made.is_whole → (given : List (Option Node)) → map (option_map pre) given ≡ trees
-      → made.tokens.items ≡ grown pairs given false messages ls
+-- the numbers from one up to another
+abbrev pub IsBetween : ℕ → ℕ → ℕ → Type 0
+IsBetween from to n = (from ≤ n) × (n < to)
+
+-- A tree grew: at the ends of the paths from this number up to the one at which the next window begins each tree is
+-- put, and this is no path's where that is told.
+pub record Grows (pairs : List PairAt) (given : List (Option Node)) (messages : List (List ℕ)) (ls : List TokenAt)
+    (from : ℕ) (made : Growth) : Type 0 where
+  pub count : ℕ
+  pub part : GrowsInPart pairs given (IsBetween from made.next) count false 0 messages ls made.tokens.items
+  pub whole : IsTrue made.is_whole → count ≤ made.next
 
 -- Where a tree was given, one is ready whose tokens are its items and after them the pending attestation.
 abbrev pub IsReady : List ℕ → Option Node → Option (List Token) → Type 0
@@ -104,6 +107,11 @@ pub record AreReady (pairs : List PairAt) (trees ready : List (Option (List Toke
   pub long : length trees ≡ length pairs
   pub each : (given : List (Option Node)) → map (option_map pre) given ≡ trees
       → AreReadyTo (length pairs) pairs given ready
+
+-- these are the trees that are put where these were given
+pub record ArePut (pairs : List PairAt) (given : List (Option Node)) (ready : List (Option (List Token))) : Type 0 where
+  pub long : length given ≡ length pairs
+  pub each : AreReadyTo (length pairs) pairs given ready
 
 -- A token asks for the pair at a place, and what is given there is the answer.
 pub record StandsAt (pairs : List PairAt) (x : Token) (depth : ℕ) (messages : List (List ℕ)) (i : ℕ) : Type 0 where
@@ -148,18 +156,27 @@ abbrev pub tree_at : List (Option (List Token)) → Option ℕ → Option (List 
 tree_at ready None = None
 tree_at ready (Some i) = option_and_then (λ r. r) (slice_get ready i)
 
--- The tree that is put for a token, where there is room: the one that is ready for the pair it asks for.
+-- The tree that is put for a token in a window: the one that is ready for the pair it asks for.
 pub record IsReadyFor (pairs : List PairAt) (ready : List (Option (List Token))) (x : Token) (depth : ℕ)
     (messages : List (List ℕ)) (tree : Option (List Token)) : Type 0 where
   pub place : Option ℕ
   pub is : IsPairOf pairs x depth messages place
   pub tree_is : tree ≡ tree_at ready place
 
--- Where there is none, no tree is put.
+-- Outside it no tree is put.
 abbrev pub IsPutFor : List PairAt → List (Option (List Token)) → Token → ℕ → List (List ℕ) → Bool
     → Option (List Token) → Type 0
 IsPutFor pairs ready x depth messages true tree = IsReadyFor pairs ready x depth messages tree
 IsPutFor pairs ready x depth messages false tree = tree ≡ None
+
+-- A window goes on: so many paths have ended and trees of so many bytes were put.
+abbrev pub IsWithin : ℕ → ℕ → ℕ → ℕ → Bool → Type 0
+IsWithin from room ended length true = (from ≤ ended) × (length ≤ room)
+IsWithin from room ended length false = (ended < from) ⊎ (room < length)
+
+-- the number of the first path after a window
+abbrev pub next_after : Bool → ℕ → ℕ → ℕ
+next_after goes_on ended next = if goes_on then ended else next
 
 -- how many bytes a tree is spelled in, where there is one, at most 2^64 - 1
 abbrev pub length_put : Option (List Token) → ℕ

@@ -5,6 +5,6 @@ pub mod Distinct
 pub mod Listed
 pub mod OnPath
 pub mod Grown
-pub mod Attempt
+pub mod Parts
 pub mod Forms
 pub mod Limits

@@ -1,12 +1,12 @@
 //! Putting the trees that were given into a tree.
-ghost use Rattle.std.specs.Prelude.{◌≡◌, ◌++◌, ◌∷◌, [], ◌-◌, ◌^◌, List, length, option_map, OnOk, IfOk, IsTrue};
-ghost use Rattle.std.specs.Prelude.{Option};
+ghost use Rattle.std.specs.Prelude.{◌≡◌, ◌≤◌, ◌<◌, ◌++◌, ◌∷◌, [], ◌-◌, ◌^◌, List, length, option_map, OnOk, IfOk};
+ghost use Rattle.std.specs.Prelude.{IsTrue, Option, false};
 ghost use Rattle.std.specs.Option.{option_copied};
 ghost use Rattle.ots_tree.specs.Kept.{IsKept as IsKeptTree, beside};
+ghost use Rattle.ots_tree.specs.PendingWalk.{ended};
 ghost use Rattle.ots_tree.specs.Wire.{Node, pre};
-ghost use Rattle.ots_tree.specs.declared.token.Token.{Token};
-ghost use Rattle.ots_pending.specs.Grown.{is_fork, length_put, put_ready, tree_at, turned, AreReady, AreTrees, Grows};
-ghost use Rattle.ots_pending.specs.Grown.{IsPutFor, IsReady, IsTree, KeepsPath};
+ghost use Rattle.ots_pending.specs.Grown.{is_fork, length_put, next_after, put_ready, tree_at, turned, AreReady};
+ghost use Rattle.ots_pending.specs.Grown.{ArePut, AreTrees, Grows, IsPutFor, IsReady, IsTree, IsWithin, KeepsPath};
 ghost use Rattle.ots_pending.specs.Listed.{pairs_in, IsKept};
 ghost use Rattle.ots_pending.specs.OnPath.{AreNumbers};
 
@@ -21,17 +21,28 @@ use ots_ops::Message;
 use ots_tree::{Token, Tree, beside, single, spelled_length};
 use std::alloc::Global;
 
+/// Where trees are put into a tree.
+#[derive(Clone, Copy)]
+pub(crate) struct Window {
+    /// The number of the first path at whose end a tree is put, from 0, in preorder.
+    pub(crate) from: usize,
+    /// No tree is put any more once those that were put are spelled in more bytes than these.
+    pub(crate) room: u64,
+}
+
 /// What a tree grew to.
 #[derive(Drop)]
 pub(crate) struct Growth {
     /// The tokens.
     pub(crate) tokens: Vec<Token>,
-    /// Whether there was room for all trees. If there was not, they stand at some of their places alone.
+    /// The number of the first path after the window.
+    pub(crate) next: usize,
+    /// Whether there is no such path.
     pub(crate) is_whole: bool,
 }
 
-/// The tokens of a tree with the items of the trees that were given at the places of their pairs, from
-/// a digest. No tree is put any more once those that were put are spelled in more bytes than `room`.
+/// The tokens of a tree with the items of the trees that were given at those places of their pairs that are in
+/// a window, from a digest. Where a path is left after the window, the window has one at least.
 pub(crate) fn grown(
     alloc: Global,
     tokens: &[Token],
@@ -39,34 +50,69 @@ pub(crate) fn grown(
     digest: Message,
     listing: &Listing,
     ready: &[Option<Tree>],
-    room: u64,
+    window: Window,
 ) -> Result<Growth, OutOfMemory>
     requires tree { IsKeptTree tokens.now depths.now }
     requires kept { IsKept listing.now }
-    ensures grows { (trees : List (Option (List Token))) → AreReady (pairs_in listing.now) trees ready.now
-        → IfOk result (Grows (pairs_in listing.now) trees (digest ∷ []) (beside tokens.now depths.now)) }
-    ensures free { room ≡ 2 ^ 64 - 1 → IfOk result (λ made. IsTrue made.is_whole) }
+    ensures grows { (given : List (Option Node)) → ArePut (pairs_in listing.now) given ready.now
+        → IfOk result (Grows (pairs_in listing.now) given (digest ∷ []) (beside tokens.now depths.now) window.from) }
+    ensures goes_on { IfOk result (λ made. made.is_whole ≡ false → window.from < made.next) }
+    ensures within { window.from ≤ length tokens.now → IfOk result (λ made. made.next ≤ length tokens.now) }
+    ensures free { window.room ≡ 2 ^ 64 - 1 → IfOk result (λ made. IsTrue made.is_whole) }
 {
     let mut made = Vec::with_capacity(alloc, tokens.len())?;
     let mut path = path_from(alloc, digest)?;
     let mut after_fork = false;
     let mut length: u64 = 0;
+    let mut count: usize = 0;
+    let mut next = window.from;
     for (at, token) in tokens.iter().enumerate() {
         let depth = depths[at];
-        let has_room = length <= room;
-        let tree = tree_for(alloc, token, depth, &mut path, listing, ready, has_room)?;
+        let goes_on = is_within(window, count, length);
+        let tree = tree_for(alloc, token, depth, &mut path, listing, ready, goes_on)?;
         put(token, after_fork, tree, &mut made)?;
         length = length.saturating_add(length_put(tree));
         after_fork = is_fork(token);
+        count = ended_after(token, count);
+        next = next_after(goes_on, count, next);
         follow(token, depth as usize, &mut path)?;
     }
     Ok(Growth {
         tokens: made,
-        is_whole: length <= room,
+        next,
+        is_whole: count <= next,
     })
 }
 
-/// The tree that is put for a token at this depth, where there is one for it and room.
+/// Whether a tree is put at the end of the next path, where so many have ended and trees of so many bytes were put.
+fn is_within(window: Window, ended: usize, length: u64) -> bool
+    ensures { IsWithin window.from window.room ended length result }
+{
+    if ended < window.from {
+        return false;
+    }
+    length <= window.room
+}
+
+/// How many paths have ended after a token.
+fn ended_after(token: &Token, before: usize) -> usize
+    requires { before < 2 ^ 63 }
+    ensures { result ≡ ended token.now before }
+{
+    match token {
+        Token::Attestation(_) => before + 1,
+        _ => before,
+    }
+}
+
+/// The number of paths up to which trees are put: all that have ended, where the window goes on.
+fn next_after(is_within: bool, ended: usize, next: usize) -> usize
+    ensures { result ≡ next_after is_within ended next }
+{
+    if is_within { ended } else { next }
+}
+
+/// The tree that is put for a token at this depth, where there is one for it in the window.
 fn tree_for<'a>(
     alloc: Global,
     token: &Token,
@@ -74,15 +120,15 @@ fn tree_for<'a>(
     path: &mut Path,
     listing: &Listing,
     ready: &'a [Option<Tree>],
-    has_room: bool,
+    is_within: bool,
 ) -> Result<Option<&'a Tree>, OutOfMemory>
     requires kept { IsKept listing.now }
     requires numbers { AreNumbers listing.now.messages path.old }
     ensures path { KeepsPath listing.now.messages path.old path.new }
     ensures tree { IfOk result (λ tree. IsPutFor (pairs_in listing.now) ready.now token.now depth path.old.messages
-        has_room (option_copied tree)) }
+        is_within (option_copied tree)) }
 {
-    if !has_room {
+    if !is_within {
         return Ok(None);
     }
     let place = pair_of(alloc, token, depth, path, listing)?;

@@ -77,7 +77,7 @@ pub struct UpgradedWithin {
 }
 
 /// Asks calendars as `upgrade_with` does, and completes the proof where the new tree is spelled in at most
-/// `most` bytes. A tree that is too long is mostly not made, and takes memory as `completed_within` of
+/// `most` bytes. Of a tree that is too long no more is made than that takes, in memory as `completed_within` of
 /// `ots_pending` says.
 pub fn upgrade_within<D: Dialer>(
     alloc: Global,
