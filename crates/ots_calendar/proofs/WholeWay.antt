@@ -18,13 +18,15 @@ use Rattle.ots_merkle.proofs.PathLaws.{path_leads, path_short}
 use Rattle.ots_ops.specs.Apply.{apply}
 use Rattle.ots_ops.specs.Value.{value}
 use Rattle.ots_ops.specs.declared.op.Op.{Op}
+use Rattle.ots_ops.specs.declared.op.Op.TheVariants.{Append, Sha256}
 use Rattle.ots_round.specs.Round.{leaf, leaves, round_commitment, round_way}
+use Rattle.ots_round.specs.declared.ticket.Receipt.{Receipt}
 use Rattle.ots_round.specs.declared.ticket.Ticket.{Ticket}
 use Rattle.ots_round.proofs.Leading.{leads_in_round}
 use Rattle.ots_store.specs.declared.anchor.Anchor.{Anchor}
 use Rattle.ots_store.specs.Index.{least}
 use Rattle.ots_store.specs.Order.{anchors_of, commits_of, covers, records_of, InOrder}
-use Rattle.ots_store.specs.Records.{Record, FitsAnchor}
+use Rattle.ots_store.specs.Records.{Record, FitsAnchor, record_of}
 use Rattle.ots_store.specs.Store.{InRecords}
 use Rattle.ots_store.proofs.Ordered.{commits_append, anchors_append, orderly}
 use Rattle.ots_attest.specs.declared.attestation.Attestation.TheVariants.{Bitcoin}
@@ -33,6 +35,8 @@ use Rattle.ots_tree.specs.Wire.{pre}
 use Rattle.ots_tree.specs.declared.token.Token.{Token}
 use Rattle.ots_calendar.specs.declared.answer.Answer.TheVariants.{Complete, Pending}
 use Rattle.ots_calendar.specs.Answer.{answer, answer_of, answer_at, way_in}
+use Rattle.ots_calendar.specs.Book.{Gives}
+use Rattle.ots_calendar.specs.Cycle.{IsCycle}
 use Rattle.ots_calendar.specs.Values.{span, IsTrueAnchor, AreTrue}
 use Rattle.ots_calendar.proofs.Asked.{EndsBy, all_end, all_fit, found_has, covering, all_long, IsLong}
 use Rattle.ots_kept_trees.proofs.Leaves.{span_more}
@@ -215,3 +219,67 @@ cycle_few entries key second tickets i ticket j a are few full found =
     let up = path_short 16 (leaves tickets) i (let n : length (leaves tickets) ≤ 2 ^ 16 = omega (arith, length-map tickets leaf) in n) in
     let rest = complete_few part (j - a.first) a.prefix a.suffix a.branch part_few fits.0.steps in
     omega (arith, up, rest, length-append (round_way key second tickets i ticket) (way_in commits j a), way_long key second tickets i ticket)
+
+-- ---- by the trees that are given
+
+way_few : (entries : List Entry) (j : ℕ) (a : Anchor) → InRecords entries → length (commits_of (records_of entries)) ≤ 2 ^ 32 → find (covers j) (anchors_of (records_of entries)) ≡ Some a
+    → length (way_in (commits_of (records_of entries)) j a) ≤ 165
+way_few entries j a are few found =
+    let records : List Record = records_of entries in
+    let commits : List (List ℕ) = commits_of records in
+    let fits = found_has FitsAnchor (covers j) (anchors_of records) a (all_fit entries are.each) found in
+    let part : List (List ℕ) = span a.first a.count commits in
+    complete_few part (j - a.first) a.prefix a.suffix a.branch (omega (arith, few, taken_few a.count (drop a.first commits), length-drop a.first commits)) fits.0.steps
+
+module _ (entries : List Entry) (before : List Record) (ticket : Ticket) (uri : List ℕ) (stamped completed : List Token) (receipt : Receipt) (are : InRecords entries)
+    (is_true : AreTrue (records_of entries)) (few : length (commits_of (records_of entries)) ≤ 2 ^ 32) (gives : Gives before ticket uri stamped receipt) where
+  abbrev records : List Record
+  records = records_of entries
+
+  by_anchor : (j : ℕ) (o : Option Anchor) → least receipt.commitment (commits_of records) ≡ Some j → find (covers j) (anchors_of records) ≡ o → answer_at (commits_of records) j o ≡ Complete completed
+      → IsCycle records ticket.leaf uri receipt.commitment stamped completed
+  by_anchor j None at found is = absurd (cc)
+  by_anchor j (Some a) at found is =
+      let first : List Op = Append ticket.nonce ∷ Sha256 ∷ gives.leads.rest in
+      let second : List Op = way_in (commits_of records) j a in
+      let long = least_long receipt.commitment (commits_of records) j (all_long entries are.each) at in
+      let short = way_few entries j a are few found in
+      let rest = gives.leads.few in
+      record {
+        first = first;
+        second = second;
+        index = j;
+        anchor = a;
+        index_is = at;
+        anchor_is = found;
+        stamped_is = gives.leads.tree_is;
+        completed_is = sym (cc);
+        leads = both_lead first second ticket.leaf receipt.commitment a.root gives.leads.leads (commitment_leads entries receipt.commitment j a are is_true long at found);
+        few = omega (arith, length-append first second, rest, short);
+      }
+
+  by_index : (l : Option ℕ) → least receipt.commitment (commits_of records) ≡ l → answer_of records l ≡ Complete completed → IsCycle records ticket.leaf uri receipt.commitment stamped completed
+  by_index None at is = absurd (cc)
+  by_index (Some j) at is = by_anchor j (find (covers j) (anchors_of records)) at refl is
+
+  pub whole_cycle : answer (records_of entries) receipt.commitment ≡ Complete completed → IsCycle (records_of entries) ticket.leaf uri receipt.commitment stamped completed
+  whole_cycle is = by_index (least receipt.commitment (commits_of records)) refl is
+
+-- ---- after a crash
+
+records_join : (xs ys : List Entry) → records_of (xs ++ ys) ≡ records_of xs ++ records_of ys
+records_join [] ys = refl
+records_join (x ∷ xs) ys = ap (λ (z : List Record). record_of x ∷ z) (records_join xs ys)
+
+module _ (before flight found : List Entry) (records : List Record) (same : before ++ flight ≡ found) (are : records ≡ records_of found) where
+  found_is : records ≡ records_of before ++ records_of flight
+  found_is = are ∙ ap records_of (sym same) ∙ records_join before flight
+
+  pub complete_after : (c : List ℕ) (tree : List Token) → InOrder [] (records_of before) → answer (records_of before) c ≡ Complete tree → answer records c ≡ Complete tree
+  complete_after c tree order is = ap (λ (z : List Record). answer z c) found_is ∙ complete_stays (records_of before) (records_of flight) c tree order is
+
+  pub pending_after : (c : List ℕ) → answer (records_of before) c ≡ Pending
+      → (i : ℕ) × (least c (commits_of (records_of before)) ≡ Some i) × (answer records c ≡ answer_at (commits_of records) i (find (covers i) (anchors_of (records_of flight))))
+  pending_after c is =
+      let (i, at, answered) = pending_stays (records_of before) (records_of flight) c is in
+      (i, at, subst (λ (z : List Record). answer z c ≡ answer_at (commits_of z) i (find (covers i) (anchors_of (records_of flight)))) (sym found_is) answered)

@@ -8,7 +8,10 @@ ghost use Rattle.ots_journal.specs.declared.entry.Entry.{Entry};
 ghost use Rattle.ots_journal.specs.declared.errors.AppendError.{AppendError};
 ghost use Rattle.ots_store.specs.declared.tip.Tip.{Tip};
 ghost use Rattle.ots_calendar.specs.Anchors.{AsksAnchor};
-ghost use Rattle.ots_calendar.specs.Book.{BookTold, Grows, IsGone, IsTaken};
+ghost use Rattle.ots_calendar.specs.Book.{BookTold, Gives, Grows, IsGone, IsTaken};
+ghost use Rattle.ots_calendar.specs.Cycle.{IsCycle};
+ghost use Rattle.ots_round.specs.declared.ticket.Receipt.{Receipt};
+ghost use Rattle.ots_journal.specs.Image.{Stands};
 ghost use Rattle.ots_calendar.specs.Rounds.{Closes};
 ghost use Rattle.ots_calendar.specs.Tips.{AsksTip};
 ghost use Rattle.ots_calendar.specs.declared.errors.AnchorError.{AnchorError};
@@ -35,6 +38,7 @@ ghost use Rattle.ots_calendar.specs.Values.{AreTrue};
 ghost use Rattle.ots_calendar.specs.declared.answer.Answer.TheVariants.{Complete, Pending};
 
 use ots_disk::Disk;
+use ots_journal::bytes_stand_once;
 
 /// What is answered of a stored commitment stays when records are added, as those in flight may be
 /// by a crash: a complete answer is the same, and a pending one is as the first of the added anchors
@@ -49,7 +53,8 @@ pub fn answers_stay()
 
 /// The way of a ticket to its commitment, and then that of the commitment to its anchor, lead from
 /// the digest to the anchor's root, which is the Merkle root in the header of the anchor's block.
-/// They have at most 201 operations.
+/// They have at most 201 operations. So do the paths of the tree that `take` gives for a ticket, and
+/// of the one that `ask` answers of its commitment, whenever that is.
 pub fn cycle()
     ensures leads { (entries : List Entry) (key : List ℕ) (second : ℕ) (tickets : List Ticket) (i : ℕ) (ticket : Ticket)
         (j : ℕ) (anchor : Anchor)
@@ -64,7 +69,30 @@ pub fn cycle()
         → InRecords entries → length (commits_of (records_of entries)) ≤ 2 ^ 32 → length tickets ≤ 2 ^ 16
         → find (covers j) (anchors_of (records_of entries)) ≡ Some anchor
         → length (round_way key second tickets i ticket ++ way_in (commits_of (records_of entries)) j anchor) ≤ 201 }
+    ensures trees { (entries : List Entry) (before : List Record) (ticket : Ticket) (uri : List ℕ)
+        (stamped completed : List Token) (receipt : Receipt)
+        → InRecords entries → AreTrue (records_of entries) → length (commits_of (records_of entries)) ≤ 2 ^ 32
+        → Gives before ticket uri stamped receipt → answer (records_of entries) receipt.commitment ≡ Complete completed
+        → IsCycle (records_of entries) ticket.leaf uri receipt.commitment stamped completed }
 {}
+
+/// What is answered after a crash. The image that it left stands for the entries of before and maybe for those that were
+/// in flight, and a book was opened on it, whose journal has the image's entries and whose records are theirs. A
+/// commitment that was answered with a tree is answered with the same; and one that was pending is pending, or is
+/// answered by the first anchor in flight that covers it.
+pub fn answers_after_a_crash<D: Disk>()
+    ensures complete { (image : List ℕ) (before flight : List Entry) (book : BookTold D) (c : List ℕ)
+        (tree : List Token) → Stands image (before ++ flight) → Stands image book.store.journal.entries
+        → book.store.records ≡ records_of book.store.journal.entries → InOrder [] (records_of before)
+        → answer (records_of before) c ≡ Complete tree → answer book.store.records c ≡ Complete tree }
+    ensures pending { (image : List ℕ) (before flight : List Entry) (book : BookTold D) (c : List ℕ)
+        → Stands image (before ++ flight) → Stands image book.store.journal.entries
+        → book.store.records ≡ records_of book.store.journal.entries → answer (records_of before) c ≡ Pending
+        → (i : ℕ) × (least c (commits_of (records_of before)) ≡ Some i) × (answer book.store.records c
+        ≡ answer_at (commits_of book.store.records) i (find (covers i) (anchors_of (records_of flight)))) }
+{
+    bytes_stand_once();
+}
 
 /// What a calendar answers is spelled in less than 10,000 bytes, the most that a client takes of a
 /// reply: the tree of a ticket whose round is closed, which ends in a pending attestation, and that

@@ -8,6 +8,7 @@
 //! | [`Book::ask`] | what is answered of a commitment |
 //! | [`Book::tip`], [`Book::anchor`] | the tree over what is not covered; its root found in a block |
 //! | [`calls_grow`], [`answers_stay`] | records are added at the end alone; what holds of answers then |
+//! | [`answers_after_a_crash`] | what a book that is opened after a crash answers |
 //! | [`cycle`] | where the whole way leads |
 //! | [`trees_are_short`] | a tree that is answered is under 10,000 bytes |
 //!
@@ -31,7 +32,9 @@ mod values;
 pub use answer::Answer;
 pub use book::Book;
 pub use errors::{AnchorError, RefusedBook, TipError};
-pub use laws::{answers_stay, calls_grow, cycle, one_ticket, trees_are_short};
+pub use laws::{
+    answers_after_a_crash, answers_stay, calls_grow, cycle, one_ticket, trees_are_short,
+};
 pub use ots_outside::{DigestLength, Leaf};
 pub use ots_round::{BadKey, Key, Receipt, Ticket, hmac_sha256};
 pub use ots_tickets::{MAX_WAITING, PutError, Taken};

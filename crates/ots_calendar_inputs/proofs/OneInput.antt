@@ -18,6 +18,7 @@ use Rattle.ots_journal.proofs.OldReading.{has_entry, stands_once1}
 use Rattle.ots_journal.proofs.Unique.{head_is, unique_entry}
 use Rattle.ots_calendar_text.specs.declared.status.DaemonStatus.{DaemonStatus}
 use Rattle.ots_calendar_text.specs.declared.status.DaemonStatus.TheVariants.{BadAddress, BadBlock, BadDigests, Damaged}
+use Rattle.ots_address.specs.Address.{AddressParts}
 use Rattle.ots_calendar_inputs.specs.Address.{IsOneAddress, RefusesAddress}
 use Rattle.ots_calendar_inputs.specs.Block.{GivesBlock, RefusesBlock, too_big, bad_block}
 use Rattle.ots_inputs.proofs.OneFile.{lines_given_once, lines_never_both, one_bad_line}
@@ -30,7 +31,7 @@ use Rattle.ots_calendar_inputs.specs.Old as old
 -- ---- the address
 
 pub address_given_once : (word first second : List ℕ) → IsOneAddress word first → IsOneAddress word second → first ≡ second
-address_given_once word first second f g = f.text ∙ given_once word f.address g.address f.is_address g.is_address ∙ sym g.text
+address_given_once word first second f g = f.text ∙ ap (λ (a : AddressParts). a.text) (given_once word f.address g.address f.is_address g.is_address) ∙ sym g.text
 
 abbrev bad_address : ℕ → Bool → DaemonStatus
 bad_address place https = BadAddress place https

@@ -1,5 +1,7 @@
+mod CarriedOnce
 mod Hears
 mod OneAnswer
+mod OneHearing
 mod Ran
 mod ReadsBack
 mod Taken

@@ -1,10 +1,12 @@
--- A command that asks nobody has one answer, and so one status.
+-- A command has one answer by what was drawn and heard, and one that asks nobody has one answer, and so one status.
 use Rattle.std.proofs.Common.{◌≡◌, Option, Some, None, inl, inr, sym, subst, ◌∙◌}
 use Rattle.ots_base.specs.Cause.{Rose}
 use Rattle.ots_checking.proofs.OneAnswer.{checks, samples, verifies}
 use Rattle.ots_cli.specs.Answer.{Answers, names_read}
 use Rattle.ots_cli.specs.Asking.{IsOffline}
 use Rattle.ots_cli.proofs.ReadsBack.{offline_plain}
+use Rattle.ots_completing.proofs.OneAnswer.{upgrades}
+use Rattle.ots_completing.specs.Upgrade.{UpgradesFile}
 use Rattle.ots_client_endings.specs.CarriedOut.{Ends, carried_out, no_memory, status_over}
 use Rattle.ots_client_endings.specs.Ending.{Ending}
 use Rattle.ots_client_endings.specs.Outcome.{Excused, UnlessExcused}
@@ -18,6 +20,8 @@ use Rattle.ots_inputs.specs.Opened.{StopsAt}
 use Rattle.ots_outside.specs.Shelf.{Names}
 use Rattle.ots_rewriting.specs.declared.rewriting.Rewriting.TheVariants.{Canon, Prune}
 use Rattle.ots_rewriting.proofs.OneAnswer.{joins, rewrites, tells}
+use Rattle.ots_stamping.proofs.OneAnswer.{stamps}
+use Rattle.ots_stamping.specs.Stamp.{StampsFiles}
 
 pub one_answer : (happens : Outside → Type 0) (names : Names) (command : Option ClientCommand) (d e : Ending) → IsOffline command
     → Answers happens command (Some names) d → Answers happens command (Some names) e → d ≡ e
@@ -31,6 +35,21 @@ one_answer happens names (Some (stamp s)) d e alone f g = absurd alone
 one_answer happens names (Some (upgrade u)) d e alone f g = absurd alone
 one_answer happens names (Some (sample n)) d e alone f g = samples n d e f g
 one_answer happens names (Some (chain w)) d e alone f g = checks names w d e f g
+
+pub answer_to : (o : Outside) (names : Names) (command : Option ClientCommand) (d e : Ending) → Answers (λ (x : Outside). x ≡ o) command (Some names) d
+    → Answers (λ (x : Outside). x ≡ o) command (Some names) e → d ≡ e
+answer_to o names None d e f g = one_answer (λ x. x ≡ o) names None d e tt f g
+answer_to o names (Some (info name)) d e f g = one_answer (λ x. x ≡ o) names (Some (info name)) d e tt f g
+answer_to o names (Some (canon from to)) d e f g = one_answer (λ x. x ≡ o) names (Some (canon from to)) d e tt f g
+answer_to o names (Some (merge first second to)) d e f g = one_answer (λ x. x ≡ o) names (Some (merge first second to)) d e tt f g
+answer_to o names (Some (prune from to)) d e f g = one_answer (λ x. x ≡ o) names (Some (prune from to)) d e tt f g
+answer_to o names (Some (verify v)) d e f g = one_answer (λ x. x ≡ o) names (Some (verify v)) d e tt f g
+answer_to o names (Some (stamp s)) d e (x, is, f) (y, too, g) =
+    stamps o names s d e (subst (λ (z : Outside). StampsFiles z (Some names) s d) is f) (subst (λ (z : Outside). StampsFiles z (Some names) s e) too g)
+answer_to o names (Some (upgrade u)) d e (x, is, f) (y, too, g) =
+    upgrades o names u d e (subst (λ (z : Outside). UpgradesFile z (Some names) u d) is f) (subst (λ (z : Outside). UpgradesFile z (Some names) u e) too g)
+answer_to o names (Some (sample n)) d e f g = one_answer (λ x. x ≡ o) names (Some (sample n)) d e tt f g
+answer_to o names (Some (chain w)) d e f g = one_answer (λ x. x ≡ o) names (Some (chain w)) d e tt f g
 
 pub exact : (happens : Outside → Type 0) (names : Names) (c : Option ClientCommand) (old new : Moment) (r : Status) (e : Ending) → old.shelf.names ≡ Some names → IsOffline c
     → Answers happens c (Some names) e → Runs (Answers happens c) (names_read c) old new r → UnlessExcused old new (status_over names e.status e.acts) r

@@ -1,7 +1,8 @@
 //! The client `ots`: what its words, the shelf and the sink make it do, proved, so that the
 //! program only makes the real objects and calls it.
 //!
-//! [`run_client`] reads the words and calls the command that they ask for.
+//! [`run_client`] reads the words and calls the command that they ask for. The laws [`one_answer`]
+//! and [`one_hearing`] say that names, words, nonces and replies determine how it ends.
 //!
 //! | crate | commands |
 //! |---|---|
@@ -12,7 +13,9 @@
 //! | `ots_client_endings` | what they share: how a command ends |
 #![tactic(auto)]
 
+mod laws;
 mod run;
 
+pub use laws::{one_answer, one_hearing};
 pub use ots_client_text::Status;
 pub use run::run_client;

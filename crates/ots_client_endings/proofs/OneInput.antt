@@ -1,13 +1,16 @@
--- An input is read in one way, and a proof written in one.
-use Rattle.std.proofs.Common.{◌≡◌, ℕ, List, Some, None, sym, ap, subst, ◌∙◌, arith}
+-- An input is read in one way, a list too, and a proof is written in one.
+use Rattle.std.proofs.Common.{◌≡◌, ℕ, Bool, List, [], Some, None, sym, ap, subst, ◌∙◌, arith}
 use Rattle.std.specs.FinMap as map
+use Rattle.ots_address.specs.Address.{AddressParts}
+use Rattle.ots_address.proofs.ListLemmas.{none_bad, one_bad}
+use Rattle.ots_address.proofs.OneLemmas.{one_list}
 use Rattle.ots_client_endings.specs.Ending.{Ending, refused}
-use Rattle.ots_client_endings.specs.Reading.{RefusesInput, no_file, refuses, WithInput, is_given, is_refused, WithProof}
+use Rattle.ots_client_endings.specs.Reading.{RefusesInput, no_file, refuses, WithInput, is_given, is_refused, WithList, is_list, is_bad, WithProof}
 use Rattle.ots_client_endings.specs.Writing.{Writes, too_long, is_made}
 use Rattle.ots_client_inputs.specs.Proof.{RefusesProof, too_big, bad_proof}
 use Rattle.ots_client_inputs.specs.Target.{IsHashOf, RefusesTarget}
 use Rattle.ots_client_text.specs.declared.status.Status.{Status}
-use Rattle.ots_client_text.specs.declared.status.Status.TheVariants.{BadProof}
+use Rattle.ots_client_text.specs.declared.status.Status.TheVariants.{BadAddress, BadProof}
 use Rattle.ots_detached.specs.File.{IsFileOf}
 use Rattle.ots_detached.proofs.BothWays.{no_fault, file_size, one_file}
 use Rattle.ots_detached.proofs.Files.{one_fault}
@@ -75,6 +78,15 @@ with_proof names name = one_input names name IsFileOf RefusesProof (λ b p q f g
 pub given_proof : (names : Names) (name : List ℕ) (P : Detached → Ending → Type 0) (p : Detached) (e : Ending) → HasUnder (Some names) name (λ b. IsFileOf b p)
     → WithProof (Some names) name P e → P p e
 given_proof names name P p e has = given names name IsFileOf RefusesProof (λ b x y f g. one_file b x y f g) proof_refusal proof_or_not P p e has.0 has.1 has.2
+
+-- a list of calendars
+pub with_list : (list : List ℕ) (P : List AddressParts → Ending → Type 0) (d e : Ending) → ((xs : List AddressParts) → P xs d → P xs e → d ≡ e)
+    → WithList list P d → WithList list P e → d ≡ e
+with_list list P d e one (is_list xs is h) (is_list ys too k) = one ys (subst (λ (z : List AddressParts). P z d) (one_list list xs ys is too) h) k
+with_list list P d e one (is_list xs is h) (is_bad place https bad f) = absurd (none_bad list place https bad is.good)
+with_list list P d e one (is_bad place https bad f) (is_list ys too k) = absurd (none_bad list place https bad too.good)
+with_list list P d e one (is_bad place https bad f) (is_bad other another worse g) =
+    let same = one_bad list place other https another bad worse in f ∙ (λ i. refused [] (BadAddress (same.0 i) (same.1 i))) ∙ sym g
 
 -- a target
 pub target_refusal : (b : List ℕ) (s t : Status) → RefusesTarget b s → RefusesTarget b t → s ≡ t

@@ -1,3 +1,4 @@
 mod Asked
 pub mod Concluded
 mod Example
+pub mod OneAnswer

@@ -4,5 +4,6 @@ mod Counting
 mod Drawn
 mod Example
 mod Hashed
-mod OneStamp
+pub mod OneAnswer
+pub mod OneStamp
 mod Submitted

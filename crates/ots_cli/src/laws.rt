@@ -1,0 +1,44 @@
+//! What determines how a run ends.
+ghost use Rattle.std.specs.Prelude.{◌≡◌, ◌≢◌, ℕ, List, Option, Some};
+ghost use Rattle.std.specs.List.{AllByRecursion};
+ghost use Rattle.ots_base.specs.Cause.{Rose};
+ghost use Rattle.ots_cli.specs.Answer.{Answers};
+ghost use Rattle.ots_client_endings.specs.CarriedOut.{CarriesOut};
+ghost use Rattle.ots_client_endings.specs.Ending.{Ending};
+ghost use Rattle.ots_client_endings.specs.Outside.{Outside};
+ghost use Rattle.ots_client_text.specs.declared.status.Status.{Status};
+ghost use Rattle.ots_client_text.specs.declared.status.Status.TheVariants.{OutOfMemory};
+ghost use Rattle.ots_client_words.specs.Words.{ClientCommand};
+ghost use Rattle.ots_outside.specs.Dialer.{Sent};
+ghost use Rattle.ots_outside.specs.Shelf.{Names};
+ghost use Rattle.ots_reader.specs.OneAnswer.{IsShape};
+ghost use Rattle.ots_upgrade.specs.Conversation.{Converse, Question};
+ghost use Rattle.ots_upgrade.specs.declared.outcome.Outcome.{Outcome};
+
+use ots_outside::Dialer;
+use ots_upgrade::one_outcome;
+
+/// The words, the bytes under the names, the nonces that were drawn and the outcomes of the conversations that were had
+/// determine how a run ends. And an ending is carried out in one way where nothing of the outside fails: what is under
+/// each name then, what was printed, and the status are determined, want of memory aside.
+pub fn one_answer()
+    ensures ending { (o : Outside) (names : Names) (c : Option ClientCommand) (d e : Ending)
+        → Answers (λ x. x ≡ o) c (Some names) d → Answers (λ x. x ≡ o) c (Some names) e → d ≡ e }
+    ensures carried { (e : Ending) (names : Names) (taken : List ℕ) (new other : Option Names)
+        (now later : Option (List ℕ)) (q r : Status) → q ≢ OutOfMemory → r ≢ OutOfMemory
+        → CarriesOut ⊥ ⊥ e.status e.acts (Some names) new (Some taken) now q
+        → CarriesOut ⊥ ⊥ e.status e.acts (Some names) other (Some taken) later r
+        → (new ≡ other) × (now ≡ later) × (q ≡ r) }
+{}
+
+/// Where a dialer tells what was sent and the replies to come, and none of its calls fails, what calendars are asked
+/// determines the outcome of each conversation. So it determines, with the nonces, what `stamp` and `upgrade` answer.
+pub fn one_hearing<D: Dialer>()
+    ensures { (questions : List Question) (old new : D) (heard other : List Outcome) (sent : List Sent)
+        (replies : List (List ℕ)) → AllByRecursion (λ (q : Question). IsShape q.length q.depth) questions
+        → (D.told old).sent ≡ Some sent → (D.told old).replies ≡ Some replies
+        → ¬ Rose (D.faults old) (D.faults new) → Converse D.told D.faults questions old new heard
+        → Converse D.told D.faults questions old new other → heard ≡ other }
+{
+    one_outcome();
+}
