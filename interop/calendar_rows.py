@@ -167,12 +167,12 @@ REASONS = {200: 'OK', 400: 'Bad Request', 404: 'Not Found', 405: 'Method Not All
 
 
 def reply(status, body):
-    """The pieces in which a reply is written: one in words, or a head and a tree."""
+    """The pieces in which a reply is written: one, but a tree of more than 10,000 bytes comes after its head."""
     kind = 'application/octet-stream' if status == 200 else 'text/plain'
     body = body if status == 200 else body.encode() + b'\n'
     head = f'HTTP/1.1 {status} {REASONS[status]}\r\nContent-Type: {kind}\r\nContent-Length: {len(body)}\r\n'
     head = (head + 'Connection: close\r\n\r\n').encode()
-    return [head, body] if status == 200 else [head + body]
+    return [head + body] if len(body) <= 10000 else [head, body]
 
 
 REFUSALS = {400: 'bad request', 404: 'not found', 405: 'method not allowed', 411: 'length required', 413: 'too large'}

@@ -18,12 +18,13 @@ const ROOM: DiskRoom = DiskRoom {
     file: 40000,
 };
 
-/// How a run ended, what it printed, and what the journal holds then.
+/// How a run ended, what it printed, what the journal holds then, and where its connections came in.
 #[derive(Drop)]
-pub struct Ended {
+pub struct Ended<A> {
     pub status: u8,
     pub text: Vec<u8>,
     pub journal: Vec<u8>,
+    pub accepter: A,
 }
 
 /// The shelf with the key, 64 times the letter k, under the name `k`.
@@ -48,7 +49,7 @@ fn words_of(alloc: Global, words: &[&str]) -> Result<Vec<String>, Fail> {
     Ok(owned)
 }
 
-/// A run on any objects: the number of its status, and the disk.
+/// A run on any objects: the number of its status, the disk, and the accepter.
 #[expect(clippy::too_many_arguments)]
 fn run_over<
     D: Disk + Send,
@@ -68,13 +69,13 @@ fn run_over<
     accepter: A,
     clock: C,
     nonces: N,
-) -> (u8, D)
+) -> (u8, D, A)
     requires { IfTold (A.returned accepter) (λ links. links ≡ []) }
 {
     let (status, returned) = run_calendar(
         rt, alloc, words, disk, shelf, out, accepter, clock, nonces,
     );
-    (status.number(), returned.disk)
+    (status.number(), returned.disk, returned.accepter)
 }
 
 /// The same on an empty journal, with these objects: each that is in memory is made in a function of its own,
@@ -92,7 +93,7 @@ fn serve_on<
     shelf: &mut S,
     accepter: A,
     nonces: N,
-) -> Result<(u8, Vec<u8>, D), Fail>
+) -> Result<(u8, Vec<u8>, D, A), Fail>
     requires { IfTold (A.returned accepter) (λ links. links ≡ []) }
 {
     let alloc = rt.alloc();
@@ -100,10 +101,10 @@ fn serve_on<
     let clock = FixedClock {
         second: 1_700_000_000,
     };
-    let (status, disk) = run_over(
+    let (status, disk, accepter) = run_over(
         rt, alloc, words, disk, shelf, &mut out, accepter, clock, nonces,
     );
-    Ok((status, out.bytes().to_vec(alloc)?, disk))
+    Ok((status, out.bytes().to_vec(alloc)?, disk, accepter))
 }
 
 /// The same on a disk in memory.
@@ -112,15 +113,16 @@ fn serve_in_memory<
     A: Accepter + Send + Drop,
     N: Nonces + Send + Drop,
     R: AllocGlobal + Threads + Wait + Sync,
->(rt: &R, words: &[String], shelf: &mut S, accepter: A, nonces: N) -> Result<Ended, Fail>
+>(rt: &R, words: &[String], shelf: &mut S, accepter: A, nonces: N) -> Result<Ended<A>, Fail>
     requires { IfTold (A.returned accepter) (λ links. links ≡ []) }
 {
     let disk = MemoryDisk::new(rt.alloc(), &[], ROOM, &[])?;
-    let (status, text, disk) = serve_on(rt, words, disk, shelf, accepter, nonces)?;
+    let (status, text, disk, accepter) = serve_on(rt, words, disk, shelf, accepter, nonces)?;
     Ok(Ended {
         status,
         text,
         journal: disk.bytes().to_vec(rt.alloc())?,
+        accepter,
     })
 }
 
@@ -130,7 +132,7 @@ fn serve_drawing<S: Shelf, A: Accepter + Send + Drop, R: AllocGlobal + Threads +
     words: &[String],
     shelf: &mut S,
     accepter: A,
-) -> Result<Ended, Fail>
+) -> Result<Ended<A>, Fail>
     requires { IfTold (A.returned accepter) (λ links. links ≡ []) }
 {
     let nonces = ListNonces::new(rt.alloc(), b"@ABCDEFGHIJKLMNO", &[])?;
@@ -142,7 +144,7 @@ pub fn serve<A: Accepter + Send + Drop, R: AllocGlobal + Threads + Wait + Sync>(
     rt: &R,
     words: &[&str],
     accepter: A,
-) -> Result<Ended, Fail>
+) -> Result<Ended<A>, Fail>
     requires { IfTold (A.returned accepter) (λ links. links ≡ []) }
 {
     let words = words_of(rt.alloc(), words)?;

@@ -42,12 +42,12 @@ pub struct Left {
 
 /// What serving left of the book and of the front.
 #[derive(Drop)]
-struct Over<D, A> {
-    ending: ServeEnd,
+pub struct Over<D, A> {
+    pub ending: ServeEnd,
     count: u64,
     waiting: u64,
     disk: D,
-    accepter: A,
+    pub accepter: A,
 }
 
 /// Serves over any objects. What its clauses say is left here.
@@ -90,7 +90,7 @@ fn serve_over<
 }
 
 /// The same at second 1700000000, with nonces of 16 bytes 7.
-fn serve_drawing<D: Disk + Send + Drop, A: Accepter + Send + Drop, R: Threads + Wait + Sync>(
+pub fn serve_drawing<D: Disk + Send + Drop, A: Accepter + Send + Drop, R: Threads + Wait + Sync>(
     rt: &R,
     alloc: Global,
     accepter: A,

@@ -1,4 +1,5 @@
 use crate::serving::runs::{Left, Plan, run};
+use crate::serving::staged::{Met, write_while_storing};
 use ots_workers::ServeEnd;
 use std::test::Fail;
 
@@ -21,6 +22,22 @@ fn two_connections_are_served_at_once(rt: HostRuntime) -> Result<(), Fail> {
             unknown: 0,
             waiting: 0,
             met: true,
+        }
+    );
+    Ok(())
+}
+
+#[test]
+fn a_reply_is_written_while_another_connections_digest_is_stored(
+    rt: HostRuntime,
+) -> Result<(), Fail> {
+    assert_eq!(rt;
+        write_while_storing(&rt, rt.alloc())?,
+        Met {
+            ending: ServeEnd::Done,
+            met: 2,
+            stamped: 1,
+            unknown: 1,
         }
     );
     Ok(())
