@@ -1,6 +1,5 @@
 //! Links that wait for one another.
-ghost use Rattle.std.specs.Prelude.{◌≡◌, ◌∷◌, [], All, Some, IfOk};
-ghost use Rattle.ots_base.specs.Told.{IfTold};
+ghost use Rattle.std.specs.Prelude.{◌≡◌, [], All, Some, true, IfOk};
 ghost use Rattle.ots_outside.specs.Link.{IsFresh};
 
 use ots_io::{Accepter, BytesLink, Failed, Link, ListAccepter, OutOfMemory};
@@ -106,7 +105,7 @@ fn add_links(
 
 /// Two groups of so many links each: a link is answered once all of its group were read.
 pub fn two_groups(alloc: Global, count: u32) -> Result<ListAccepter<MeetingLink>, Fail>
-    ensures { IfOk result (λ accepter. IfTold accepter.kept (λ links. links ≡ [])) }
+    ensures { IfOk result (λ accepter. (accepter.kept ≡ []) × (accepter.tells ≡ true)) }
 {
     let reads = Arc::new(alloc, AtomicU64::new(0))?;
     let links = add_links(alloc, &reads, count, 0, VecDeque::new(alloc))?;
