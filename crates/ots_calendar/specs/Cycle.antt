@@ -14,7 +14,8 @@ use Rattle.ots_tree.specs.declared.token.Token.{Token}
 
 -- The first tree has one path, which ends in a pending attestation, and the second one, which ends in that of a Bitcoin
 -- block. One after the other they lead from the digest, over the commitment, to the root of the block's transactions.
-pub record IsCycle (records : List Record) (digest uri commitment : List ℕ) (stamped completed : List Token) : Type 0 where
+pub record IsCycle (records : List Record) (digest uri commitment : List ℕ)
+    (stamped completed : List Token) : Type 0 where
   -- the operations of the paths
   pub first : List Op
   pub second : List Op

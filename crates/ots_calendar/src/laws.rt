@@ -76,10 +76,10 @@ pub fn cycle()
         → IsCycle (records_of entries) ticket.leaf uri receipt.commitment stamped completed }
 {}
 
-/// What is answered after a crash. The image that it left stands for the entries of before and maybe for those that were
-/// in flight, and a book was opened on it, whose journal has the image's entries and whose records are theirs. A
-/// commitment that was answered with a tree is answered with the same; and one that was pending is pending, or is
-/// answered by the first anchor in flight that covers it.
+/// What is answered after a crash. The image that it left stands for the entries of before and maybe for those
+/// that were in flight, and a book was opened on it, whose journal has the image's entries and whose records are
+/// theirs. A commitment that was answered with a tree is answered with the same; and one that was pending is
+/// pending, or is answered by the first anchor in flight that covers it.
 pub fn answers_after_a_crash<D: Disk>()
     ensures complete { (image : List ℕ) (before flight : List Entry) (book : BookTold D) (c : List ℕ)
         (tree : List Token) → Stands image (before ++ flight) → Stands image book.store.journal.entries

@@ -32,7 +32,8 @@ pub fn one_answer()
 {}
 
 /// Where a dialer tells what was sent and the replies to come, and none of its calls fails, what calendars are asked
-/// determines the outcome of each conversation. So it determines, with the nonces, what `stamp` and `upgrade` answer.
+/// determines the outcome of each conversation. Each answer is to stand below a message of 1 to 4096 bytes and at most
+/// 255 operations.
 pub fn one_hearing<D: Dialer>()
     ensures { (questions : List Question) (old new : D) (heard other : List Outcome) (sent : List Sent)
         (replies : List (List ℕ)) → AllByRecursion (λ (q : Question). IsShape q.length q.depth) questions

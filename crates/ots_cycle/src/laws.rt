@@ -14,9 +14,9 @@ ghost use Rattle.ots_upgrade.specs.declared.target.Target.{Target};
 ghost use Rattle.ots_verdicts.specs.Confirmed.{IsConfirmed};
 ghost use Rattle.ots_verdicts.specs.declared.verdicts.Chain.TheVariants as chain;
 
-/// Files are stamped together, and the root over them is what a calendar is handed. The tree that it gives for that, and
-/// the one that it answers later of the commitment, are joined below the way of a file to the root. This path has at
-/// most 223 operations, of the 255 that a path may have, and leads from the file's digest to the Merkle root of the
+/// Files are stamped together, and the root over them is what a calendar is handed. The tree that it gives for that,
+/// and the one that it answers later of the commitment, are joined below the way of a file to the root. This path has
+/// at most 223 operations, of the 255 that a path may have, and leads from the file's digest to the Merkle root of the
 /// anchor's block. A proof of the file that has it confirms the block's height, where a header of that root is given.
 pub fn a_cycle_is_confirmed()
     ensures few { (targets : List Target) (i : ℕ) (t : Target) (records : List Record) (uri commitment : List ℕ)

@@ -54,8 +54,8 @@ pub record PutsFirst (b : Bool) (x : Token) (answer : Option Node) (Must : Type 
   pub follow : Follow others
 
 -- What these tokens may become, after a fork or not, where n paths have ended before them, with these messages on the
--- path: the trees are put at the ends of the paths with certain numbers, and perhaps at others. `count` paths have ended
--- after them.
+-- path: the trees are put at the ends of the paths with certain numbers, and perhaps at others. After them `count`
+-- paths have ended.
 abbrev pub GrowsInPart : List PairAt → List (Option Node) → (ℕ → Type 0) → ℕ → Bool → ℕ → List (List ℕ) → List TokenAt
     → List Token → Type 0
 GrowsInPart pairs given Must count b n messages [] made = (made ≡ []) × (n ≡ count)
