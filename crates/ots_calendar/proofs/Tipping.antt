@@ -6,7 +6,7 @@ use Rattle.ots_journal.specs.declared.errors.AppendError.{AppendError}
 use Rattle.ots_journal.specs.declared.errors.AppendError.TheVariants as append
 use Rattle.ots_journal.specs.Journal.{JournalTold, StandsForEither, Refreshed}
 use Rattle.ots_store.specs.declared.tip.Tip.{Tip}
-use Rattle.ots_store.specs.Order.{commits_of, records_of}
+use Rattle.ots_store.specs.Order.{records_of}
 use Rattle.ots_store.specs.Records.{Record}
 use Rattle.ots_store.specs.Store.{StoreTold, StoreStands, MakesRoom, with_room}
 use Rattle.ots_calendar.specs.declared.errors.TipError.{TipError}

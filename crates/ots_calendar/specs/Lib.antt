@@ -2,6 +2,7 @@ pub mod Anchors
 pub mod Answer
 pub mod Book
 pub mod Cycle
+pub mod Prepared
 pub mod Rounds
 pub mod Seen
 pub mod Tips

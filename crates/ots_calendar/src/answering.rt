@@ -7,37 +7,35 @@ ghost use Rattle.ots_store.specs.Order.{anchors_of, commits_of, covers};
 ghost use Rattle.ots_tree.specs.Made.{lone};
 ghost use Rattle.ots_tree.specs.Wire.{pre};
 ghost use Rattle.ots_calendar.specs.Answer.{answer, way_in};
+ghost use Rattle.ots_calendar.specs.declared.answer.Answer.TheVariants.{Complete};
 ghost use Rattle.ots_kept_trees.specs.Kept.{AreKept};
 
-use crate::Answer;
-use ots_anchor::complete_way;
-use ots_attest::Attestation;
+use crate::Prepared;
 use ots_base::OutOfMemory;
 use ots_disk::Disk;
 use ots_kept_trees::Trees;
 use ots_store::{Anchor, Store};
-use ots_tree::{Tree, single};
 use std::alloc::Global;
 
 /// The number of bytes of a commitment.
 const COMMITMENT: usize = 44;
 
 /// What is answered of a commitment, by its least index and the first anchor that covers it.
-pub(crate) fn answer_by<D: Disk>(
+pub(crate) fn prepare_by<D: Disk>(
     alloc: Global,
     store: &Store<D>,
     trees: &Trees,
     commitment: &[u8],
-) -> Result<Answer, OutOfMemory>
+) -> Result<Prepared, OutOfMemory>
     requires kept { AreKept (commits_of store.now.records) trees.now }
     ensures { IfOk result (λ a. a ≡ answer store.now.records commitment.now) }
 {
     let Some(i) = index_of(store, commitment) else {
-        return Ok(Answer::Unknown);
+        return Ok(Prepared::unknown(alloc));
     };
     match store.anchor_of(i) {
-        None => Ok(Answer::Pending),
-        Some(anchor) => Ok(Answer::Complete(complete(alloc, store, trees, i, anchor)?)),
+        None => Ok(Prepared::pending(alloc)),
+        Some(anchor) => complete(alloc, store, trees, i, anchor),
     }
 }
 
@@ -79,22 +77,15 @@ fn complete<D: Disk>(
     trees: &Trees,
     i: u64,
     anchor: &Anchor,
-) -> Result<Tree, OutOfMemory>
+) -> Result<Prepared, OutOfMemory>
     requires kept { AreKept (commits_of store.now.records) trees.now }
     requires covers { find (covers i) (anchors_of store.now.records) ≡ Some anchor.now }
-    ensures { IfOk result
-        (λ tree. tree ≡ pre (lone (way_in (commits_of store.now.records) i anchor.now) (Bitcoin anchor.now.height))) }
+    ensures { IfOk result (λ prepared. prepared ≡ Complete
+        (pre (lone (way_in (commits_of store.now.records) i anchor.now) (Bitcoin anchor.now.height)))) }
 {
     let (first, end) = bounds(store, i, anchor);
-    let way = trees.path_over(store.commitments(), first, end - first, i as usize - first)?;
-    let ops = complete_way(
-        alloc,
-        way.items(),
-        anchor.prefix.items(),
-        anchor.suffix.items(),
-        &anchor.branch,
-    )?;
-    single(alloc, ops.items(), Attestation::Bitcoin(anchor.height))
+    let way = trees.way_over(store.commitments(), first, end - first, i as usize - first)?;
+    Prepared::covered(alloc, way, anchor)
 }
 
 /// The index of the first commitment of an anchor that covers an index, and the one after its last.

@@ -25,9 +25,9 @@ ghost use Rattle.ots_kept_trees.specs.Kept.{AreKept};
 ghost use Rattle.ots_calendar.specs.Values.{AreTrue, FirstUntrue};
 
 use crate::anchoring::{check_root, find_anchor, ids_of};
-use crate::answering::{answer_by, catch_up};
+use crate::answering::{catch_up, prepare_by};
 use crate::values::first_untrue;
-use crate::{AnchorError, Answer, RefusedBook, TipError};
+use crate::{AnchorError, Answer, Prepared, RefusedBook, TipError};
 use ots_attest::Uri;
 use ots_base::OutOfMemory;
 use ots_block::Block;
@@ -147,8 +147,16 @@ impl<D: Disk> Book<D> {
     pub fn ask(&self, commitment: &[u8]) -> Result<Answer, OutOfMemory>
         ensures { IfOk result (λ a. a ≡ answer self.now.store.records commitment.now) }
     {
+        self.prepare(commitment)?.answer()
+    }
+
+    /// The same, before the commitments beside it are hashed: the answer itself can be made when the book is
+    /// free.
+    pub fn prepare(&self, commitment: &[u8]) -> Result<Prepared, OutOfMemory>
+        ensures { IfOk result (λ a. a ≡ answer self.now.store.records commitment.now) }
+    {
         self.store.stands();
-        answer_by(self.alloc, &self.store, &self.kept, commitment)
+        prepare_by(self.alloc, &self.store, &self.kept, commitment)
     }
 
     /// How many tickets wait.

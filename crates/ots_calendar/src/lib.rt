@@ -6,6 +6,7 @@
 //! | [`Book::put`], [`Book::close`] | a digest waits; one commitment over all that wait |
 //! | [`Book::take`], [`Book::withdraw`] | the tree of a ticket whose round is closed; a ticket given up |
 //! | [`Book::ask`] | what is answered of a commitment |
+//! | [`Book::prepare`], [`Prepared::answer`] | the same in two steps, the second without the book |
 //! | [`Book::tip`], [`Book::anchor`] | the tree over what is not covered; its root found in a block |
 //! | [`calls_grow`], [`answers_stay`] | records are added at the end alone; what holds of answers then |
 //! | [`answers_after_a_crash`] | what a book that is opened after a crash answers |
@@ -15,7 +16,7 @@
 //! A call that may write begins with a refresh of the store, so that a record in flight that was
 //! kept counts first. At every moment each image that a crash may leave stands for a book.
 //!
-//! `tip` and `ask` take some hundred hashes, by trees that a book keeps in 1.3 bytes a commitment (and hash
+//! `tip` and `ask` take some hundred hashes, by trees that a book keeps in 2.7 bytes a commitment (and hash
 //! all commitments of the tip or the anchor where memory for them ran out). Each commitment is hashed once, and
 //! once more where an anchor came between. `take` and `withdraw` search by the number, move no other ticket, and
 //! walk over the tickets only for one that is not there.
@@ -27,6 +28,7 @@ mod answering;
 mod book;
 mod errors;
 mod laws;
+mod prepared;
 mod values;
 
 pub use answer::Answer;
@@ -38,3 +40,4 @@ pub use laws::{
 pub use ots_outside::{DigestLength, Leaf};
 pub use ots_round::{BadKey, Key, Receipt, Ticket, hmac_sha256};
 pub use ots_tickets::{MAX_WAITING, PutError, Taken};
+pub use prepared::Prepared;

@@ -8,7 +8,8 @@ use Rattle.ots_attest.specs.declared.attestation.Attestation.TheVariants as endi
 use Rattle.ots_attest.specs.Attestation.{payload}
 use Rattle.ots_calendar.specs.Answer.{answer, answer_of, answer_at, way_in}
 use Rattle.ots_calendar.specs.Book.{Gives}
-use Rattle.ots_calendar.specs.declared.answer.Answer.TheVariants.{Complete}
+use Rattle.ots_calendar.specs.declared.answer.Answer.{Answer}
+use Rattle.ots_calendar.specs.declared.answer.Answer.TheVariants.{Complete, Pending, Unknown}
 use Rattle.ots_journal.specs.declared.entry.Entry.{Entry}
 use Rattle.ots_ops.specs.Operation.{IsOp}
 use Rattle.ots_ops.specs.Operation as operation
@@ -26,6 +27,7 @@ use Rattle.ots_tree.specs.Made.{lone}
 use Rattle.ots_tree.specs.Wire.{pre, spell, spelled, IsToken}
 use Rattle.ots_tree.specs.declared.token.Token.{Token}
 use Rattle.ots_tree.specs.declared.token.Token.TheVariants as token
+use Rattle.ots_connection.specs.Replies.{IsShort}
 use Rattle.ots_varint.proofs.OneNumber.{varuint_at_most_ten}
 use Rattle.ots_varint.proofs.Written.{varbytes_length}
 
@@ -96,3 +98,10 @@ pub complete_short : WaysAreShort → (records : List Record) (entries : List En
 complete_short law records entries same are few commitment tree is =
     stored_short law entries are (let e = ap (λ (r : List Record). length (commits_of r)) same in omega arith) tree (least commitment (commits_of (records_of entries)))
     (ap (λ (r : List Record). answer r commitment) (sym same) ∙ sym is)
+
+-- and so what is answered of it
+pub answer_short : WaysAreShort → (records : List Record) (entries : List Entry) → records ≡ records_of entries → InRecords entries → length (commits_of records) < 2 ^ 32
+    → (commitment : List ℕ) (a : Answer) → a ≡ answer records commitment → IsShort a
+answer_short law records entries same are few commitment (Complete tree) is = complete_short law records entries same are few commitment tree is
+answer_short law records entries same are few commitment Pending is = tt
+answer_short law records entries same are few commitment Unknown is = tt

@@ -6,18 +6,19 @@ ghost use Rattle.ots_shared.specs.declared.row.Row.{Row};
 ghost use Rattle.ots_calendar.specs.Answer.{answer};
 ghost use Rattle.ots_store.specs.Page.{page_of};
 ghost use Rattle.ots_connection.specs.Holds.{ChangesNothing, Holds};
-ghost use Rattle.ots_connection.specs.Replies.{answered, paged};
+ghost use Rattle.ots_connection.specs.Replies.{answered, paged, IsShort};
 
 use crate::due::{Due, in_words, with_page, with_tree};
 use ots_base::OutOfMemory;
-use ots_calendar::{Answer, Book};
+use ots_calendar::{Answer, Book, Prepared};
 use ots_disk::Disk;
 use ots_http::Word;
 use ots_outside::Wanted;
 use ots_shared::{Pass, Shared};
 use std::sync::Wait;
 
-/// Asks the shared book for a commitment, in one hold.
+/// Asks the shared book for a commitment, in one hold. The commitments beside it are hashed when the book is
+/// free again.
 pub(crate) fn answer_of<D: Disk, R: Wait>(
     rt: &R,
     shared: &Shared<D>,
@@ -31,24 +32,32 @@ pub(crate) fn answer_of<D: Disk, R: Wait>(
     ensures reply { IfOk result (λ due. IsReply due.reply) }
 {
     let mut held = shared.hold(rt, pass);
-    let due = ask(held.book(), wanted);
+    let prepared = prepare(held.book(), wanted);
     shared.release(pass, held);
-    due
+    Ok(due_of(prepared?.answer()?))
 }
 
-/// Asks a book for a commitment.
-fn ask<D: Disk>(book: &Book<D>, wanted: Wanted) -> Result<Due, OutOfMemory>
-    ensures due { IfOk result (λ due. due ≡ answered (answer book.now.store.records wanted)) }
-    ensures reply { IfOk result (λ due. IsReply due.reply) }
+/// What a book answers of a commitment, before those beside it are hashed.
+fn prepare<D: Disk>(book: &Book<D>, wanted: Wanted) -> Result<Prepared, OutOfMemory>
+    ensures is { IfOk result (λ prepared. prepared ≡ answer book.now.store.records wanted) }
+    ensures short { IfOk result IsShort }
 {
     let store = book.store();
     store.stands();
     let _ = store.commits();
-    match book.ask(wanted.bytes()) {
-        Ok(Answer::Complete(tree)) => Ok(with_tree(tree)),
-        Ok(Answer::Pending) => Ok(in_words(404, Word::Pending)),
-        Ok(Answer::Unknown) => Ok(in_words(404, Word::NotFound)),
-        Err(OutOfMemory) => Err(OutOfMemory),
+    book.prepare(wanted.bytes())
+}
+
+/// The reply with what a book answers.
+fn due_of(answer: Answer) -> Due
+    requires { IsShort answer }
+    ensures due { result ≡ answered answer }
+    ensures reply { IsReply result.reply }
+{
+    match answer {
+        Answer::Complete(tree) => with_tree(tree),
+        Answer::Pending => in_words(404, Word::Pending),
+        Answer::Unknown => in_words(404, Word::NotFound),
     }
 }
 

@@ -1,7 +1,6 @@
 -- Where the whole way of a file leads, and how long it is.
 use Rattle.std.proofs.Common.{◌≡◌, ℕ, ◌+◌, ◌*◌, ◌<◌, ◌≤◌, ◌^◌, List, [], ◌∷◌, ◌++◌, length, get_or, Option, Some, None, refl, sym, ap, subst, ◌∙◌, arith, length-append}
 use Rattle.std.specs.Prelude.{Contains, option_and_then, slice_get}
-use Rattle.std.proofs.lemmas.Bool.{le-leb}
 use Rattle.std.proofs.lemmas.List.{get_or-map, length-map}
 use Rattle.std.proofs.lemmas.Option.{get_or_from_slice_get, slice_get_within}
 use Rattle.sha2.specs.Sha256.{sha256}
@@ -10,10 +9,10 @@ use Rattle.ots_cycle.specs.Whole.{whole_path}
 use Rattle.ots_headers.specs.HeaderTable.{Table, root_at}
 use Rattle.ots_merkle.specs.CalendarTree.{path, root}
 use Rattle.ots_merkle.proofs.PathLaws.{path_leads, path_short}
-use Rattle.ots_ops.specs.Apply.{apply}
 use Rattle.ots_ops.specs.Value.{value}
 use Rattle.ots_ops.specs.declared.op.Op.{Op}
 use Rattle.ots_ops.specs.declared.op.Op.TheVariants.{Append, Sha256}
+use Rattle.ots_round.proofs.Leading.{hash_of, appended, value_then, one_more}
 use Rattle.ots_store.specs.Records.{Record}
 use Rattle.ots_tree.specs.Wire.{Node, paths, pre}
 use Rattle.ots_tree.specs.declared.detached.Detached.{Detached}
@@ -23,20 +22,6 @@ use Rattle.ots_upgrade.specs.declared.target.Target.{Target}
 use Rattle.ots_upgrade.proofs.Founded.{are_hashes}
 use Rattle.ots_verdicts.specs.Confirmed.{IsConfirmed}
 use Rattle.ots_verdicts.specs.declared.verdicts.Chain.TheVariants as chain
-
-hash_of : (m : List ℕ) → length m ≤ 4096 → apply Sha256 m ≡ Some (sha256 m)
-hash_of m short = rw (le-leb 0 (length m) (omega arith), le-leb (length m) 4096 short) refl
-
-appended : (a m : List ℕ) → length m + length a ≤ 4096 → apply (Append a) m ≡ Some (m ++ a)
-appended a m short = rw (le-leb 0 (length m) (omega arith), le-leb (length m) 4096 (omega arith), le-leb (length m + length a) 4096 short) refl
-
-value_then : (a b : List Op) (m : Option (List ℕ)) → option_and_then (value (a ++ b)) m ≡ option_and_then (value b) (option_and_then (value a) m)
-value_then a b None = refl
-value_then [] b (Some m) = refl
-value_then (o ∷ a) b (Some m) = value_then a b (apply o m)
-
-one_more : (o : Op) (ops : List Op) (m n : List ℕ) → apply o m ≡ Some n → value (o ∷ ops) m ≡ value ops n
-one_more o ops m n e = ap (option_and_then (value ops)) e
 
 -- from a file's digest to the root
 to_root_leads : (targets : List Target) (i : ℕ) (t : Target) → slice_get targets i ≡ Some t → value (to_root (leaves targets) i t) t.digest ≡ Some (root (leaves targets))

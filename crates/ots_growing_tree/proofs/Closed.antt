@@ -212,8 +212,8 @@ pub path_run : (leaves : List (List ℕ)) (i : ℕ) (run : List (List ℕ)) → 
     → path leaves i ≡ path run (i % RUN) ++ path (closed_roots RUN leaves []) (i / RUN)
 path_run leaves i run inside is =
     let whole = append-nil leaves in
-    let index : i ≡ 2 ^ 5 * (i / RUN) + i % RUN = omega arith in
+    let index : i ≡ 2 ^ 4 * (i / RUN) + i % RUN = omega arith in
     sym (ap (λ z. path z i) whole)
     ∙ ap (path (leaves ++ [])) index
-    ∙ path_closed 5 (length leaves / RUN) (length leaves % RUN) (i / RUN) (i % RUN) leaves [] run (counted_run leaves) (omega arith) (omega (arith, inside, ap length whole))
+    ∙ path_closed 4 (length leaves / RUN) (length leaves % RUN) (i / RUN) (i % RUN) leaves [] run (counted_run leaves) (omega arith) (omega (arith, inside, ap length whole))
     (is ∙ ap (λ z. take RUN (drop (RUN * (i / RUN)) z)) (sym whole))

@@ -1,6 +1,6 @@
 //! A calendar's tree that grows, and the paths of its leaves.
 ghost use Rattle.std.specs.Prelude.{◌≡◌, ◌≤◌, ◌<◌, ◌+◌, ◌-◌, ◌*◌, ◌/◌, ◌^◌, ◌++◌, ◌∷◌, ℕ, List, []};
-ghost use Rattle.std.specs.Prelude.{length, take, drop, vec_capacity};
+ghost use Rattle.std.specs.Prelude.{◌%◌, length, take, drop, vec_capacity};
 ghost use Rattle.std.specs.Prelude.{OnOk, IfOk, is_ok, IsOk, option_to_list, nat_lt, if◌then◌else◌};
 ghost use Rattle.std.specs.List.{All};
 ghost use Rattle.ots_merkle.specs.CalendarTree.{path, root_if_any};
@@ -13,7 +13,7 @@ use std::alloc::Global;
 use std::marker::Model;
 
 /// How many leaves make a run, of which the tree keeps the root alone.
-pub const RUN: usize = 32;
+pub const RUN: usize = 16;
 
 /// How many nodes of a level make a group, whose root is a node of the level above.
 const GROUP: usize = 4;
@@ -221,8 +221,8 @@ fn add_path_above(
 }
 
 /// A calendar's tree that grows leaf by leaf and makes the root over its first leaves, as many as one
-/// asks for, and the paths to it. It keeps the roots of the whole runs of 32 leaves and what stands
-/// above them, some 1.3 bytes a leaf, and is given the leaves of a run when it needs them. It has fewer
+/// asks for, and the paths to it. It keeps the roots of the whole runs of 16 leaves and what stands
+/// above them, some 2.7 bytes a leaf, and is given the leaves of a run when it needs them. It has fewer
 /// than 2^32 leaves.
 ///
 /// Contracts see the list of the leaves that were pushed, and how many pushes can't be refused from
@@ -346,26 +346,30 @@ impl GrowingTree {
         requires cut { cut.now ≡ drop (RUN * (n / RUN)) (take n self.now.leaves) }
         ensures path { IfOk result (λ ops. ops ≡ path (take n self.now.leaves) i) }
     {
-        self.path_closed(alloc, n, i, run, root_of(cut))
+        let above = self.path_above(alloc, n, i, root_of(cut))?;
+        let mut ops = Ops::new(alloc);
+        add_path(alloc, &mut ops, run, i % RUN)?;
+        ops.extend(above.items())?;
+        Ok(ops)
     }
 
-    /// The same, given the root over those that [`GrowingTree::root_of_first`] is given, where there are any.
-    pub fn path_closed(
+    /// The end of that path, from the root of the leaf's run on, given the root over those leaves that
+    /// [`GrowingTree::root_of_first`] is given, where there are any. The run itself is not needed.
+    pub fn path_above(
         &self,
         alloc: Global,
         n: usize,
         i: usize,
-        run: &[[u8; 32]],
         closing: Option<[u8; 32]>,
     ) -> Result<Ops, OutOfMemory>
         requires most { n ≤ length self.now.leaves }
         requires is_leaf { i < n }
-        requires run { run.now ≡ take RUN (drop (RUN * (i / RUN)) (take n self.now.leaves)) }
         requires closing { closing ≡ root_if_any (drop (RUN * (n / RUN)) (take n self.now.leaves)) }
-        ensures path { IfOk result (λ ops. ops ≡ path (take n self.now.leaves) i) }
+        ensures path { IfOk result (λ ops.
+            path (take RUN (drop (RUN * (i / RUN)) (take n self.now.leaves))) (i % RUN) ++ ops
+            ≡ path (take n self.now.leaves) i) }
     {
         let mut ops = Ops::new(alloc);
-        add_path(alloc, &mut ops, run, i % RUN)?;
         let Parts { runs, above, .. } = &self.parts;
         let first = &runs[..n / RUN];
         add_path_above(alloc, &mut ops, first, above, closing, i / RUN)?;

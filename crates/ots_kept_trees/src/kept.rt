@@ -5,10 +5,10 @@ ghost use Rattle.ots_anchor.specs.Path.{hashed};
 ghost use Rattle.ots_merkle.specs.CalendarTree.{root, root_if_any, path};
 ghost use Rattle.ots_kept_trees.specs.Kept.{IsKept, span};
 
+use crate::Way;
 use ots_anchor::hashed;
 use ots_base::OutOfMemory;
 use ots_growing_tree::{GrowingTree, RUN, root_of};
-use ots_ops::Ops;
 use sha2::{Digest, Sha256};
 use std::alloc::Global;
 
@@ -76,7 +76,20 @@ impl KeptTree {
         self.tree.push(Sha256::digest(commitment.as_slice()))
     }
 
-    /// The leaves of the run of an index among the first `count` of them.
+    /// The commitments of the run of an index among the first `count` of them.
+    fn run_at<'a>(&self, commitments: &'a [[u8; 44]], count: usize, i: usize) -> &'a [[u8; 44]]
+        requires kept { IsKept commitments.now self.now }
+        requires few { length commitments.now < 2 ^ 32 }
+        requires enough { count ≤ length self.now.tree.leaves }
+        requires within { i ≤ count }
+        ensures { hashed result.now ≡ take RUN (drop (RUN * (i / RUN)) (take count self.now.tree.leaves)) }
+    {
+        let begin = RUN * (i / RUN);
+        let end = (begin + RUN).min(count);
+        &commitments[self.first + begin..self.first + end]
+    }
+
+    /// Their leaves.
     fn run_of(
         &self,
         alloc: Global,
@@ -90,9 +103,7 @@ impl KeptTree {
         requires within { i ≤ count }
         ensures { IfOk result (λ run. run.items ≡ take RUN (drop (RUN * (i / RUN)) (take count self.now.tree.leaves))) }
     {
-        let begin = RUN * (i / RUN);
-        let end = (begin + RUN).min(count);
-        hashed(alloc, &commitments[self.first + begin..self.first + end])
+        hashed(alloc, self.run_at(commitments, count, i))
     }
 
     /// The root over those of the first `count` commitments after their last whole run, where there are any.
@@ -144,23 +155,23 @@ impl KeptTree {
         Ok(self.tree.root_of_first(count, &cut).unwrap())
     }
 
-    /// The path of the commitment of index `i` among the first `count`.
-    pub(crate) fn path_of_first(
+    /// The way of the commitment of index `i` among the first `count`.
+    pub(crate) fn way_of_first(
         &self,
         alloc: Global,
         commitments: &[[u8; 44]],
         count: usize,
         i: usize,
-    ) -> Result<Ops, OutOfMemory>
+    ) -> Result<Way, OutOfMemory>
         requires kept { IsKept commitments.now self.now }
         requires few { length commitments.now < 2 ^ 32 }
         requires enough { count ≤ length self.now.tree.leaves }
         requires within { i < count }
-        ensures { IfOk result (λ ops. ops ≡ path (hashed (span self.now.first count commitments.now)) i) }
+        ensures { IfOk result (λ way. way ≡ path (hashed (span self.now.first count commitments.now)) i) }
     {
-        let run = self.run_of(alloc, commitments, count, i)?;
         let closing = self.closing_of(alloc, commitments, count)?;
-        self.tree.path_closed(alloc, count, i, &run, closing)
+        let above = self.tree.path_above(alloc, count, i, closing)?;
+        Way::through(alloc, self.run_at(commitments, count, i), i % RUN, above)
     }
 
     /// Whether it begins with this commitment and has as many.

@@ -3,6 +3,8 @@
 
 mod kept;
 mod trees;
+mod way;
 
 pub use kept::{Closing, KeptTree};
 pub use trees::{Trees, room_for_all};
+pub use way::Way;

@@ -4,11 +4,9 @@ ghost use Rattle.ots_anchor.specs.Path.{hashed};
 ghost use Rattle.ots_merkle.specs.CalendarTree.{root, path};
 ghost use Rattle.ots_kept_trees.specs.Kept.{AreKept, IsKept, span};
 
-use crate::KeptTree;
-use ots_anchor::hashed;
+use crate::{KeptTree, Way};
 use ots_base::OutOfMemory;
-use ots_merkle::{Peaks, path};
-use ots_ops::Ops;
+use ots_merkle::Peaks;
 use sha2::{Digest, Sha256};
 use std::alloc::Global;
 
@@ -178,23 +176,24 @@ impl Trees {
         }
     }
 
-    /// The path of the commitment of index `i` among `count` from index `first` on, likewise.
-    pub fn path_over(
+    /// The way of the commitment of index `i` among `count` from index `first` on. Where no tree is kept over
+    /// them it has a copy of them all.
+    pub fn way_over(
         &self,
         commitments: &[[u8; 44]],
         first: usize,
         count: usize,
         i: usize,
-    ) -> Result<Ops, OutOfMemory>
+    ) -> Result<Way, OutOfMemory>
         requires is_one { i < count }
         requires within { first + count ≤ length commitments.now }
         requires few { length commitments.now < 2 ^ 32 }
         requires kept { AreKept commitments.now self.now }
-        ensures { IfOk result (λ ops. ops ≡ path (hashed (span first count commitments.now)) i) }
+        ensures { IfOk result (λ way. way ≡ path (hashed (span first count commitments.now)) i) }
     {
         match self.find(first, count) {
-            Some(tree) => tree.path_of_first(self.alloc, commitments, count, i),
-            None => path_by_hashing(self.alloc, &commitments[first..first + count], i),
+            Some(tree) => tree.way_of_first(self.alloc, commitments, count, i),
+            None => Way::of_all(self.alloc, &commitments[first..first + count], i),
         }
     }
 }
@@ -230,16 +229,6 @@ pub fn room_for_all(alloc: Global) -> Result<Peaks, OutOfMemory>
     let mut peaks = Peaks::new(alloc);
     peaks.reserve(MOST_COMMITMENTS)?;
     Ok(peaks)
-}
-
-/// The path of a commitment, where all are hashed.
-fn path_by_hashing(alloc: Global, commitments: &[[u8; 44]], i: usize) -> Result<Ops, OutOfMemory>
-    requires is_one { i < length commitments.now }
-    requires few { length commitments.now < 2 ^ 32 }
-    ensures { IfOk result (λ ops. ops ≡ path (hashed commitments.now) i) }
-{
-    let leaves = hashed(alloc, commitments)?;
-    path(alloc, &leaves, i)
 }
 
 /// Whether there is a tree that begins with this commitment.

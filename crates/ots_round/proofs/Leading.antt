@@ -50,21 +50,21 @@ are_leaves (t ∷ tickets) = (length-sha256 (t.leaf ++ t.nonce), are_leaves tick
 
 -- ---- each operation
 
-hash_of : (m : List ℕ) → length m ≤ 4096 → apply Sha256 m ≡ Some (sha256 m)
+pub hash_of : (m : List ℕ) → length m ≤ 4096 → apply Sha256 m ≡ Some (sha256 m)
 hash_of m short = rw (le-leb 0 (length m) (omega arith), le-leb (length m) 4096 short) refl
 
-appended : (a m : List ℕ) → length m + length a ≤ 4096 → apply (Append a) m ≡ Some (m ++ a)
+pub appended : (a m : List ℕ) → length m + length a ≤ 4096 → apply (Append a) m ≡ Some (m ++ a)
 appended a m short = rw (le-leb 0 (length m) (omega arith), le-leb (length m) 4096 (omega arith), le-leb (length m + length a) 4096 short) refl
 
 prepended : (a m : List ℕ) → length a + length m ≤ 4096 → apply (Prepend a) m ≡ Some (a ++ m)
 prepended a m short = rw (le-leb 0 (length m) (omega arith), le-leb (length m) 4096 (omega arith), le-leb (length a + length m) 4096 short) refl
 
-value_then : (a b : List Op) (m : Option (List ℕ)) → option_and_then (value (a ++ b)) m ≡ option_and_then (value b) (option_and_then (value a) m)
+pub value_then : (a b : List Op) (m : Option (List ℕ)) → option_and_then (value (a ++ b)) m ≡ option_and_then (value b) (option_and_then (value a) m)
 value_then a b None = refl
 value_then [] b (Some m) = refl
 value_then (o ∷ a) b (Some m) = value_then a b (apply o m)
 
-one_more : (o : Op) (ops : List Op) (m n : List ℕ) → apply o m ≡ Some n → value (o ∷ ops) m ≡ value ops n
+pub one_more : (o : Op) (ops : List Op) (m n : List ℕ) → apply o m ≡ Some n → value (o ∷ ops) m ≡ value ops n
 one_more o ops m n e = ap (option_and_then (value ops)) e
 
 taken_few : (n : ℕ) (l : List ℕ) → length (take n l) ≤ n

@@ -46,30 +46,25 @@ fn serve_turn<D: Disk, L: Link, R: Wait>(
     (link, served.is_answer())
 }
 
-/// One turn under the lock.
+/// Gives the last link back, if there is one, and begins the next turn, in one hold of the lock: a worker that
+/// waits for a connection holds it, and so each connection waits for it once.
 fn next_turn<A: Accepter, C: Clock, N: Nonces, R: Wait>(
     rt: &R,
     desk: &Mutex<Front<A, C, N>>,
     most: Option<u64>,
+    last: Option<(A::Link, bool)>,
 ) -> Option<Turn<A::Link>>
+    requires { IfSome last (λ last. last.1 ≡ true → IsAnswered (A.Link.told last.0) (A.Link.faults last.0)) }
     ensures { IfSome result (λ turn. IsFresh (A.Link.told turn.link) (A.Link.faults turn.link)) }
 {
-    desk.lock(rt).next(most)
+    let mut front = desk.lock(rt);
+    if let Some((link, answered)) = last {
+        front.give_back(link, answered);
+    }
+    front.next(most)
 }
 
-/// Gives a link back under the lock.
-fn give_back<A: Accepter, C: Clock, N: Nonces, R: Wait>(
-    rt: &R,
-    desk: &Mutex<Front<A, C, N>>,
-    link: A::Link,
-    answered: bool,
-)
-    requires { answered ≡ true → IsAnswered (A.Link.told link) (A.Link.faults link) }
-{
-    desk.lock(rt).give_back(link, answered);
-}
-
-/// One worker: a turn, its connection, and the link given back, until serving is over.
+/// One worker: a turn, its connection, and the link given back with the next turn, until serving is over.
 pub(crate) fn work<D: Disk, A: Accepter, C: Clock, N: Nonces, R: Wait>(
     rt: &R,
     alloc: Global,
@@ -84,12 +79,12 @@ pub(crate) fn work<D: Disk, A: Accepter, C: Clock, N: Nonces, R: Wait>(
     ensures seat { (result.seat ≡ pass.seat) × (result.holding ≡ false) }
     ensures seen { StartsWith result.seen pass.seen }
 {
+    let mut last = None;
     for _ in rt.forever() {
-        let Some(turn) = next_turn(rt, desk, most) else {
+        let Some(turn) = next_turn(rt, desk, most, last) else {
             return pass;
         };
-        let (link, answered) = serve_turn(rt, alloc, shared, service, &mut pass, turn);
-        give_back(rt, desk, link, answered);
+        last = Some(serve_turn(rt, alloc, shared, service, &mut pass, turn));
     }
     unreachable!()
 }

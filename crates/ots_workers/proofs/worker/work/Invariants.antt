@@ -1,9 +1,10 @@
-use Rattle.std.proofs.Common.{◌≡◌, false}
+use Rattle.std.proofs.Common.{◌≡◌, true, false, IfSome}
+use Rattle.ots_connection.specs.Answered.{IsAnswered}
 use Rattle.ots_shared.specs.Records.{StartsWith}
 use Rattle.ots_shared.specs.Told.{IsPassOf}
 use Rattle.ots_workers.proofs.worker.work.Given as goal
 
--- The pass keeps its seat, isn't holding, and has seen at least as much.
+-- The pass keeps its seat, isn't holding, and has seen at least as much. A link that is called answered is.
 abbrev pub invariant-loop : goal.invariant-loop
 invariant-loop g l = record {
   can : (goal.iterator-loop g).can_next l.iterator';
@@ -12,4 +13,5 @@ invariant-loop g l = record {
   own : IsPassOf l.shared l.pass;
   free : l.pass.holding ≡ false;
   seen : StartsWith l.pass.seen l.fn.pass.seen;
+  answered : IfSome l.last (λ last. last.1 ≡ true → IsAnswered (g.A.Link.Link.told last.0) (g.A.Link.Link.faults last.0));
 }

@@ -26,5 +26,5 @@ returns c =
     let runs = (has_first _ _ c.args.n c.self.inside.parts c.deref.result.now c.deref-2.result.now c.self.invariant fits c.deref.ensures.value c.deref-2.ensures.value).roots in
     let cut = c.root_of.ensures ∙ ap root_if_any (cut_rest leaves c.args.cut.now c.args.n fits (c.requires.cut ∙ ap (λ z. drop (RUN * (c.args.n / RUN)) (take c.args.n z)) (sym same))) in
     c.root_above.ensures ∙ (λ i. root_if_any (runs i ++ option_to_list (cut i)))
-    ∙ sym (root_closed 5 (length xs / RUN) (length xs % RUN) xs [] (counted_run xs))
+    ∙ sym (root_closed 4 (length xs / RUN) (length xs % RUN) xs [] (counted_run xs))
     ∙ ap root_if_any (append-nil xs ∙ ap (take c.args.n) same)

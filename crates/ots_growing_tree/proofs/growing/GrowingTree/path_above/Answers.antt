@@ -1,20 +1,10 @@
-use Rattle.std.proofs.Common.{arith, ◌≡◌, ◌≤◌, ◌<◌, ◌∙◌, ◌*◌, ◌/◌, ◌%◌, ◌++◌, ap, sym, length, length-append, length-drop, length-take, length-take-le, take, drop, refl}
+use Rattle.std.proofs.Common.{arith, ◌≤◌, ◌<◌, ◌∙◌, ◌*◌, ◌/◌, ◌%◌, ◌++◌, ap, sym, length, length-append, length-take-le, take, drop, refl}
 use Rattle.std.specs.Prelude.{option_to_list}
 use Rattle.ots_merkle.specs.CalendarTree.{path, root_if_any}
 use Rattle.ots_growing_tree.specs.declared.growing.TheConstants.{RUN}
 use Rattle.ots_growing_tree.proofs.Closed.{path_run, run_inside}
 use Rattle.ots_growing_tree.proofs.Levels.{cut_rest, has_first}
-use Rattle.ots_growing_tree.proofs.growing.GrowingTree.path_closed.Goals as goal
-
-pub add_path-requires-clause-is_leaf : goal.add_path-requires-clause-is_leaf
-add_path-requires-clause-is_leaf c =
-    let start = RUN * (c.args.i / RUN) in
-    let xs = take c.args.n c.args.self.now.leaves in
-    omega (arith, c.requires.is_leaf, ap length c.requires.run, length-take RUN (drop start xs), length-drop start xs, length-take-le c.args.n c.args.self.now.leaves c.requires.most)
-
-pub add_path-requires-clause-most : goal.add_path-requires-clause-most
-add_path-requires-clause-most c =
-    omega (arith, ap length c.requires.run, length-take RUN (drop (RUN * (c.args.i / RUN)) (take c.args.n c.args.self.now.leaves)))
+use Rattle.ots_growing_tree.proofs.growing.GrowingTree.path_above.Goals as goal
 
 pub slice_bounds-first-end : goal.slice_bounds-first-end
 slice_bounds-first-end c =
@@ -48,14 +38,13 @@ returns c =
     let same = ap (λ g. g.leaves) c.self.view_is in
     let fits : c.args.n ≤ length leaves = omega (arith, c.requires.most, ap length same) in
     let xs = take c.args.n leaves in
+    let own = take RUN (drop (RUN * (c.args.i / RUN)) xs) in
     let runs = (has_first _ _ c.args.n c.self.inside.parts c.deref.result.now c.deref-2.result.now c.self.invariant fits c.deref.ensures.value c.deref-2.ensures.value).roots in
     let cut = c.requires.closing ∙ ap (λ z. root_if_any (drop (RUN * (c.args.n / RUN)) (take c.args.n z))) (sym same) ∙ ap root_if_any (cut_rest leaves (drop (RUN * (c.args.n / RUN)) (take c.args.n leaves)) c.args.n fits refl) in
     let inside : c.args.i < length xs = omega (arith, c.requires.is_leaf, length-take-le c.args.n leaves fits) in
-    let own : c.args.run.now ≡ take RUN (drop (RUN * (c.args.i / RUN)) xs) = c.requires.run ∙ ap (λ z. take RUN (drop (RUN * (c.args.i / RUN)) (take c.args.n z))) (sym same) in
+    let above = c.in_ok-add_path_above.ensures ∙ (λ i. c.new-ops.ensures i ++ path (runs i ++ option_to_list (cut i)) (c.args.i / RUN)) in
     record {
-      path = c.in_ok-add_path_above.ensures
-          ∙ (let first = c.in_ok-add_path.ensures ∙ ap (λ z. z ++ path c.args.run.now (c.args.i % RUN)) c.new-ops.ensures in
-          λ i. first i ++ path (runs i ++ option_to_list (cut i)) (c.args.i / RUN))
-          ∙ sym (path_run xs c.args.i c.args.run.now inside own)
+      path = (λ i. path (take RUN (drop (RUN * (c.args.i / RUN)) (take c.args.n (sym same i)))) (c.args.i % RUN) ++ above i)
+          ∙ sym (path_run xs c.args.i own inside refl)
           ∙ ap (λ z. path (take c.args.n z) c.args.i) same;
     }
