@@ -3,6 +3,7 @@ mod Maps
 mod Lists
 mod Raising
 mod Walking
+mod LazyPaths
 mod Once
 mod FoundPairs
 mod Putting

@@ -1,5 +1,5 @@
 -- Lists at places.
-use Rattle.std.proofs.Common.{◌≡◌, ◌≢◌, ℕ, zero, suc, ◌<◌, Bool, true, false, List, [], ◌∷◌, map, length, get_or, Option, Some, None, refl, ap, ◌∙◌, arith}
+use Rattle.std.proofs.Common.{◌≡◌, ◌≢◌, ℕ, zero, suc, ◌<◌, ◌≤◌, Bool, true, false, List, [], ◌∷◌, map, length, get_or, take, Option, Some, None, refl, ap, ◌∙◌, arith}
 use Rattle.std.specs.Prelude.{option_map, ◌||◌}
 use Rattle.std.specs.List.{slice_get, list_any}
 
@@ -18,6 +18,18 @@ pub get_there : {X : Type 0} (xs : List X) (i : ℕ) → i < length xs → (x : 
 get_there [] i h = absurd (omega arith)
 get_there (x ∷ xs) zero h = (x, refl)
 get_there (x ∷ xs) (suc i) h = get_there xs i (omega arith)
+
+-- no element is at a place: the list ends before
+pub past_end : {X : Type 0} (xs : List X) (i : ℕ) → slice_get xs i ≡ None → length xs ≤ i
+past_end [] i h = omega arith
+past_end (x ∷ xs) zero h = absurd cc
+past_end (x ∷ xs) (suc i) h = let less = past_end xs i h in omega arith
+
+pub get_taken : {X : Type 0} (xs : List X) (k i : ℕ) (x : X) → slice_get (take k xs) i ≡ Some x → (slice_get xs i ≡ Some x) × (i < k)
+get_taken xs zero i x h = absurd (none_some x h)
+get_taken [] (suc k) i x h = absurd (none_some x h)
+get_taken (y ∷ xs) (suc k) zero x h = (h, omega arith)
+get_taken (y ∷ xs) (suc k) (suc i) x h = let r = get_taken xs k i x h in (r.0, (let less = r.1 in omega arith))
 
 pub or_of_get : {X : Type 0} (xs : List X) (i : ℕ) (x d : X) → slice_get xs i ≡ Some x → get_or xs i d ≡ x
 or_of_get [] i x d h = absurd (none_some x h)

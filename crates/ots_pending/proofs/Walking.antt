@@ -87,7 +87,7 @@ before_end (x ∷ xs) ys zero d n none h = absurd (none d h)
 before_end (x ∷ xs) ys (suc k) zero n none h = (h, omega arith)
 before_end (x ∷ xs) ys (suc k) (suc d) n none h = let r = before_end xs ys k d n none h in (r.0, (let less = r.1 in omega arith))
 
-still_before : (xs ys : List (List ℕ)) (k d : ℕ) (m : List ℕ) → slice_get xs d ≡ Some m → d < k → slice_get (take k xs ++ ys) d ≡ Some m
+pub still_before : (xs ys : List (List ℕ)) (k d : ℕ) (m : List ℕ) → slice_get xs d ≡ Some m → d < k → slice_get (take k xs ++ ys) d ≡ Some m
 still_before [] ys k d m h low = absurd (none_some m h)
 still_before (x ∷ xs) ys zero d m h low = absurd (omega arith)
 still_before (x ∷ xs) ys (suc k) zero m h low = h

@@ -3,6 +3,7 @@ pub mod Pairs
 pub mod Completed
 pub mod Distinct
 pub mod Listed
+pub mod LazyPath
 pub mod OnPath
 pub mod Grown
 pub mod Parts

@@ -7,7 +7,7 @@ use Rattle.ots_tree.specs.Kept.{beside}
 use Rattle.ots_tree.specs.declared.pending.PendingAt.{PendingAt}
 use Rattle.ots_pending.specs.declared.listing.Listing.{Listing}
 use Rattle.ots_pending.specs.declared.path.Path.{Path}
-use Rattle.ots_pending.specs.Distinct.{AreDistinct}
+use Rattle.ots_pending.specs.Distinct.{AreDistinct, IsNumbered}
 use Rattle.ots_pending.specs.Pairs.{pairs_of}
 use Rattle.ots_pending.specs.Listed.{pairs_in, with_found, IsKept}
 
@@ -30,6 +30,18 @@ AreStill old new = (i : ℕ) (m : List ℕ) → slice_get old i ≡ Some m → s
 abbrev pub IsNumberAt : List (List ℕ) → List (List ℕ) → ℕ → Option ℕ → Type 0
 IsNumberAt messages path depth None = slice_get path depth ≡ None
 IsNumberAt messages path depth (Some number) = HasNumber messages path depth number
+
+-- The message at a depth of the path has this number among the new ones.
+pub record IsFound (old new path : List (List ℕ)) (depth number : ℕ) : Type 0 where
+  pub message : List ℕ
+  pub here : slice_get path depth ≡ Some message
+  pub distinct : AreDistinct new
+  pub numbered : IsNumbered old new message number
+
+-- Or there is none, and none is added.
+abbrev pub FindsNumber : List (List ℕ) → List (List ℕ) → List (List ℕ) → ℕ → Option ℕ → Type 0
+FindsNumber old new path depth None = (slice_get path depth ≡ None) × (new ≡ old)
+FindsNumber old new path depth (Some number) = IsFound old new path depth number
 
 -- The message at a depth has a number.
 pub record Numbers (old_messages new_messages : List (List ℕ)) (old new : Path) (depth : ℕ)

@@ -26,8 +26,9 @@ use std::alloc::Global;
 /// sound for the proof's digest.
 ///
 /// Equal items of the proof are made one first, so that a tree is put once into each node whose pair it
-/// was given for. It applies each operation once, and takes memory of `alloc` for the tokens of what it
-/// makes. Where no tree was given it is the proof's canonical form, and no operation is applied.
+/// was given for. It applies each operation above a pending attestation at most once, and no other, and takes
+/// memory of `alloc` for the tokens of what it makes. Where no tree was given it is the proof's canonical form,
+/// and no operation is applied.
 pub fn completed(
     alloc: Global,
     proof: &Detached,

@@ -20,7 +20,7 @@ pub(crate) fn pair_of(
     alloc: Global,
     token: &Token,
     depth: u32,
-    path: &mut Path,
+    path: &mut Path<'_>,
     listing: &Listing,
 ) -> Result<Option<usize>, OutOfMemory>
     requires kept { IsKept listing.now }
@@ -31,7 +31,7 @@ pub(crate) fn pair_of(
     let Token::Attestation(Attestation::Pending(uri)) = token else {
         return Ok(None);
     };
-    let Some(message) = known_at(path, depth as usize, &listing.messages) else {
+    let Some(message) = known_at(path, depth as usize, &listing.messages)? else {
         return Ok(None);
     };
     let key = key_of(alloc, message, uri)?;
@@ -39,17 +39,22 @@ pub(crate) fn pair_of(
 }
 
 /// The number of the message at a depth, where it has one. It is looked for once, and noted.
-fn known_at(path: &mut Path, depth: usize, messages: &Distinct) -> Option<usize>
+fn known_at(
+    path: &mut Path<'_>,
+    depth: usize,
+    messages: &Distinct,
+) -> Result<Option<usize>, OutOfMemory>
     requires distinct { AreDistinct messages.now }
     requires numbers { AreNumbers messages.now path.old }
-    ensures number { IsKnownAt messages.now path.old.messages depth result }
+    ensures number { IfOk result (IsKnownAt messages.now path.old.messages depth) }
     ensures path { KeepsPath messages.now path.old path.new }
 {
     if let Some(number) = known(&path.numbers, depth) {
-        return Some(number);
+        return Ok(Some(number));
     }
-    let message = path.messages.at(depth)?;
-    let number = messages.place(message.bytes())?;
+    let Some(number) = path.messages.place(depth, messages)? else {
+        return Ok(None);
+    };
     keep(&mut path.numbers, depth, number);
-    Some(number)
+    Ok(Some(number))
 }

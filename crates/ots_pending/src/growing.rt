@@ -117,7 +117,7 @@ fn tree_for<'a>(
     alloc: Global,
     token: &Token,
     depth: u32,
-    path: &mut Path,
+    path: &mut Path<'_>,
     listing: &Listing,
     ready: &'a [Option<Tree>],
     is_within: bool,

@@ -21,6 +21,7 @@ mod forms;
 mod growing;
 mod kept_pair;
 mod laws;
+mod lazy_path;
 mod limits;
 mod listing;
 mod pairs;

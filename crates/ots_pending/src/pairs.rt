@@ -7,13 +7,14 @@ ghost use Rattle.ots_pending.specs.OnPath.{AreNumbers};
 ghost use Rattle.ots_pending.specs.Pairs.{AreAskable, ArePairs, PairAt};
 
 use crate::adding::no_pairs;
+use crate::lazy_path::LazyPath;
 use crate::listing::Listing;
 use crate::path::Path;
 use crate::walk::{follow, note};
 use ots_attest::Uri;
 use ots_base::OutOfMemory;
 use ots_ops::Message;
-use ots_tree::{Detached, PathMessages, Token, limits_of_detached};
+use ots_tree::{Detached, Token, limits_of_detached};
 use std::alloc::Global;
 use std::marker::Model;
 
@@ -88,11 +89,12 @@ impl Pairs {
 
 /// The pairs that the pending paths of a proof ask for.
 ///
-/// Each operation of the tree is applied once. The pairs lie in memory of `alloc`: of each its URI, twice,
-/// and each message once, however many pairs have it and wherever it stands. All URIs together are no
-/// longer than the proof. A message has at most 4096 bytes, and a pending attestation with a fork takes at
-/// least 12, so that the messages of a proof of 4 MiB are fewer than 350,000, and 1.4 GiB at the very most.
-/// While it walks it keeps one message for each node on one path, at most 256.
+/// Each operation above a pending attestation is applied at most once, and no other. The pairs lie in memory
+/// of `alloc`: of each its URI, twice, and each message once, however many pairs have it and wherever it
+/// stands. All URIs together are no longer than the proof. A message has at most 4096 bytes, and a pending
+/// attestation with a fork takes at least 12, so that the messages of a proof of 4 MiB are fewer than
+/// 350,000, and 1.4 GiB at the very most. While it walks it keeps at most one message for each node on one
+/// path, at most 256.
 pub fn pending_pairs(alloc: Global, proof: &Detached) -> Result<Pairs, OutOfMemory>
     ensures pairs { IfOk result (ArePairs proof.now) }
     ensures askable { IfOk result AreAskable }
@@ -125,11 +127,11 @@ fn walked(
 }
 
 /// The path that has this message alone.
-pub(crate) fn path_from(alloc: Global, digest: Message) -> Result<Path, OutOfMemory>
+pub(crate) fn path_from<'a>(alloc: Global, digest: Message) -> Result<Path<'a>, OutOfMemory>
     ensures message { IfOk result (λ path. path.messages ≡ digest ∷ []) }
     ensures none { IfOk result (λ path. (all : List (List ℕ)) → AreNumbers all path) }
 {
-    let messages = PathMessages::begin(alloc, digest)?;
+    let messages = LazyPath::begin(alloc, digest)?;
     let mut numbers = Vec::new(alloc);
     numbers.push(None)?;
     Ok(Path { messages, numbers })

@@ -19,7 +19,7 @@ pub(crate) fn note(
     alloc: Global,
     token: &Token,
     depth: u32,
-    path: &mut Path,
+    path: &mut Path<'_>,
     listing: &mut Listing,
 ) -> Result<(), OutOfMemory>
     requires kept { IsKept listing.old }
@@ -38,7 +38,7 @@ pub(crate) fn note(
 /// The number of the message at a depth, where there is one. It is looked for once, and noted.
 fn number_at(
     alloc: Global,
-    path: &mut Path,
+    path: &mut Path<'_>,
     depth: usize,
     messages: &mut Distinct,
 ) -> Result<Option<usize>, OutOfMemory>
@@ -49,10 +49,9 @@ fn number_at(
     if let Some(number) = known(&path.numbers, depth) {
         return Ok(Some(number));
     }
-    let Some(message) = path.messages.at(depth) else {
+    let Some(number) = path.messages.number(alloc, depth, messages)? else {
         return Ok(None);
     };
-    let number = messages.number(alloc, message.bytes())?;
     keep(&mut path.numbers, depth, number);
     Ok(Some(number))
 }
@@ -74,16 +73,20 @@ pub(crate) fn keep(numbers: &mut [Option<usize>], depth: usize, number: usize)
 }
 
 /// Goes on after a token at a depth. The result of an operation has no number yet.
-pub(crate) fn follow(token: &Token, depth: usize, path: &mut Path) -> Result<(), OutOfMemory>
+pub(crate) fn follow<'a>(
+    token: &'a Token,
+    depth: usize,
+    path: &mut Path<'a>,
+) -> Result<(), OutOfMemory>
     requires { depth < 2 ^ 32 }
     ensures { OnOk result (Follows token.now depth path.old path.new) }
 {
-    let Token::Op(_) = token else {
+    let Token::Op(op) = token else {
         return Ok(());
     };
-    path.messages.follow(token, depth)?;
+    path.messages.follow(op, depth)?;
     path.numbers.truncate(depth + 1);
-    if path.numbers.len() < path.messages.len() {
+    if path.numbers.len() == depth + 1 {
         path.numbers.push(None)?;
     }
     Ok(())

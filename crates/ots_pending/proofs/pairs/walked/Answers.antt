@@ -1,5 +1,6 @@
-use Rattle.std.proofs.Common.{arith, ◌∙◌, ◌++◌, refl, ap, get_or}
-use Rattle.ots_tree.specs.PendingWalk.{added, ended, followed}
+use Rattle.std.proofs.Common.{arith, ℕ, List, [], ◌∙◌, ◌++◌, refl, ap, get_or}
+use Rattle.ots_tree.specs.Kept.{beside}
+use Rattle.ots_tree.specs.PendingWalk.{added, ended, followed, walked}
 use Rattle.ots_tree.proofs.Numbered.{kept_length}
 use Rattle.ots_tree.proofs.PendingPaths.{walk_goes, walk_ends}
 use Rattle.ots_pending.specs.Pairs.{pairs_of}
@@ -9,6 +10,18 @@ use Rattle.ots_pending.proofs.pairs.walked.Goals as goal
 
 pub bounds-depths-at : goal.bounds-depths-at
 bounds-depths-at c = omega (arith, kept_length _ _ c.requires)
+
+pub loop-at-init : goal.loop-at-init
+loop-at-init c = record {
+  kept = c.no_pairs-listing.ensures.kept;
+  numbers = c.in_ok-path.ensures.none c.no_pairs-listing.result.messages;
+  way = record {
+    ended = 0;
+    found = [];
+    left = ap (λ (z : List (List ℕ)). walked 0 z (beside c.args.tokens.now c.args.depths.now)) c.in_ok-path.ensures.message;
+    pairs = c.no_pairs-listing.ensures.none;
+  };
+}
 
 pub loop-at-preserved : goal.loop-at-preserved
 loop-at-preserved c =
