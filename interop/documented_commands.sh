@@ -1,17 +1,22 @@
 #!/bin/sh
 # Runs the commands that the pages show, as they are written, and compares what each prints with the page:
-#     interop/documented_commands.sh
+#     interop/documented_commands.sh [PREFIX]
 # README.md, docs/GUIDE.md, docs/FORMAT.md, docs/HTTP.md, docs/OPERATOR.md: in a block between ``` a line that begins with "$ " is a command,
 # and the lines after it, up to the next one, are what it prints. A block of the language sh is one command;
 # its lines "# prints TEXT" are what it prints. Blocks that ask a node are left out. man/ots.1, man/otsd.1, man/otsmirror.1 and
 # man/otsgate.1: the same of their literal blocks. The programs have to be built (./run ots, otsd, otsmirror, otsgate); xxd, openssl and curl have to be there. It ends with 0 where
 # all is as written, with 1 on a difference, and with 70 where the program is not there.
+# Where PREFIX is given, as where a package was unpacked, the programs of PREFIX/bin run, by that path, the commands of the
+# man pages below PREFIX/share/man.
 set -u
 
 top=$(CDPATH='' cd -- "$(dirname -- "$0")/.." && pwd) || exit 70
+bin=$top/build
+prefix=${1:+$(CDPATH='' cd -- "$1" && pwd)} || exit 70
+[ -z "$prefix" ] || bin=$prefix/bin
 for program in ots otsd otsmirror otsgate; do
-    if [ ! -x "$top/build/$program" ]; then
-        echo "build/$program is not there: ./run $program builds it" >&2
+    if [ ! -x "$bin/$program" ]; then
+        echo "$bin/$program is not there: ./run $program builds build/$program" >&2
         exit 70
     fi
 done
@@ -78,7 +83,7 @@ make_folder() {
     cp "$top/examples/coinbase" "$1/file"
     cp "$top/examples/coinbase.ots" "$1/file.ots"
     for program in ots otsd otsmirror otsgate; do
-        ln -s "$top/build/$program" "$1/bin/$program"
+        ln -s "$bin/$program" "$1/bin/$program"
     done
     for script in run install; do
         printf '#!/bin/sh\nexec "%s/%s" "$@"\n' "$top" "$script" >"$1/$script"
@@ -95,7 +100,7 @@ try_page() {
     room=$work/$(basename "$page")
     mkdir -p "$room.commands" || exit 70
     make_folder "$room"
-    commands_of "$top/$page" "$room.commands"
+    commands_of "$page" "$room.commands"
     tried=0
     for command in "$room.commands"/*.command; do
         if [ ! -e "$command" ] || asks_a_node "$command"; then
@@ -120,15 +125,21 @@ try_page() {
     echo "$page: $tried commands"
 }
 
-try_page README.md .
-try_page docs/GUIDE.md .
-try_page docs/FORMAT.md .
-try_page docs/HTTP.md .
-try_page docs/OPERATOR.md .
-try_page man/ots.1 examples
-try_page man/otsd.1 examples
-try_page man/otsmirror.1 examples
-try_page man/otsgate.1 examples
+cd "$top" || exit 70
+if [ -n "$prefix" ]; then
+    for program in ots otsd otsmirror otsgate; do
+        gzip -dc "$prefix/share/man/man1/$program.1.gz" >"$work/$program.1" || exit 70
+        try_page "$work/$program.1" examples
+    done
+else
+    for page in README GUIDE FORMAT HTTP OPERATOR; do
+        [ $page = README ] || page=docs/$page
+        try_page $page.md .
+    done
+    for program in ots otsd otsmirror otsgate; do
+        try_page man/$program.1 examples
+    done
+fi
 if [ $failed -ne 0 ]; then
     echo "$failed of $run commands print something else"
     exit 1
