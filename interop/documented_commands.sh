@@ -127,9 +127,10 @@ try_page() {
 
 cd "$top" || exit 70
 if [ -n "$prefix" ]; then
+    mkdir "$work/pages" || exit 70
     for program in ots otsd otsmirror otsgate; do
-        gzip -dc "$prefix/share/man/man1/$program.1.gz" >"$work/$program.1" || exit 70
-        try_page "$work/$program.1" examples
+        gzip -dc "$prefix/share/man/man1/$program.1.gz" >"$work/pages/$program.1" || exit 70
+        try_page "$work/pages/$program.1" examples
     done
 else
     for page in README GUIDE FORMAT HTTP OPERATOR; do
