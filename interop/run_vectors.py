@@ -5,13 +5,15 @@
 
 runs each line of vectors/ (or of these files) over build/ots and build/otsd (`./run` builds them), as a user would: proofs,
 canonical forms, verdicts, chains, journals and blocks as files, answers and requests over a socket of this machine, replies
-and lists of addresses by `ots stamp`. What no command shows, as numbers, hashes, operations, trees and commitments, is asked
-of the row programs crates/NAME/out/NAME where they are built (bench/check.py --program ots_format_rows, ots_bitcoin_rows). It
-prints each difference, and how many vectors of each kind agree or are passed over, and ends with status 1 where one differs.
+and lists of addresses by `ots stamp`. What no command shows, as numbers, hashes, operations, trees and commitments, what a request
+asks, the body of a reply and the addresses of a list, is asked of the row programs crates/NAME/out/NAME where they are built
+(bench/check.py --program ots_format_rows, ots_bitcoin_rows, ots_http_rows). It prints each difference, and how many vectors of
+each kind agree, agree in part (what a command shows of them) or are passed over, and ends with status 1 where one differs.
 """
 
 import atexit
 import glob
+import itertools
 import json
 import os
 import socket
@@ -226,11 +228,28 @@ def asked_of(name, lines):
     return [line[2:] for line in done.stdout.decode().split('\n') if line.startswith('=')]
 
 
+def piece(data):
+    """Bytes as a row's answer spells them."""
+    if len(data) > 2 and data == data[:2] * (len(data) // 2):
+        return f'{data[:2]}*{len(data) // 2}'
+    return data or '-'
+
+
 def row_of(case):
-    """The program, the line and how its answer begins, of a vector that no command shows."""
+    """The program, the line and its answer, or the first words of it, of a vector that no command shows."""
     kind = case['kind']
+    if kind == 'request':
+        name, _, rest = case['asks'].partition(' ')
+        said = f'{"timestamp" if name == "commitment" else name} {rest}'
+        return 'ots_http_rows', f'request whole {case["bytes"]}', f'{said} read'
+    if kind == 'reply':
+        return 'ots_http_rows', f'reply whole {case["bytes"]}', f'good {piece(case["body"])} read'
+    if kind == 'addresses':
+        each = itertools.zip_longest(case['list'].split(','), case['addresses'], fillvalue='--')
+        said = ' '.join(f'{text} is {host} {port};' for text, (host, port) in each)
+        return 'ots_http_rows', f'addresses {case["list"].encode().hex()}', said
     if kind == 'number':
-        wanted = f'{case["value"]} in {case["length"]} ' if 'value' in case else {'padded': 'not minimal', 'short': 'short', 'large': 'too large'}[case['fault']]
+        wanted = f'{case["value"]} in {case["length"]}' if 'value' in case else {'padded': 'not minimal', 'short': 'short', 'large': 'too large'}[case['fault']]
         return 'ots_format_rows', f'number read {case["bytes"] or "-"}', wanted
     if kind == 'hash':
         pieces = [case['bytes'][at:at + 2000] or '-' for at in range(0, max(len(case['bytes']), 1), 2000)]
@@ -258,23 +277,41 @@ def row_of(case):
     return None
 
 
+def root_row_of(case):
+    """The same of the root of a tree, beside its path."""
+    if case['kind'] == 'calendar-tree':
+        return 'ots_bitcoin_rows', f'tree root {len(case["leaves"]) // 64} | {case["leaves"]}', case['root']
+    if case['kind'] == 'block-tree':
+        return 'ots_bitcoin_rows', f'block root {len(case["ids"]) // 64} | {case["ids"]}', case['root']
+    return None
+
+
+def is_answer(case, wanted, answer):
+    """Whether a row's answer is the wanted one, or has it as its first words."""
+    if case['kind'] == 'commitment':
+        return case['commitment'] in answer.split(' ')
+    return wanted is not None and (answer == wanted or answer.startswith(wanted + ' '))
+
+
 def rows(cases, say):
     asked = {}
-    for case in cases:
+    for k, case in enumerate(cases):
         found = row_of(case)
         if found is None:
             say(case, None, None)
-        else:
-            asked.setdefault(found[0], []).append((case, found[1], found[2]))
+            continue
+        for name, line, wanted in filter(None, (found, root_row_of(case))):
+            asked.setdefault(name, []).append((k, line, wanted))
     for name, lines in asked.items():
         answers = asked_of(name, [line for _, line, _ in lines])
-        for k, (case, _, wanted) in enumerate(lines):
+        told = {}
+        for at, (k, _, wanted) in enumerate(lines):
             if answers is None:
-                say(case, None, None)
-            elif case['kind'] == 'commitment':
-                say(case, case['commitment'] in answers[k].split(' '), answers[k])
-            else:
-                say(case, answers[k].startswith(wanted) if wanted else False, answers[k])
+                told[k] = ('in part' if cases[k]['kind'] in ('request', 'reply') else None, None)
+            elif told.get(k, (True, None))[0]:
+                told[k] = (is_answer(cases[k], wanted, answers[at]), answers[at])
+        for k, (agrees, found) in told.items():
+            say(cases[k], agrees, found)
 
 
 def main():
@@ -284,7 +321,7 @@ def main():
     counts, left, bad = {}, [], []
 
     def say(case, agrees, found):
-        word = 'passed over' if agrees is None else 'agree' if agrees else 'DIFFER'
+        word = 'passed over' if agrees is None else 'agree in part' if agrees == 'in part' else 'agree' if agrees else 'DIFFER'
         counts[case['kind'], word] = counts.get((case['kind'], word), 0) + 1
         if agrees is False:
             bad.append(case)
@@ -300,13 +337,18 @@ def main():
                 for case in map(json.loads, file):
                     kind = case['kind']
                     if kind in files:
-                        say(case, *files[kind](folder, case))
+                        agrees, found = files[kind](folder, case)
                     elif kind in ('answer', 'request'):
-                        say(case, *(answer if kind == 'answer' else request)(calendar, case))
+                        agrees, found = (answer if kind == 'answer' else request)(calendar, case)
                     elif kind == 'reply':
-                        say(case, *reply(folder, replying, case))
+                        agrees, found = reply(folder, replying, case)
                     else:
+                        agrees, found = None, None
+                    # A row program shows more of these.
+                    if agrees is None or agrees and ('asks' in case or 'body' in case):
                         left.append(case)
+                    else:
+                        say(case, agrees, found)
         calendar.stop()
     rows(left, say)
     for (kind, word), count in sorted(counts.items()):
