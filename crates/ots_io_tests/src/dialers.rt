@@ -1,6 +1,61 @@
 // The dialer in memory.
+use super::links::one_as_a_link;
 use ots_io::{DialError, Dialer, DialerRoom, Failed, ScriptDialer, SentTo};
+use std::process::Abort;
 use std::test::Fail;
+
+/// A dialer that is looked at past its calls.
+pub trait Sent {
+    /// Whether these bytes were sent to this host and port in the conversation at this place.
+    fn has_sent(&self, place: usize, host: &str, port: u16, bytes: &[u8]) -> bool;
+
+    /// Whether there was no conversation at this place.
+    fn lacks(&self, place: usize) -> bool;
+}
+
+impl Sent for ScriptDialer {
+    fn has_sent(&self, place: usize, host: &str, port: u16, bytes: &[u8]) -> bool {
+        self.sent(place) == Some(SentTo { host, port, bytes })
+    }
+
+    fn lacks(&self, place: usize) -> bool {
+        self.sent(place).is_none()
+    }
+}
+
+/// What is tried with a dialer.
+#[derive(Clone, Copy)]
+pub enum Trial {
+    TwoAtOnce,
+    FailedConnect,
+    FailedCalls,
+    PastTheRoom,
+    OneAsALink,
+}
+
+/// Tries this with a dialer that is new.
+fn try_dialer<D: Dialer + Sent>(rt: &impl Abort, dialer: &mut D, trial: Trial) {
+    match trial {
+        Trial::TwoAtOnce => two_at_once(rt, dialer),
+        Trial::FailedConnect => failed_connect(rt, dialer),
+        Trial::FailedCalls => failed_calls(rt, dialer),
+        Trial::PastTheRoom => past_the_room(rt, dialer),
+        Trial::OneAsALink => one_as_a_link(rt, dialer),
+    }
+}
+
+/// Tries this with a dialer in memory that has these replies and this room, of which these calls fail.
+pub fn try_in_memory(
+    rt: &(impl Abort + AllocGlobal),
+    replies: &[&[u8]],
+    room: DialerRoom,
+    failing: &[u64],
+    trial: Trial,
+) -> Result<(), Fail> {
+    let mut dialer = ScriptDialer::new(rt.alloc(), replies, room, failing)?;
+    try_dialer(rt, &mut dialer, trial);
+    Ok(())
+}
 
 const ROOM: DialerRoom = DialerRoom {
     conversations: 3,
@@ -52,76 +107,86 @@ fn converse_twice<D: Dialer>(dialer: &mut D) -> Result<[Read; 2], DialError> {
     ])
 }
 
-#[test]
-fn two_conversations_are_held_at_once(rt: HostRuntime) -> Result<(), Fail> {
-    let mut dialer = ScriptDialer::new(rt.alloc(), &[b"first", b"second"], ROOM, &[])?;
-    let answers = hold_two(&mut dialer);
+/// A conversation with this host, in which this piece is sent, comes to this.
+fn expect<D: Dialer>(
+    rt: &impl Abort,
+    dialer: &mut D,
+    host: &str,
+    piece: &[u8],
+    answer: Result<Read, DialError>,
+) {
+    assert_eq!(rt; converse(dialer, host, piece), answer);
+}
+
+/// Two conversations at once come to their replies, and a third one to none.
+fn expect_two<D: Dialer>(rt: &impl Abort, dialer: &mut D) {
+    let answers = hold_two(dialer);
     assert_eq!(rt;
         answers,
         Ok([(Ok(5), *b"first\0\0\0"), (Ok(6), *b"second\0\0")])
     );
     // The list of replies is at its end.
-    let answer = converse(&mut dialer, "c.example", b"");
-    assert_eq!(rt; answer, Ok((Ok(0), [0; 8])));
-    let rows: [(usize, &str, u16, &[u8]); 3] = [
-        (0, "a.example", 80, b"aaa"),
-        (1, "b.example", 8080, b"bb"),
-        (2, "c.example", 80, b""),
-    ];
-    for (place, host, port, bytes) in rows {
-        assert!(rt; dialer.sent(place) == Some(SentTo { host, port, bytes }));
-    }
-    assert!(rt; dialer.sent(3).is_none());
-    Ok(())
+    expect(rt, dialer, "c.example", b"", Ok((Ok(0), [0; 8])));
+}
+
+fn two_at_once<D: Dialer + Sent>(rt: &impl Abort, dialer: &mut D) {
+    expect_two(rt, dialer);
+    assert!(rt; dialer.has_sent(0, "a.example", 80, b"aaa"));
+    assert!(rt; dialer.has_sent(1, "b.example", 8080, b"bb"));
+    assert!(rt; dialer.has_sent(2, "c.example", 80, b""));
+    assert!(rt; dialer.lacks(3));
+}
+
+#[test]
+fn two_conversations_are_held_at_once(rt: HostRuntime) -> Result<(), Fail> {
+    try_in_memory(&rt, &[b"first", b"second"], ROOM, &[], Trial::TwoAtOnce)
+}
+
+fn failed_connect<D: Dialer + Sent>(rt: &impl Abort, dialer: &mut D) {
+    let two = Ok((Ok(3), *b"two\0\0\0\0\0"));
+    expect(rt, dialer, "a.example", b"abc", Err(DialError::Failed));
+    expect(rt, dialer, "a.example", b"abc", two);
+    expect(rt, dialer, "a.example", b"abc", Ok((Ok(0), [0; 8])));
+    assert!(rt; dialer.lacks(2));
 }
 
 #[test]
 fn a_failed_connect_takes_its_reply(rt: HostRuntime) -> Result<(), Fail> {
-    let mut dialer = ScriptDialer::new(rt.alloc(), &[b"one", b"two"], ROOM, &[1])?;
-    for answer in [
-        Err(DialError::Failed),
-        Ok((Ok(3), *b"two\0\0\0\0\0")),
-        Ok((Ok(0), [0; 8])),
-    ] {
-        assert_eq!(rt; converse(&mut dialer, "a.example", b"abc"), answer);
-    }
-    assert!(rt; dialer.sent(2).is_none());
-    Ok(())
+    try_in_memory(&rt, &[b"one", b"two"], ROOM, &[1], Trial::FailedConnect)
 }
 
-#[test]
-fn a_failed_write_or_read_leaves_the_next_one_whole(rt: HostRuntime) -> Result<(), Fail> {
-    let mut dialer = ScriptDialer::new(rt.alloc(), &[b"reply"], ROOM, &[2, 4])?;
-    let answers = converse_twice(&mut dialer);
+fn failed_calls<D: Dialer + Sent>(rt: &impl Abort, dialer: &mut D) {
+    let answers = converse_twice(dialer);
     assert_eq!(rt;
         answers,
         Ok([(Err(Failed), [0; 8]), (Ok(5), *b"reply\0\0\0")])
     );
-    let sent = SentTo {
-        host: "a.example",
-        port: 80,
-        bytes: b"cd",
-    };
-    assert!(rt; dialer.sent(0) == Some(sent));
-    Ok(())
+    assert!(rt; dialer.has_sent(0, "a.example", 80, b"cd"));
+}
+
+#[test]
+fn a_failed_write_or_read_leaves_the_next_one_whole(rt: HostRuntime) -> Result<(), Fail> {
+    try_in_memory(&rt, &[b"reply"], ROOM, &[2, 4], Trial::FailedCalls)
+}
+
+fn past_the_room<D: Dialer>(rt: &impl Abort, dialer: &mut D) {
+    let second = Ok((Ok(1), *b"2\0\0\0\0\0\0\0"));
+    let third = Ok((Err(Failed), *b"3\0\0\0\0\0\0\0"));
+    let fourth = Ok((Ok(1), *b"4\0\0\0\0\0\0\0"));
+    expect(rt, dialer, "too.long.a", b"", Err(DialError::Failed));
+    expect(rt, dialer, "a.example", b"123456", second);
+    expect(rt, dialer, "b.example", b"1234567", third);
+    expect(rt, dialer, "", b"", fourth);
+    expect(rt, dialer, "d.example", b"", Err(DialError::Failed));
 }
 
 #[test]
 fn a_dialer_fails_where_its_room_is_passed(rt: HostRuntime) -> Result<(), Fail> {
-    let mut dialer = ScriptDialer::new(rt.alloc(), &[b"1", b"2", b"3", b"4"], ROOM, &[])?;
-    let rows: [(&str, &[u8], Result<Read, DialError>); 5] = [
-        ("too.long.a", b"", Err(DialError::Failed)),
-        ("a.example", b"123456", Ok((Ok(1), *b"2\0\0\0\0\0\0\0"))),
-        (
-            "b.example",
-            b"1234567",
-            Ok((Err(Failed), *b"3\0\0\0\0\0\0\0")),
-        ),
-        ("", b"", Ok((Ok(1), *b"4\0\0\0\0\0\0\0"))),
-        ("d.example", b"", Err(DialError::Failed)),
-    ];
-    for (host, piece, answer) in rows {
-        assert_eq!(rt; converse(&mut dialer, host, piece), answer);
-    }
-    Ok(())
+    try_in_memory(
+        &rt,
+        &[b"1", b"2", b"3", b"4"],
+        ROOM,
+        &[],
+        Trial::PastTheRoom,
+    )
 }

@@ -7,6 +7,8 @@ mod accepters;
 #[cfg(test)]
 mod dialers;
 #[cfg(test)]
+mod held;
+#[cfg(test)]
 mod links;
 #[cfg(test)]
 mod memory;

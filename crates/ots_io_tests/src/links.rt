@@ -4,13 +4,24 @@ ghost use Rattle.ots_io.specs.Dialer.{IsConversation, SameButConversation};
 ghost use Rattle.ots_io.specs.Link.{SameButTaken, taken_of};
 ghost use Rattle.ots_io.specs.Streams.{Takes};
 
+use super::dialers::{Sent, Trial, try_in_memory};
 use ots_io::{
-    BytesLink, DialError, DialedLink, Dialer, DialerRoom, Failed, Link, LinkSink, OutOfMemory,
-    ScriptDialer, SentTo, Slot, write_all,
+    BytesLink, DialError, DialedLink, Dialer, DialerRoom, Failed, Link, LinkSink, Slot, write_all,
 };
-use std::alloc::Global;
 use std::process::Abort;
 use std::test::Fail;
+
+/// A link that is looked at past its calls.
+trait Noted {
+    /// Whether it has given these bytes and taken those, and has so many left.
+    fn is_at(&self, given: &[u8], left: usize, taken: &[u8]) -> bool;
+}
+
+impl Noted for BytesLink {
+    fn is_at(&self, given: &[u8], left: usize, taken: &[u8]) -> bool {
+        self.given() == given && self.left() == left && self.taken() == taken
+    }
+}
 
 /// Reads, writes `xyz` and `uv`, says that nothing more is written, and reads on.
 fn exchange<L: Link>(link: &mut L, buf: &mut [u8]) -> [Result<usize, Failed>; 4]
@@ -24,52 +35,50 @@ fn exchange<L: Link>(link: &mut L, buf: &mut [u8]) -> [Result<usize, Failed>; 4]
     [read, written, written_after, read_after]
 }
 
-/// A link that gives `abcdef`, two bytes at first, takes so many bytes, and fails at these calls.
-fn make_link(alloc: Global, capacity: usize, failing: &[u64]) -> Result<BytesLink, OutOfMemory> {
-    BytesLink::new(alloc, b"abcdef", &[2], capacity, failing)
-}
-
-/// The link has given and taken these bytes, and has so many left.
-fn expect_state(rt: &impl Abort, link: &BytesLink, given: &[u8], left: usize, taken: &[u8]) {
-    assert_eq!(rt; link.given(), given);
-    assert_eq!(rt; link.left(), left);
-    assert_eq!(rt; link.taken(), taken);
-}
-
-/// An exchange over the link answers so, and then the link has given and taken these bytes, and has
+/// An exchange over a link answers so, and then the link has given and taken these bytes, and has
 /// so many left.
-fn expect_exchange(
+fn expect_over<L: Link + Noted>(
     rt: &impl Abort,
-    mut link: BytesLink,
+    link: &mut L,
     answers: [Result<usize, Failed>; 4],
     given: &[u8],
     left: usize,
     taken: &[u8],
 ) {
-    assert_eq!(rt; exchange(&mut link, &mut [0; 8]), answers);
-    expect_state(rt, &link, given, left, taken);
+    assert_eq!(rt; exchange(link, &mut [0; 8]), answers);
+    assert!(rt; link.is_at(given, left, taken));
+}
+
+/// The same over one that gives `abcdef`, two bytes at first, takes so many bytes, and fails at these
+/// calls.
+fn expect_exchange(
+    rt: &(impl Abort + AllocGlobal),
+    capacity: usize,
+    failing: &[u64],
+    answers: [Result<usize, Failed>; 4],
+    given: &[u8],
+    left: usize,
+    taken: &[u8],
+) -> Result<(), Fail> {
+    let mut link = BytesLink::new(rt.alloc(), b"abcdef", &[2], capacity, failing)?;
+    expect_over(rt, &mut link, answers, given, left, taken);
+    Ok(())
 }
 
 #[test]
 fn a_link_takes_up_to_its_capacity(rt: HostRuntime) -> Result<(), Fail> {
-    let link = make_link(rt.alloc(), 5, &[])?;
     let answers = [Ok(2), Ok(3), Ok(2), Ok(4)];
-    expect_exchange(&rt, link, answers, b"abcdef", 0, b"xyzuv");
-    let link = make_link(rt.alloc(), 4, &[])?;
+    expect_exchange(&rt, 5, &[], answers, b"abcdef", 0, b"xyzuv")?;
     let answers = [Ok(2), Ok(3), Err(Failed), Ok(4)];
-    expect_exchange(&rt, link, answers, b"abcdef", 0, b"xyz");
-    Ok(())
+    expect_exchange(&rt, 4, &[], answers, b"abcdef", 0, b"xyz")
 }
 
 #[test]
 fn a_failed_call_leaves_the_next_one_whole(rt: HostRuntime) -> Result<(), Fail> {
-    let link = make_link(rt.alloc(), 5, &[2, 4])?;
     let answers = [Ok(2), Err(Failed), Ok(2), Err(Failed)];
-    expect_exchange(&rt, link, answers, b"ab", 4, b"uv");
-    let link = make_link(rt.alloc(), 5, &[1, 3])?;
+    expect_exchange(&rt, 5, &[2, 4], answers, b"ab", 4, b"uv")?;
     let answers = [Err(Failed), Ok(3), Err(Failed), Ok(2)];
-    expect_exchange(&rt, link, answers, b"ab", 4, b"xyz");
-    Ok(())
+    expect_exchange(&rt, 5, &[1, 3], answers, b"ab", 4, b"xyz")
 }
 
 /// Writes a text to a link. Any link can be written so, and is known whole again afterwards.
@@ -81,25 +90,30 @@ fn write_link<L: Link>(link: &mut L, text: &[u8]) -> Result<(), Failed>
     write_all(&mut LinkSink::new(link), text)
 }
 
-/// A write of the text is answered so, and then the link has taken these bytes.
-fn expect_written(
+/// A write of the text is answered so, and then the link, which gives nothing, has taken these bytes.
+fn expect_written<L: Link + Noted>(
     rt: &impl Abort,
-    link: &mut BytesLink,
+    link: &mut L,
     text: &[u8],
     answer: Result<(), Failed>,
     taken: &[u8],
 ) {
     assert_eq!(rt; write_link(link, text), answer);
-    assert_eq!(rt; link.taken(), taken);
+    assert!(rt; link.is_at(b"", 0, taken));
+}
+
+/// Four writes, of which the second fails, and the last for want of room.
+fn expect_four_writes<L: Link + Noted>(rt: &impl Abort, link: &mut L) {
+    expect_written(rt, link, b"abc", Ok(()), b"abc");
+    expect_written(rt, link, b"de", Err(Failed), b"abc");
+    expect_written(rt, link, b"de", Ok(()), b"abcde");
+    expect_written(rt, link, b"f", Err(Failed), b"abcde");
 }
 
 #[test]
 fn a_link_is_written_as_a_sink(rt: HostRuntime) -> Result<(), Fail> {
     let mut link = BytesLink::new(rt.alloc(), b"", &[], 5, &[2])?;
-    expect_written(&rt, &mut link, b"abc", Ok(()), b"abc");
-    expect_written(&rt, &mut link, b"de", Err(Failed), b"abc");
-    expect_written(&rt, &mut link, b"de", Ok(()), b"abcde");
-    expect_written(&rt, &mut link, b"f", Err(Failed), b"abcde");
+    expect_four_writes(&rt, &mut link);
     Ok(())
 }
 
@@ -136,6 +150,21 @@ fn hold_two<D: Dialer>(
     Ok((answers, [sent, read]))
 }
 
+/// The conversations are held so.
+fn expect_held<D: Dialer>(rt: &impl Abort, dialer: &mut D) {
+    let mut by_link = [0; 4];
+    let mut by_slot = [0; 8];
+    let held = hold_two(dialer, &mut by_link, &mut by_slot);
+    assert_eq!(rt; held, Ok(([Ok(4), Ok(3), Ok(2), Ok(2)], [Ok(3), Ok(5)])));
+    assert_eq!(rt; (by_link, by_slot), (*b"ndco", *b"first\0\0\0"));
+}
+
+pub fn one_as_a_link<D: Dialer + Sent>(rt: &impl Abort, dialer: &mut D) {
+    expect_held(rt, dialer);
+    assert!(rt; dialer.has_sent(0, "a.example", 80, b"aaa"));
+    assert!(rt; dialer.has_sent(1, "b.example", 8080, b"xyzuv"));
+}
+
 #[test]
 fn one_of_two_conversations_is_a_link(rt: HostRuntime) -> Result<(), Fail> {
     let room = DialerRoom {
@@ -143,24 +172,5 @@ fn one_of_two_conversations_is_a_link(rt: HostRuntime) -> Result<(), Fail> {
         host_length: 9,
         bytes: 5,
     };
-    let mut dialer = ScriptDialer::new(rt.alloc(), &[b"first", b"second"], room, &[])?;
-    let mut by_link = [0; 4];
-    let mut by_slot = [0; 8];
-    let held = hold_two(&mut dialer, &mut by_link, &mut by_slot);
-    assert_eq!(rt; held, Ok(([Ok(4), Ok(3), Ok(2), Ok(2)], [Ok(3), Ok(5)])));
-    assert_eq!(rt; by_link, *b"ndco");
-    assert_eq!(rt; by_slot, *b"first\0\0\0");
-    let first = SentTo {
-        host: "a.example",
-        port: 80,
-        bytes: b"aaa",
-    };
-    let second = SentTo {
-        host: "b.example",
-        port: 8080,
-        bytes: b"xyzuv",
-    };
-    assert!(rt; dialer.sent(0) == Some(first));
-    assert!(rt; dialer.sent(1) == Some(second));
-    Ok(())
+    try_in_memory(&rt, &[b"first", b"second"], room, &[], Trial::OneAsALink)
 }

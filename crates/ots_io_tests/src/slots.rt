@@ -4,15 +4,10 @@ ghost use Rattle.ots_io.specs.Shelf.{is_writing};
 ghost use Rattle.ots_io.specs.Streams.{Takes, TakesPrefix};
 ghost use Rattle.ots_io.specs.Written.{SameButSlotBytes, slot_bytes};
 
-use ots_io::{CreateError, Failed, MapShelf, Shelf, ShelfRoom, Sink, Slot, SlotSink, write_all};
+use super::held::{Held, Trial, try_in_memory};
+use ots_io::{CreateError, Failed, Shelf, Sink, Slot, SlotSink, write_all};
+use std::process::Abort;
 use std::test::Fail;
-
-const ROOM: ShelfRoom = ShelfRoom {
-    names: 3,
-    name_length: 4,
-    bytes: 8,
-    slots: 6,
-};
 
 /// Writes a text to a created name. Any shelf can be written so, and is known whole again
 /// afterwards.
@@ -38,25 +33,31 @@ pub fn write_named<S: Shelf>(shelf: &mut S, name: &str, text: &[u8]) -> Result<(
     }
 }
 
-/// Whether a name holds exactly these bytes.
-pub fn holds(shelf: &MapShelf, name: &str, bytes: &[u8]) -> bool {
-    shelf.bytes_of(name) == Some(bytes)
+/// A name is written so, and then holds this text.
+fn expect_written<S: Shelf + Held>(
+    rt: &impl Abort,
+    shelf: &mut S,
+    name: &str,
+    text: &str,
+    answer: Result<(), CreateError>,
+    held: &str,
+) {
+    assert_eq!(rt; write_named(shelf, name, text.as_bytes()), answer);
+    assert!(rt; shelf.holds(name, held.as_bytes()));
+}
+
+pub fn through_slots<S: Shelf + Held>(rt: &impl Abort, shelf: &mut S) -> Result<(), Fail> {
+    shelf.put_name("a", b"old")?;
+    expect_written(rt, shelf, "b", "abcdefgh", Ok(()), "abcdefgh");
+    expect_written(rt, shelf, "c", "", Ok(()), "");
+    expect_written(rt, shelf, "a", "new", Err(CreateError::Exists), "old");
+    assert!(rt; shelf.holds("b", b"abcdefgh"));
+    Ok(())
 }
 
 #[test]
 fn a_name_is_written_through_its_slot(rt: HostRuntime) -> Result<(), Fail> {
-    let mut shelf = MapShelf::new(rt.alloc(), ROOM, &[])?;
-    shelf.put("a", b"old")?;
-    for (name, text, answer, held) in [
-        ("b", "abcdefgh", Ok(()), "abcdefgh"),
-        ("c", "", Ok(()), ""),
-        ("a", "new", Err(CreateError::Exists), "old"),
-    ] {
-        assert_eq!(rt; write_named(&mut shelf, name, text.as_bytes()), answer);
-        assert!(rt; holds(&shelf, name, held.as_bytes()));
-    }
-    assert!(rt; holds(&shelf, "b", b"abcdefgh"));
-    Ok(())
+    try_in_memory(&rt, &[], Trial::ThroughSlots)
 }
 
 /// Creates two names, and writes to the one and the other in turn.
@@ -74,13 +75,16 @@ fn write_in_turn<S: Shelf>(shelf: &mut S) -> Result<[Result<(), Failed>; 4], Cre
     Ok(answers)
 }
 
+pub fn in_turn<S: Shelf + Held>(rt: &impl Abort, shelf: &mut S) -> Result<(), Fail> {
+    let answers = write_in_turn(shelf);
+    assert_eq!(rt; answers, Ok([Ok(()), Ok(()), Ok(()), Err(Failed)]));
+    assert!(rt; shelf.holds("a", b"abcd"));
+    assert!(rt; shelf.holds("b", b"x"));
+    Ok(())
+}
+
 #[test]
 fn two_slots_are_written_in_turn(rt: HostRuntime) -> Result<(), Fail> {
     // The last write is to fail.
-    let mut shelf = MapShelf::new(rt.alloc(), ROOM, &[6])?;
-    let answers = write_in_turn(&mut shelf);
-    assert_eq!(rt; answers, Ok([Ok(()), Ok(()), Ok(()), Err(Failed)]));
-    assert!(rt; holds(&shelf, "a", b"abcd"));
-    assert!(rt; holds(&shelf, "b", b"x"));
-    Ok(())
+    try_in_memory(&rt, &[6], Trial::InTurn)
 }

@@ -13,10 +13,20 @@ fn numbered() -> [u8; 65] {
     bytes
 }
 
+/// Whether the bytes are a leaf.
+fn is_leaf(bytes: &[u8]) -> bool {
+    matches!(Leaf::new(bytes), Ok(leaf) if leaf.bytes() == bytes)
+}
+
+/// Whether the bytes are a wanted digest.
+fn is_wanted(bytes: &[u8]) -> bool {
+    matches!(Wanted::new(bytes), Some(wanted) if wanted.bytes() == bytes)
+}
+
 /// The bytes are a leaf and a wanted digest.
 fn expect_kept(rt: &impl Abort, bytes: &[u8]) {
-    assert!(rt; matches!(Leaf::new(bytes), Ok(leaf) if leaf.bytes() == bytes));
-    assert!(rt; matches!(Wanted::new(bytes), Some(wanted) if wanted.bytes() == bytes));
+    assert!(rt; is_leaf(bytes));
+    assert!(rt; is_wanted(bytes));
 }
 
 /// The bytes are no leaf, for this reason, and no wanted digest.
@@ -45,11 +55,10 @@ fn push_all(alloc: Global, given: &[u8]) -> Result<Bytes, OutOfMemory> {
     Ok(bytes)
 }
 
-/// These bytes stay in their order where they are copied.
-fn expect_copied(rt: &impl Abort, bytes: &Bytes, given: &[u8]) -> Result<(), Fail> {
+/// Whether these bytes stay in their order where they are copied.
+fn is_copied(bytes: &Bytes, given: &[u8]) -> Result<bool, OutOfMemory> {
     let copied = Bytes::from_vec(bytes.copy()?.into_vec());
-    assert_eq!(rt; copied.items(), given);
-    Ok(())
+    Ok(copied.items() == given)
 }
 
 /// Whether the bytes are those given and 255 after them.
@@ -57,21 +66,24 @@ fn is_one_more(bytes: &[u8], given: &[u8]) -> bool {
     matches!(bytes.split_last(), Some((255, prefix)) if prefix == given)
 }
 
-/// These bytes stay in their order where one more is pushed after them.
-fn expect_pushed(rt: &impl Abort, mut bytes: Bytes, given: &[u8]) -> Result<(), Fail> {
+/// Whether these bytes stay in their order where one more is pushed after them.
+fn is_pushed(mut bytes: Bytes, given: &[u8]) -> Result<bool, OutOfMemory> {
     bytes.push(255)?;
-    assert!(rt; is_one_more(bytes.items(), given));
-    Ok(())
+    Ok(is_one_more(bytes.items(), given))
+}
+
+/// Whether these bytes stay so where they are copied, and where one more is pushed.
+fn are_kept(alloc: Global, given: &[u8]) -> Result<(bool, bool), OutOfMemory> {
+    let bytes = push_all(alloc, given)?;
+    let is_copied = is_copied(&bytes, given)?;
+    Ok((is_copied, is_pushed(bytes, given)?))
 }
 
 #[test]
 fn bytes_are_kept_in_their_order(rt: HostRuntime) -> Result<(), Fail> {
     let numbers = numbered();
     for length in [0, 1, 64, 65] {
-        let given = &numbers[..length];
-        let bytes = push_all(rt.alloc(), given)?;
-        expect_copied(&rt, &bytes, given)?;
-        expect_pushed(&rt, bytes, given)?;
+        assert_eq!(rt; are_kept(rt.alloc(), &numbers[..length])?, (true, true));
     }
     Ok(())
 }

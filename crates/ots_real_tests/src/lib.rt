@@ -3,6 +3,8 @@
 #![tactic(auto)]
 
 #[cfg(test)]
+mod callers;
+#[cfg(test)]
 mod cut_short;
 #[cfg(test)]
 mod failures;
@@ -12,6 +14,8 @@ mod fake_net;
 mod files;
 #[cfg(test)]
 mod finishing;
+#[cfg(test)]
+mod folder;
 #[cfg(test)]
 mod limits;
 #[cfg(test)]

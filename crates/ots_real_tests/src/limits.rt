@@ -1,118 +1,165 @@
 // The time limits of a link, and what finishing it does, by a clock and a network in memory.
 use super::fake_net::{FakeNet, Outside};
 use ots_io::{Accepter, Failed, Link, TcpAccepter};
+use std::process::Abort;
 use std::test::Fail;
 
-#[test]
-fn a_request_has_ten_seconds_from_its_first_read(rt: HostRuntime) -> Result<(), Fail> {
-    let outside = Outside::sending(4, 0);
-    let mut accepter = TcpAccepter::new(FakeNet { outside: &outside });
+/// What is tried over a link.
+#[derive(Clone, Copy)]
+enum Trial {
+    Request,
+    Retry,
+    Silence,
+    Reply,
+    MuchLeft,
+    SlowlyLeft,
+}
+
+/// A read of four bytes answers so.
+fn read<L: Link>(rt: &impl Abort, link: &mut L, answer: Result<usize, Failed>) {
+    assert_eq!(rt; link.read(&mut [0; 4]), answer);
+}
+
+/// A write of one byte answers so.
+fn write<L: Link>(rt: &impl Abort, link: &mut L, answer: Result<usize, Failed>) {
+    assert_eq!(rt; link.write(b"a"), answer);
+}
+
+/// Says that nothing more is written.
+fn finish<L: Link>(link: &mut L) {
+    link.finish();
+}
+
+/// So many timeouts were set.
+fn expect_timeouts(rt: &impl Abort, outside: &Outside, timeouts: u64) {
+    assert_eq!(rt; outside.timeouts(), timeouts);
+}
+
+/// The peer has given so many bytes.
+fn expect_given(rt: &impl Abort, outside: &Outside, given: u64) {
+    assert_eq!(rt; outside.given(), given);
+}
+
+/// So many milliseconds have passed.
+fn expect_now(rt: &impl Abort, outside: &Outside, now: u64) {
+    assert_eq!(rt; outside.now(), now);
+}
+
+fn request<L: Link>(rt: &impl Abort, outside: &Outside, link: &mut L) {
+    // What this process waits itself is in no limit.
+    outside.wait(60_000);
+    read(rt, link, Ok(4));
+    outside.wait(900);
+    read(rt, link, Ok(4));
+    expect_timeouts(rt, outside, 1);
+    outside.wait(200);
+    read(rt, link, Ok(4));
+    outside.wait(8_899);
+    read(rt, link, Ok(4));
+    // The timeout of the socket, a second, ends no call over a second late.
+    expect_timeouts(rt, outside, 1);
+    outside.wait(1);
+    read(rt, link, Err(Failed));
+    // The system isn't asked.
+    expect_given(rt, outside, 16);
+}
+
+fn retry<L: Link>(rt: &impl Abort, outside: &Outside, link: &mut L) {
+    read(rt, link, Ok(4));
+    expect_now(rt, outside, 9_000);
+    expect_timeouts(rt, outside, 1);
+    // What a finished link still reads waits by the same timeout.
+    finish(link);
+    expect_given(rt, outside, 4 + 8_192);
+    expect_timeouts(rt, outside, 1);
+}
+
+fn silence<L: Link>(rt: &impl Abort, outside: &Outside, link: &mut L) {
+    read(rt, link, Err(Failed));
+    expect_now(rt, outside, 10_000);
+    expect_timeouts(rt, outside, 1);
+}
+
+fn reply<L: Link>(rt: &impl Abort, outside: &Outside, link: &mut L) {
+    read(rt, link, Ok(4));
+    outside.wait(60_000);
+    write(rt, link, Ok(1));
+    expect_timeouts(rt, outside, 2);
+    outside.wait(9_999);
+    write(rt, link, Ok(1));
+    outside.wait(1);
+    read(rt, link, Err(Failed));
+    write(rt, link, Err(Failed));
+    // A link that failed is closed at once.
+    finish(link);
+    expect_given(rt, outside, 4);
+}
+
+fn much_left<L: Link>(rt: &impl Abort, outside: &Outside, link: &mut L) {
+    finish(link);
+    expect_given(rt, outside, 8_192);
+    // It is closed, and finishing it again does nothing.
+    read(rt, link, Err(Failed));
+    write(rt, link, Err(Failed));
+    finish(link);
+    expect_given(rt, outside, 8_192);
+}
+
+fn slowly_left<L: Link>(rt: &impl Abort, outside: &Outside, link: &mut L) {
+    finish(link);
+    expect_given(rt, outside, 4);
+    expect_now(rt, outside, 1_200);
+}
+
+/// Tries this over a link.
+fn try_link<L: Link>(rt: &impl Abort, outside: &Outside, link: &mut L, trial: Trial) {
+    match trial {
+        Trial::Request => request(rt, outside, link),
+        Trial::Retry => retry(rt, outside, link),
+        Trial::Silence => silence(rt, outside, link),
+        Trial::Reply => reply(rt, outside, link),
+        Trial::MuchLeft => much_left(rt, outside, link),
+        Trial::SlowlyLeft => slowly_left(rt, outside, link),
+    }
+}
+
+/// Tries this over the first link of an accepter with such a network.
+fn try_over(rt: &impl Abort, outside: &Outside, trial: Trial) -> Result<(), Fail> {
+    let mut accepter = TcpAccepter::new(FakeNet { outside });
     assert_eq!(rt; accepter.listen(1), Ok(()));
     let Ok(Some(mut link)) = accepter.accept() else {
         return Err(Fail::new("no connection"));
     };
-    // What this process waits itself is in no limit.
-    outside.wait(60_000);
-    assert_eq!(rt; link.read(&mut [0; 4]), Ok(4));
-    outside.wait(900);
-    assert_eq!(rt; link.read(&mut [0; 4]), Ok(4));
-    assert_eq!(rt; outside.timeouts(), 1);
-    outside.wait(200);
-    assert_eq!(rt; link.read(&mut [0; 4]), Ok(4));
-    outside.wait(8_899);
-    assert_eq!(rt; link.read(&mut [0; 4]), Ok(4));
-    // The timeout of the socket, a second, ends no call over a second late.
-    assert_eq!(rt; outside.timeouts(), 1);
-    outside.wait(1);
-    assert_eq!(rt; link.read(&mut [0; 4]), Err(Failed));
-    // The system isn't asked.
-    assert_eq!(rt; outside.given(), 16);
+    try_link(rt, outside, &mut link, trial);
     Ok(())
+}
+
+#[test]
+fn a_request_has_ten_seconds_from_its_first_read(rt: HostRuntime) -> Result<(), Fail> {
+    try_over(&rt, &Outside::sending(4, 0), Trial::Request)
 }
 
 #[test]
 fn a_read_that_waited_a_second_is_made_again(rt: HostRuntime) -> Result<(), Fail> {
-    let outside = Outside::silent(9, 4, 0);
-    let mut accepter = TcpAccepter::new(FakeNet { outside: &outside });
-    assert_eq!(rt; accepter.listen(1), Ok(()));
-    let Ok(Some(mut link)) = accepter.accept() else {
-        return Err(Fail::new("no connection"));
-    };
-    assert_eq!(rt; link.read(&mut [0; 4]), Ok(4));
-    assert_eq!(rt; outside.now(), 9_000);
-    assert_eq!(rt; outside.timeouts(), 1);
-    // What a finished link still reads waits by the same timeout.
-    link.finish();
-    assert_eq!(rt; outside.given(), 4 + 8_192);
-    assert_eq!(rt; outside.timeouts(), 1);
-    Ok(())
+    try_over(&rt, &Outside::silent(9, 4, 0), Trial::Retry)
 }
 
 #[test]
 fn a_peer_that_is_silent_for_ten_seconds_is_cut_off(rt: HostRuntime) -> Result<(), Fail> {
-    let outside = Outside::silent(11, 4, 0);
-    let mut accepter = TcpAccepter::new(FakeNet { outside: &outside });
-    assert_eq!(rt; accepter.listen(1), Ok(()));
-    let Ok(Some(mut link)) = accepter.accept() else {
-        return Err(Fail::new("no connection"));
-    };
-    assert_eq!(rt; link.read(&mut [0; 4]), Err(Failed));
-    assert_eq!(rt; outside.now(), 10_000);
-    assert_eq!(rt; outside.timeouts(), 1);
-    Ok(())
+    try_over(&rt, &Outside::silent(11, 4, 0), Trial::Silence)
 }
 
 #[test]
 fn a_reply_has_ten_seconds_from_its_first_write(rt: HostRuntime) -> Result<(), Fail> {
-    let outside = Outside::sending(4, 0);
-    let mut accepter = TcpAccepter::new(FakeNet { outside: &outside });
-    assert_eq!(rt; accepter.listen(1), Ok(()));
-    let Ok(Some(mut link)) = accepter.accept() else {
-        return Err(Fail::new("no connection"));
-    };
-    assert_eq!(rt; link.read(&mut [0; 4]), Ok(4));
-    outside.wait(60_000);
-    assert_eq!(rt; link.write(b"a"), Ok(1));
-    assert_eq!(rt; outside.timeouts(), 2);
-    outside.wait(9_999);
-    assert_eq!(rt; link.write(b"a"), Ok(1));
-    outside.wait(1);
-    assert_eq!(rt; link.read(&mut [0; 4]), Err(Failed));
-    assert_eq!(rt; link.write(b"a"), Err(Failed));
-    // A link that failed is closed at once.
-    link.finish();
-    assert_eq!(rt; outside.given(), 4);
-    Ok(())
+    try_over(&rt, &Outside::sending(4, 0), Trial::Reply)
 }
 
 #[test]
 fn a_finished_link_reads_eight_kib_at_most(rt: HostRuntime) -> Result<(), Fail> {
-    let outside = Outside::sending(1_000, 0);
-    let mut accepter = TcpAccepter::new(FakeNet { outside: &outside });
-    assert_eq!(rt; accepter.listen(1), Ok(()));
-    let Ok(Some(mut link)) = accepter.accept() else {
-        return Err(Fail::new("no connection"));
-    };
-    link.finish();
-    assert_eq!(rt; outside.given(), 8_192);
-    // It is closed, and finishing it again does nothing.
-    assert_eq!(rt; link.read(&mut [0; 4]), Err(Failed));
-    assert_eq!(rt; link.write(b"a"), Err(Failed));
-    link.finish();
-    assert_eq!(rt; outside.given(), 8_192);
-    Ok(())
+    try_over(&rt, &Outside::sending(1_000, 0), Trial::MuchLeft)
 }
 
 #[test]
 fn a_finished_link_reads_for_a_second_at_most(rt: HostRuntime) -> Result<(), Fail> {
-    let outside = Outside::sending(1, 300);
-    let mut accepter = TcpAccepter::new(FakeNet { outside: &outside });
-    assert_eq!(rt; accepter.listen(1), Ok(()));
-    let Ok(Some(mut link)) = accepter.accept() else {
-        return Err(Fail::new("no connection"));
-    };
-    link.finish();
-    assert_eq!(rt; outside.given(), 4);
-    assert_eq!(rt; outside.now(), 1_200);
-    Ok(())
+    try_over(&rt, &Outside::sending(1, 300), Trial::SlowlyLeft)
 }

@@ -1,10 +1,30 @@
 // Both ends of a connection over loopback, in one process.
-use ots_io::{
-    Accepter, DialedLink, Dialer, Failed, Link, LinkSink, TcpAccepter, TcpDialer, write_all,
-};
+use super::callers::{Caller, begin, gives_next, takes};
+use super::finishing::{sends_on, unread};
+use ots_io::{Accepter, Failed, Link, TcpAccepter};
+use std::process::Abort;
 use std::test::Fail;
 use std::thread;
+use std::thread::Threads;
 use std::time::{Duration, Instant};
+
+/// What is tried over a connection that a caller begins.
+#[derive(Clone, Copy)]
+pub enum Trial {
+    BothWays,
+    Silence,
+    Slowness,
+    LateReply,
+    Unread,
+    SendsOn,
+}
+
+/// The time limits of a request and a reply, in milliseconds.
+#[derive(Clone, Copy)]
+pub struct Limits {
+    pub request: u64,
+    pub reply: u64,
+}
 
 /// Workers share an accepter, and take its links to other threads.
 fn is_sent<T: Send>(_value: &T) {}
@@ -28,25 +48,9 @@ pub fn next_link<A: Accepter>(accepter: &mut A) -> Result<A::Link, Fail> {
     }
 }
 
-/// Whether a link gives these bytes next.
-fn gives_next<L: Link>(link: &mut L, bytes: &[u8]) -> bool {
-    let mut buf = [0];
-    for byte in bytes {
-        if link.read(&mut buf) != Ok(1) || buf[0] != *byte {
-            return false;
-        }
-    }
-    true
-}
-
-/// Whether a link gives exactly these bytes, and then its end.
-fn gives<L: Link>(link: &mut L, bytes: &[u8]) -> bool {
-    gives_next(link, bytes) && link.read(&mut [0]) == Ok(0)
-}
-
-/// Whether a link takes all of these bytes.
-pub fn takes<L: Link>(link: &mut L, bytes: &[u8]) -> bool {
-    write_all(&mut LinkSink::new(link), bytes).is_ok()
+/// Says that nothing more is written.
+pub fn finish<L: Link>(link: &mut L) {
+    link.finish();
 }
 
 /// Whether a link gives `abc`, and takes `defgh` in reply.
@@ -56,15 +60,25 @@ fn replies<L: Link>(link: &mut L) -> bool {
     replied
 }
 
+/// Whether a read of a link fails.
+fn fails_to_read<L: Link>(link: &mut L) -> bool {
+    link.read(&mut [0; 4]) == Err(Failed)
+}
+
+/// Whether a write to a link fails.
+fn fails_to_write<L: Link>(link: &mut L, bytes: &[u8]) -> bool {
+    link.write(bytes) == Err(Failed)
+}
+
 /// Whether a read and a write of a link fail.
 pub fn is_cut_off<L: Link>(link: &mut L) -> bool {
-    link.read(&mut [0; 4]) == Err(Failed) && link.write(b"a") == Err(Failed)
+    fails_to_read(link) && fails_to_write(link, b"a")
 }
 
 /// How long a read of a link takes that fails; `None` where it doesn't.
 fn time_to_fault<L: Link>(rt: &HostRuntime, link: &mut L) -> Result<Option<Duration>, Fail> {
     let began = Instant::now(rt)?;
-    let failed = link.read(&mut [0; 4]) == Err(Failed);
+    let failed = fails_to_read(link);
     let passed = began.elapsed(rt)?;
     Ok(if failed { Some(passed) } else { None })
 }
@@ -79,110 +93,142 @@ fn given_before_fault<L: Link>(link: &mut L, most: u64) -> Option<u64> {
     None
 }
 
-/// A caller's dialer. Its time limit is longer than any test, and ends one that would hang.
-pub fn make_dialer(rt: &HostRuntime) -> TcpDialer<&HostRuntime> {
-    TcpDialer::with_limit(rt, rt.alloc(), Duration::from_secs(10))
-}
-
-/// A caller that sends a text, and is to get this reply and then the end.
-fn asks(rt: &HostRuntime, port: u16, text: &[u8], reply: &[u8]) -> bool {
-    let mut dialer = make_dialer(rt);
-    let Ok(slot) = dialer.connect("127.0.0.1", port) else {
-        return false;
-    };
-    let mut link = DialedLink::new(&mut dialer, slot);
-    let answered = takes(&mut link, text) && gives(&mut link, reply);
-    dialer.close(slot);
-    answered
-}
-
-/// Sends a byte now and then, until that fails: whether it did.
-fn drips_along<L: Link>(rt: &HostRuntime, link: &mut L, most: u64) -> bool {
-    for _ in 0..most {
-        thread::sleep(rt, Duration::from_millis(20));
-        if link.write(b"x") == Err(Failed) {
-            return true;
-        }
-    }
-    false
-}
-
-/// A caller that sends a byte now and then, until it is cut off.
-pub fn drips(rt: &HostRuntime, port: u16, most: u64) -> bool {
-    let mut dialer = make_dialer(rt);
-    let Ok(slot) = dialer.connect("127.0.0.1", port) else {
-        return false;
-    };
-    let cut_off = drips_along(rt, &mut DialedLink::new(&mut dialer, slot), most);
-    dialer.close(slot);
-    cut_off
-}
-
-#[test]
-fn bytes_go_both_ways(rt: HostRuntime) -> Result<(), Fail> {
-    let mut accepter = TcpAccepter::new(&rt);
-    let port = listen_from(&mut accepter, 47_200)?;
-    let caller = thread::spawn(&rt, move || asks(&rt, port, b"abc", b"defgh"))?;
-    let mut link = next_link(&mut accepter)?;
-    is_sent(&accepter);
+fn both_ways<A: Accepter + Send, R: Threads + Abort>(
+    rt: &R,
+    host: HostRuntime,
+    accepter: &mut A,
+) -> Result<(), Fail> {
+    let port = listen_from(accepter, 47_200)?;
+    let caller = begin(rt, host, port, Caller::Asks)?;
+    let mut link = next_link(accepter)?;
+    is_sent(accepter);
     is_sent(&link);
     assert!(rt; replies(&mut link));
     // The caller met the end, and the link is closed while it is still held.
-    assert!(rt; caller.join(&rt));
+    assert!(rt; caller.join(rt));
     assert!(rt; is_cut_off(&mut link));
     accepter.give_back(link);
     assert_eq!(rt; accepter.accepted(), 1);
     Ok(())
 }
 
-#[test]
-fn a_silent_peer_is_cut_off(rt: HostRuntime) -> Result<(), Fail> {
-    let limit = Duration::from_millis(300);
-    let mut accepter = TcpAccepter::with_limits(&rt, limit, limit);
-    let port = listen_from(&mut accepter, 47_400)?;
-    let caller = thread::spawn(&rt, move || asks(&rt, port, b"", b""))?;
-    let mut link = next_link(&mut accepter)?;
+fn silence<A: Accepter, R: Threads + Abort>(
+    rt: &R,
+    host: HostRuntime,
+    accepter: &mut A,
+) -> Result<(), Fail> {
+    let port = listen_from(accepter, 47_400)?;
+    let caller = begin(rt, host, port, Caller::IsSilent)?;
+    let mut link = next_link(accepter)?;
     // What passes before the first read is no part of the request's time.
-    thread::sleep(&rt, Duration::from_millis(400));
-    let Some(passed) = time_to_fault(&rt, &mut link)? else {
+    thread::sleep(&host, Duration::from_millis(400));
+    let passed = time_to_fault(&host, &mut link);
+    // Nothing is left of it: the next read fails at once.
+    assert!(rt; fails_to_read(&mut link));
+    accepter.give_back(link);
+    let Some(passed) = passed? else {
         return Err(Fail::new("the peer was not cut off"));
     };
     assert!(rt; passed > Duration::from_millis(250) && passed < Duration::from_secs(20));
-    // Nothing is left of it: the next read fails at once.
-    assert_eq!(rt; link.read(&mut [0; 4]), Err(Failed));
-    accepter.give_back(link);
-    assert!(rt; caller.join(&rt));
+    assert!(rt; caller.join(rt));
     Ok(())
+}
+
+fn slowness<A: Accepter, R: Threads + Abort>(
+    rt: &R,
+    host: HostRuntime,
+    accepter: &mut A,
+) -> Result<(), Fail> {
+    let port = listen_from(accepter, 47_600)?;
+    let caller = begin(rt, host, port, Caller::Drips(100))?;
+    let mut link = next_link(accepter)?;
+    assert!(rt; given_before_fault(&mut link, 100).is_some());
+    // It failed, so that it is closed at once.
+    finish(&mut link);
+    assert!(rt; caller.join(rt));
+    accepter.give_back(link);
+    Ok(())
+}
+
+fn late_reply<A: Accepter, R: Threads + Abort>(
+    rt: &R,
+    host: HostRuntime,
+    accepter: &mut A,
+) -> Result<(), Fail> {
+    let port = listen_from(accepter, 47_800)?;
+    let caller = begin(rt, host, port, Caller::Asks)?;
+    let mut link = next_link(accepter)?;
+    thread::sleep(&host, Duration::from_millis(400));
+    assert!(rt; gives_next(&mut link, b"abc") && takes(&mut link, b"defgh"));
+    thread::sleep(&host, Duration::from_millis(400));
+    assert!(rt; fails_to_write(&mut link, b"i"));
+    finish(&mut link);
+    assert!(rt; caller.join(rt));
+    accepter.give_back(link);
+    Ok(())
+}
+
+/// Tries this over the connection that a caller begins.
+fn try_accepter<A: Accepter + Send, R: Threads + Abort>(
+    rt: &R,
+    host: HostRuntime,
+    accepter: &mut A,
+    trial: Trial,
+) -> Result<(), Fail> {
+    match trial {
+        Trial::BothWays => both_ways(rt, host, accepter),
+        Trial::Silence => silence(rt, host, accepter),
+        Trial::Slowness => slowness(rt, host, accepter),
+        Trial::LateReply => late_reply(rt, host, accepter),
+        Trial::Unread => unread(rt, host, accepter),
+        Trial::SendsOn => sends_on(rt, host, accepter),
+    }
+}
+
+/// The same over loopback, with these limits or those of the system.
+pub fn try_over_tcp<R: Threads + Abort>(
+    rt: &R,
+    host: HostRuntime,
+    limits: Option<Limits>,
+    trial: Trial,
+) -> Result<(), Fail> {
+    let mut accepter = match limits {
+        Some(limits) => {
+            let request = Duration::from_millis(limits.request);
+            let reply = Duration::from_millis(limits.reply);
+            TcpAccepter::with_limits(&host, request, reply)
+        }
+        None => TcpAccepter::new(&host),
+    };
+    try_accepter(rt, host, &mut accepter, trial)
+}
+
+/// Limits that a test waits for.
+const SHORT: Limits = Limits {
+    request: 300,
+    reply: 300,
+};
+
+#[test]
+fn bytes_go_both_ways(rt: HostRuntime) -> Result<(), Fail> {
+    try_over_tcp(&rt, rt, None, Trial::BothWays)
+}
+
+#[test]
+fn a_silent_peer_is_cut_off(rt: HostRuntime) -> Result<(), Fail> {
+    try_over_tcp(&rt, rt, Some(SHORT), Trial::Silence)
 }
 
 #[test]
 fn a_slow_peer_is_cut_off(rt: HostRuntime) -> Result<(), Fail> {
-    let limit = Duration::from_millis(300);
-    let mut accepter = TcpAccepter::with_limits(&rt, limit, limit);
-    let port = listen_from(&mut accepter, 47_600)?;
-    let caller = thread::spawn(&rt, move || drips(&rt, port, 100))?;
-    let mut link = next_link(&mut accepter)?;
-    assert!(rt; given_before_fault(&mut link, 100).is_some());
-    // It failed, so that it is closed at once.
-    link.finish();
-    assert!(rt; caller.join(&rt));
-    accepter.give_back(link);
-    Ok(())
+    try_over_tcp(&rt, rt, Some(SHORT), Trial::Slowness)
 }
 
 #[test]
 fn the_time_of_a_reply_begins_with_its_first_write(rt: HostRuntime) -> Result<(), Fail> {
-    let limit = Duration::from_millis(300);
-    let mut accepter = TcpAccepter::with_limits(&rt, Duration::from_secs(10), limit);
-    let port = listen_from(&mut accepter, 47_800)?;
-    let caller = thread::spawn(&rt, move || asks(&rt, port, b"abc", b"defgh"))?;
-    let mut link = next_link(&mut accepter)?;
-    thread::sleep(&rt, Duration::from_millis(400));
-    assert!(rt; gives_next(&mut link, b"abc") && takes(&mut link, b"defgh"));
-    thread::sleep(&rt, Duration::from_millis(400));
-    assert_eq!(rt; link.write(b"i"), Err(Failed));
-    link.finish();
-    assert!(rt; caller.join(&rt));
-    accepter.give_back(link);
-    Ok(())
+    let limits = Limits {
+        request: 10_000,
+        reply: 300,
+    };
+    try_over_tcp(&rt, rt, Some(limits), Trial::LateReply)
 }

@@ -3,10 +3,11 @@
 // gate, a sync. An image at each moment is opened and asked for both commitments.
 use crate::calendar_runs::{
     COMMITMENT, COMPLETE, DIGEST, JOURNAL, LATER, LATER_BLOCK, LATER_COMPLETE, LATER_TIP_ROOT,
-    Memory, NONCE, SECOND, anchor_in, block_of, book_of, bytes_of, close, counts_of, disk_of,
-    disk_under, is_complete, is_pending, is_tip, is_unknown, let_go, put,
+    NONCE, SECOND, block_of, book_on, bytes_of, close, counts_of, disk_of, expect_anchor,
+    expect_close, expect_tip, handed_back, is_complete, is_pending, is_tip, is_unknown, put,
 };
-use ots_disk::{Choice, MemoryDisk};
+use ots_calendar::Book;
+use ots_disk::{Choice, Disk, MemoryDisk};
 use std::alloc::Global;
 use std::process::Abort;
 use std::test::Fail;
@@ -20,53 +21,89 @@ enum Answered {
 }
 
 /// Closes the second round, and gives and anchors its tip.
-fn play(rt: &impl Abort, alloc: Global, book: &mut Memory) -> Result<(), Fail> {
+fn play<D: Disk>(rt: &impl Abort, alloc: Global, book: &mut Book<D>) -> Result<(), Fail> {
     put(book, &DIGEST, NONCE)?;
-    assert_eq!(rt; close(book, SECOND + 1)?, Ok(Some(1)));
-    assert!(rt; is_tip(alloc, book, 1, 1, LATER_TIP_ROOT)?);
+    expect_close(rt, book, SECOND + 1, Ok(Some(1)))?;
+    expect_tip(rt, alloc, book, 1, LATER_TIP_ROOT)?;
     let block = block_of(alloc, LATER_BLOCK)?;
-    assert_eq!(rt; anchor_in(book, &block, 8)?, Ok([1, 1, 8]));
-    Ok(())
+    expect_anchor(rt, book, &block, 8, Ok([1, 1, 8]))
 }
 
-/// The book of these bytes.
-fn reopened(alloc: Global, bytes: &[u8]) -> Result<Memory, Fail> {
-    let disk = disk_of(alloc, bytes, &[])?;
-    book_of(alloc, disk)
-}
-
-/// The disk of such a book, with all its calls.
-fn made(rt: &impl Abort, alloc: Global) -> Result<MemoryDisk, Fail> {
-    let bytes = bytes_of(alloc, JOURNAL)?;
-    let mut book = reopened(alloc, &bytes)?;
+/// The same with the book on a disk, which is handed back.
+fn play_on<D: Disk + Drop>(rt: &impl Abort, alloc: Global, disk: D) -> Result<D, Fail> {
+    let mut book = book_on(alloc, disk)?;
     let ended = play(rt, alloc, &mut book);
-    let disk = disk_under(book);
-    ended?;
-    Ok(disk)
+    handed_back(ended, book)
 }
 
-/// An image of a crash.
-fn image_at(
+/// The images that crashes may leave of such a book: at each moment one for each of the choices.
+#[derive(Drop)]
+struct Images {
+    images: Vec<Vec<u8>>,
+    /// How many calls were made of the disk. After them is the last moment.
+    calls: usize,
+}
+
+impl Images {
+    /// The image at a moment, the first of which is 1, by the place of its choice.
+    fn at(&self, moment: usize, choice: usize) -> Result<&[u8], Fail> {
+        let place = moment
+            .saturating_sub(1)
+            .saturating_mul(CHOICES.len())
+            .saturating_add(choice);
+        match self.images.get(place) {
+            Some(image) => Ok(image.as_slice()),
+            None => Err(Fail::from("no such moment")),
+        }
+    }
+}
+
+/// The image of a disk at a moment.
+fn image_of(
     alloc: Global,
-    made: &MemoryDisk,
+    disk: &MemoryDisk,
     moment: u64,
     choice: Choice,
 ) -> Result<Vec<u8>, Fail> {
-    if moment < 1 || moment > made.calls().len() as u64 + 1 {
+    if moment < 1 || moment > disk.calls().len() as u64 + 1 {
         return Err(Fail::from("no such moment"));
     }
-    let image = made.image(moment, choice)?;
+    let image = disk.image(moment, choice)?;
     Ok(image.items().to_vec(alloc)?)
 }
 
-/// The book of an image.
-fn left(alloc: Global, made: &MemoryDisk, moment: u64, choice: Choice) -> Result<Memory, Fail> {
-    let image = image_at(alloc, made, moment, choice)?;
-    reopened(alloc, &image)
+/// Appends the images of a disk at a moment.
+fn push_images(
+    alloc: Global,
+    disk: &MemoryDisk,
+    moment: u64,
+    images: &mut Vec<Vec<u8>>,
+) -> Result<(), Fail> {
+    for (choice, _) in CHOICES {
+        images.push(image_of(alloc, disk, moment, choice)?)?;
+    }
+    Ok(())
+}
+
+/// The images of a disk at each moment.
+fn images_of(alloc: Global, disk: &MemoryDisk) -> Result<Images, Fail> {
+    let mut images = Vec::new(alloc);
+    let calls = disk.calls().len();
+    for moment in 1..=(calls as u64).saturating_add(1) {
+        push_images(alloc, disk, moment, &mut images)?;
+    }
+    Ok(Images { images, calls })
+}
+
+/// The images of a book of one commitment and its anchor that makes all these calls.
+fn made(rt: &impl Abort, alloc: Global) -> Result<Images, Fail> {
+    let bytes = bytes_of(alloc, JOURNAL)?;
+    let disk = play_on(rt, alloc, disk_of(alloc, &bytes, &[])?)?;
+    images_of(alloc, &disk)
 }
 
 /// What a book answers of the second commitment, where it answers the first by its anchor.
-fn answer_of(alloc: Global, book: &Memory) -> Result<Answered, Fail> {
+fn answer_of<D: Disk>(alloc: Global, book: &Book<D>) -> Result<Answered, Fail> {
     if !is_complete(alloc, book, COMMITMENT, COMPLETE)? {
         return Err(Fail::from("the first is lost"));
     }
@@ -83,7 +120,7 @@ fn answer_of(alloc: Global, book: &Memory) -> Result<Answered, Fail> {
 }
 
 /// What a book answers of the second commitment, once it is shown that it goes on: it closes a round.
-fn found(alloc: Global, book: &mut Memory) -> Result<Answered, Fail> {
+fn found<D: Disk>(alloc: Global, book: &mut Book<D>) -> Result<Answered, Fail> {
     let answer = answer_of(alloc, book)?;
     put(book, &DIGEST, NONCE)?;
     let next = counts_of(book).commits;
@@ -93,17 +130,29 @@ fn found(alloc: Global, book: &mut Memory) -> Result<Answered, Fail> {
     Ok(answer)
 }
 
-/// The same of the book of an image.
-fn found_at(
-    alloc: Global,
-    made: &MemoryDisk,
-    moment: u64,
-    choice: Choice,
-) -> Result<Answered, Fail> {
-    let mut book = left(alloc, made, moment, choice)?;
-    let answer = found(alloc, &mut book);
-    let_go(book);
-    answer
+/// Whether a book gives the tip over the second commitment, and has it once.
+fn has_the_tip<D: Disk>(alloc: Global, book: &mut Book<D>) -> Result<bool, Fail> {
+    Ok(is_tip(alloc, book, 1, 1, LATER_TIP_ROOT)? && counts_of(book).tips == 2)
+}
+
+/// What the book on a disk answers of the second commitment.
+fn found_on<D: Disk + Drop>(alloc: Global, disk: D) -> Result<Answered, Fail> {
+    found(alloc, &mut book_on(alloc, disk)?)
+}
+
+/// Whether the book on a disk has the tip over the second commitment.
+fn has_it_on<D: Disk + Drop>(alloc: Global, disk: D) -> Result<bool, Fail> {
+    has_the_tip(alloc, &mut book_on(alloc, disk)?)
+}
+
+/// What the book of an image answers of the second commitment.
+fn found_in(alloc: Global, image: &[u8]) -> Result<Answered, Fail> {
+    found_on(alloc, disk_of(alloc, image, &[])?)
+}
+
+/// Whether the book of an image has the tip over the second commitment.
+fn has_it_in(alloc: Global, image: &[u8]) -> Result<bool, Fail> {
+    has_it_on(alloc, disk_of(alloc, image, &[])?)
 }
 
 /// What each image at some moments is to answer: where the gate is closed, and where it is open.
@@ -123,21 +172,29 @@ const CHOICES: [(Choice, bool); 5] = [
     (Choice::Fill(0xa5), true),
 ];
 
+/// The book of an image at this moment answers so.
+fn expect_found(
+    rt: &impl Abort,
+    alloc: Global,
+    image: &[u8],
+    wanted: Answered,
+    moment: usize,
+) -> Result<(), Fail> {
+    assert_eq!(rt; found_in(alloc, image)?, wanted, "moment {moment}");
+    Ok(())
+}
+
 /// Each image at this moment has its answer.
 fn leave(
     rt: &impl Abort,
     alloc: Global,
-    made: &MemoryDisk,
-    moment: u64,
+    made: &Images,
+    moment: usize,
     answers: Answers,
 ) -> Result<(), Fail> {
-    for (choice, open) in CHOICES {
+    for (choice, (_, open)) in CHOICES.into_iter().enumerate() {
         let wanted = if open { answers.open } else { answers.closed };
-        assert_eq!(rt;
-            found_at(alloc, made, moment, choice)?,
-            wanted,
-            "moment {moment}"
-        );
+        expect_found(rt, alloc, made.at(moment, choice)?, wanted, moment)?;
     }
     Ok(())
 }
@@ -151,7 +208,7 @@ fn both(answer: Answered) -> Answers {
 }
 
 /// The moments up to the first one after `close`.
-fn close_moments(rt: &impl Abort, alloc: Global, made: &MemoryDisk) -> Result<(), Fail> {
+fn close_moments(rt: &impl Abort, alloc: Global, made: &Images) -> Result<(), Fail> {
     let stored = Answers {
         closed: Answered::Unknown,
         open: Answered::Pending,
@@ -170,25 +227,13 @@ fn a_crash_while_a_round_is_closed(rt: HostRuntime) -> Result<(), Fail> {
     close_moments(&rt, rt.alloc(), &made)
 }
 
-/// Whether a book gives the tip over the second commitment, and has it once.
-fn has_the_tip(alloc: Global, book: &mut Memory) -> Result<bool, Fail> {
-    Ok(is_tip(alloc, book, 1, 1, LATER_TIP_ROOT)? && counts_of(book).tips == 2)
-}
-
-/// The same of the book of an image.
-fn has_it_at(alloc: Global, made: &MemoryDisk, moment: u64, choice: Choice) -> Result<bool, Fail> {
-    let mut book = left(alloc, made, moment, choice)?;
-    let has = has_the_tip(alloc, &mut book);
-    let_go(book);
-    has
-}
-
 /// The moments from the first in `tip` to the first one after it.
-fn tip_moments(rt: &impl Abort, alloc: Global, made: &MemoryDisk) -> Result<(), Fail> {
+fn tip_moments(rt: &impl Abort, alloc: Global, made: &Images) -> Result<(), Fail> {
     for moment in 8..13 {
         leave(rt, alloc, made, moment, both(Answered::Pending))?;
-        for (choice, _) in CHOICES {
-            assert!(rt; has_it_at(alloc, made, moment, choice)?, "moment {moment}");
+        for choice in 0..CHOICES.len() {
+            let image = made.at(moment, choice)?;
+            assert!(rt; has_it_in(alloc, image)?, "moment {moment}");
         }
     }
     Ok(())
@@ -201,7 +246,7 @@ fn a_crash_while_a_tip_is_stored(rt: HostRuntime) -> Result<(), Fail> {
 }
 
 /// The moments from the first in `anchor` to now.
-fn anchor_moments(rt: &impl Abort, alloc: Global, made: &MemoryDisk) -> Result<(), Fail> {
+fn anchor_moments(rt: &impl Abort, alloc: Global, made: &Images) -> Result<(), Fail> {
     let stored = Answers {
         closed: Answered::Pending,
         open: Answered::Complete,
@@ -211,7 +256,7 @@ fn anchor_moments(rt: &impl Abort, alloc: Global, made: &MemoryDisk) -> Result<(
     leave(rt, alloc, made, 14, stored)?;
     leave(rt, alloc, made, 15, stored)?;
     leave(rt, alloc, made, 16, both(Answered::Complete))?;
-    assert_eq!(rt; made.calls().len(), 15);
+    assert_eq!(rt; made.calls, 15);
     Ok(())
 }
 

@@ -1,11 +1,11 @@
-// Books in memory.
+// Books on any disk, and disks in memory.
 ghost use Rattle.std.specs.Prelude.{◌≡◌, true, IfOk};
 
 use hex::decode;
 use ots_attest::Uri;
 use ots_block::Block;
 use ots_calendar::{Book, Key};
-use ots_disk::{DiskRoom, MemoryDisk};
+use ots_disk::{Disk, DiskRoom, MemoryDisk};
 use ots_journal::Journal;
 use ots_store::Store;
 use std::alloc::Global;
@@ -18,9 +18,6 @@ const ROOM: DiskRoom = DiskRoom {
     write: 300,
     file: 4000,
 };
-
-/// A book in memory.
-pub type Memory = Book<MemoryDisk>;
 
 /// The bytes that these digits write.
 pub fn bytes_of(alloc: Global, digits: &str) -> Result<Vec<u8>, Fail> {
@@ -52,8 +49,13 @@ pub fn disk_of(alloc: Global, bytes: &[u8], failing: &[u64]) -> Result<MemoryDis
     Ok(MemoryDisk::new(alloc, bytes, ROOM, failing)?)
 }
 
-/// Its journal.
-fn journal_of(alloc: Global, disk: MemoryDisk) -> Result<Journal<MemoryDisk>, Fail>
+/// The disk of a book with no record, of which these calls fail. To open it takes four calls.
+pub fn new_disk(alloc: Global, failing: &[u64]) -> Result<MemoryDisk, Fail> {
+    disk_of(alloc, &[], failing)
+}
+
+/// The journal on a disk.
+fn journal_on<D: Disk + Drop>(alloc: Global, disk: D) -> Result<Journal<D>, Fail>
     ensures { IfOk result (λ j. j.is_sure ≡ true) }
 {
     match Journal::open(alloc, disk, 4000) {
@@ -63,24 +65,26 @@ fn journal_of(alloc: Global, disk: MemoryDisk) -> Result<Journal<MemoryDisk>, Fa
 }
 
 /// Its store.
-fn store_of(alloc: Global, disk: MemoryDisk) -> Result<Store<MemoryDisk>, Fail>
+fn store_on<D: Disk + Drop>(alloc: Global, disk: D) -> Result<Store<D>, Fail>
     ensures { IfOk result (λ s. s.journal.is_sure ≡ true) }
 {
-    match Store::open(alloc, journal_of(alloc, disk)?) {
+    match Store::open(alloc, journal_on(alloc, disk)?) {
         Ok(store) => Ok(store),
         Err(_) => Err(Fail::from("no store")),
     }
 }
 
 /// The book on a disk.
-pub fn book_of(alloc: Global, disk: MemoryDisk) -> Result<Memory, Fail> {
-    match Book::open(alloc, store_of(alloc, disk)?) {
+pub fn book_on<D: Disk + Drop>(alloc: Global, disk: D) -> Result<Book<D>, Fail> {
+    match Book::open(alloc, store_on(alloc, disk)?) {
         Ok(book) => Ok(book),
         Err(_) => Err(Fail::from("no book")),
     }
 }
 
-/// A book with no record, on a disk of which these calls fail. To open it takes four calls.
-pub fn new_book(alloc: Global, failing: &[u64]) -> Result<Memory, Fail> {
-    book_of(alloc, disk_of(alloc, &[], failing)?)
+/// The disk of a book that came to its end.
+pub fn handed_back<D: Disk + Drop>(ended: Result<(), Fail>, book: Book<D>) -> Result<D, Fail> {
+    let disk = book.into_disk();
+    ended?;
+    Ok(disk)
 }

@@ -1,9 +1,8 @@
 // Calls of a book, one each.
-use crate::calendar_runs::books::{Memory, is_written, key, uri};
-use hex::decode;
+use crate::calendar_runs::books::{is_written, key, uri};
 use ots_block::Block;
-use ots_calendar::{AnchorError, Leaf, PutError, Taken, Ticket, TipError};
-use ots_disk::MemoryDisk;
+use ots_calendar::{AnchorError, Book, Leaf, PutError, Taken, Ticket, TipError};
+use ots_disk::{Disk, MemoryDisk};
 use ots_journal::AppendError;
 use ots_store::Tip;
 use std::alloc::Global;
@@ -30,7 +29,7 @@ pub struct Counts {
 }
 
 /// How many of each a book has.
-pub fn counts_of(book: &Memory) -> Counts {
+pub fn counts_of<D: Disk>(book: &Book<D>) -> Counts {
     let store = book.store();
     Counts {
         commits: store.commits(),
@@ -41,54 +40,44 @@ pub fn counts_of(book: &Memory) -> Counts {
     }
 }
 
-/// The disk under a book.
-pub fn disk_under(book: Memory) -> MemoryDisk {
-    book.into_disk()
-}
-
-/// How many calls were made of the disk under a book.
-pub fn calls_under(book: Memory) -> usize {
-    let disk = book.into_disk();
+/// How many calls were made of a disk.
+pub fn calls_of(disk: &MemoryDisk) -> usize {
     disk.calls().len()
 }
 
-/// Whether the disk under a book holds these bytes, in hexadecimal.
-pub fn is_left(alloc: Global, book: Memory, digits: &str) -> bool {
-    let disk = book.into_disk();
-    match decode(alloc, digits) {
-        Ok(bytes) => bytes.as_slice() == disk.bytes(),
-        Err(_) => false,
-    }
+/// Whether a disk holds these bytes, in hexadecimal.
+pub fn is_left(alloc: Global, disk: &MemoryDisk, digits: &str) -> Result<bool, Fail> {
+    is_written(alloc, disk.bytes(), digits)
 }
 
-/// Lets a book go.
-pub fn let_go(_book: Memory) {}
-
 /// Puts a digest.
-pub fn put(book: &mut Memory, digest: &[u8], nonce: [u8; 16]) -> Result<Ticket, Fail> {
+pub fn put<D: Disk>(book: &mut Book<D>, digest: &[u8], nonce: [u8; 16]) -> Result<Ticket, Fail> {
     Ok(book.put(Leaf::new(digest)?, nonce)?)
 }
 
 /// Whether one digest more is refused since too many wait.
-pub fn is_busy(book: &mut Memory, digest: &[u8]) -> Result<bool, Fail> {
+pub fn is_busy<D: Disk>(book: &mut Book<D>, digest: &[u8]) -> Result<bool, Fail> {
     let put = book.put(Leaf::new(digest)?, NONCE);
     Ok(matches!(put, Err(PutError::Busy)))
 }
 
 /// Closes the round at this second.
-pub fn close(book: &mut Memory, second: u32) -> Result<Result<Option<u64>, AppendError>, Fail> {
+pub fn close<D: Disk>(
+    book: &mut Book<D>,
+    second: u32,
+) -> Result<Result<Option<u64>, AppendError>, Fail> {
     Ok(book.close(second, &key()?))
 }
 
 /// The next tip.
-pub fn tip(book: &mut Memory) -> Result<Tip, TipError> {
+pub fn tip<D: Disk>(book: &mut Book<D>) -> Result<Tip, TipError> {
     book.tip()
 }
 
 /// Whether the next tip is over these commitments and has this root.
-pub fn is_tip(
+pub fn is_tip<D: Disk>(
     alloc: Global,
-    book: &mut Memory,
+    book: &mut Book<D>,
     first: u64,
     count: u64,
     root: &str,
@@ -101,8 +90,8 @@ pub fn is_tip(
 
 /// Anchors a tip in a block at this height: the first of its commitments, how many there are, and
 /// the height.
-pub fn anchor_in(
-    book: &mut Memory,
+pub fn anchor_in<D: Disk>(
+    book: &mut Book<D>,
     block: &Block,
     height: u32,
 ) -> Result<Result<[u64; 3], AnchorError>, Fail> {
@@ -116,18 +105,22 @@ pub fn anchor_in(
 }
 
 /// Whether a ticket waits.
-pub fn is_waiting(alloc: Global, book: &mut Memory, ticket: &Ticket) -> Result<bool, Fail> {
+pub fn is_waiting<D: Disk>(
+    alloc: Global,
+    book: &mut Book<D>,
+    ticket: &Ticket,
+) -> Result<bool, Fail> {
     let taken = book.take(ticket, &uri(alloc)?)?;
     Ok(matches!(taken, Taken::Waiting))
 }
 
 /// Whether there is no such ticket.
-pub fn is_gone(alloc: Global, book: &mut Memory, ticket: &Ticket) -> Result<bool, Fail> {
+pub fn is_gone<D: Disk>(alloc: Global, book: &mut Book<D>, ticket: &Ticket) -> Result<bool, Fail> {
     let taken = book.take(ticket, &uri(alloc)?)?;
     Ok(matches!(taken, Taken::Unknown))
 }
 
 /// Gives a ticket up.
-pub fn withdraw(book: &mut Memory, ticket: &Ticket) -> bool {
+pub fn withdraw<D: Disk>(book: &mut Book<D>, ticket: &Ticket) -> bool {
     book.withdraw(ticket)
 }

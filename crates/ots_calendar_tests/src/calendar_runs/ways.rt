@@ -1,6 +1,7 @@
 // Where the paths of trees lead.
-use crate::calendar_runs::books::{Memory, is_written, uri};
-use ots_calendar::{Receipt, Taken, Ticket};
+use crate::calendar_runs::books::{is_written, uri};
+use ots_calendar::{Book, Receipt, Taken, Ticket};
+use ots_disk::Disk;
 use ots_io::BytesSink;
 use ots_ops::Op;
 use ots_tree::{Token, Tree, spell_to};
@@ -18,7 +19,7 @@ pub struct Given {
 
 /// Takes a ticket whose round is closed. The tree leads to the commitment of its receipt, which is
 /// stored where the receipt says.
-pub fn give(alloc: Global, book: &mut Memory, ticket: &Ticket) -> Result<Given, Fail> {
+pub fn give<D: Disk>(alloc: Global, book: &mut Book<D>, ticket: &Ticket) -> Result<Given, Fail> {
     let (tree, receipt) = taken(alloc, book, ticket)?;
     let reached = led_to(alloc, &tree, ticket.leaf.bytes())?;
     if reached.as_slice() != receipt.commitment.as_slice() || !stands(book, &receipt) {
@@ -31,9 +32,9 @@ pub fn give(alloc: Global, book: &mut Memory, ticket: &Ticket) -> Result<Given, 
 }
 
 /// Whether a ticket is given with this tree, in hexadecimal.
-pub fn is_given(
+pub fn is_given<D: Disk>(
     alloc: Global,
-    book: &mut Memory,
+    book: &mut Book<D>,
     ticket: &Ticket,
     tree: &str,
 ) -> Result<bool, Fail> {
@@ -49,7 +50,11 @@ pub fn is_spelled(alloc: Global, tree: &Tree, digits: &str) -> Result<bool, Fail
 }
 
 /// The tree and the receipt of a ticket whose round is closed.
-fn taken(alloc: Global, book: &mut Memory, ticket: &Ticket) -> Result<(Tree, Receipt), Fail> {
+fn taken<D: Disk>(
+    alloc: Global,
+    book: &mut Book<D>,
+    ticket: &Ticket,
+) -> Result<(Tree, Receipt), Fail> {
     match book.take(ticket, &uri(alloc)?)? {
         Taken::Settled(tree, receipt) => Ok((tree, receipt)),
         _ => Err(Fail::from("not given")),
@@ -57,7 +62,7 @@ fn taken(alloc: Global, book: &mut Memory, ticket: &Ticket) -> Result<(Tree, Rec
 }
 
 /// Whether the commitment of a receipt is stored where it says.
-fn stands(book: &Memory, receipt: &Receipt) -> bool {
+fn stands<D: Disk>(book: &Book<D>, receipt: &Receipt) -> bool {
     let store = book.store();
     receipt.index < store.commits() && store.commit(receipt.index) == receipt.commitment
 }
