@@ -5,5 +5,4 @@ pub mod connections;
 mod crews;
 mod endings;
 mod tests;
-mod turns;
 mod watching;

@@ -62,9 +62,9 @@ pub fn close<D: Disk + Drop>(shared: Shared<D>, pass: Pass) -> (u64, u64)
     (book.store().commits(), book.waiting())
 }
 
-/// Serves a connection over any link. What its clauses say is left here.
+/// Serves a connection over any objects. What its clauses say is left here.
 #[expect(clippy::too_many_arguments)]
-pub fn serve_over<L: Link, D: Disk, C: Clock, N: Nonces, R: Wait>(
+fn serve_over<L: Link, D: Disk, C: Clock, N: Nonces, R: Wait>(
     rt: &R,
     alloc: Global,
     shared: &Shared<D>,
@@ -79,6 +79,44 @@ pub fn serve_over<L: Link, D: Disk, C: Clock, N: Nonces, R: Wait>(
     ensures seat { (pass.new.seat ≡ pass.old.seat) × (pass.new.holding ≡ false) }
 {
     serve_connection(rt, alloc, shared, pass, service, link, clock, nonces)
+}
+
+/// The same with this clock, and the nonce of 16 bytes 7. Each object in memory is made in a function of its own, over
+/// any others, so that no function is proved with the clauses of two of them at hand.
+fn serve_at<L: Link, D: Disk, C: Clock, R: Wait>(
+    rt: &R,
+    alloc: Global,
+    shared: &Shared<D>,
+    pass: &mut Pass,
+    service: &Service,
+    link: &mut L,
+    clock: &mut C,
+) -> Served
+    requires own { IsPassOf shared.now pass.old }
+    requires free { pass.old.holding ≡ false }
+    ensures seat { (pass.new.seat ≡ pass.old.seat) × (pass.new.holding ≡ false) }
+{
+    let mut nonces = OneNonce::new(Some([7; 16]));
+    serve_over(rt, alloc, shared, pass, service, link, clock, &mut nonces)
+}
+
+/// Serves a connection over any link, at second 1700000000 and with the nonce of 16 bytes 7.
+pub fn serve_link<L: Link, D: Disk, R: Wait>(
+    rt: &R,
+    alloc: Global,
+    shared: &Shared<D>,
+    pass: &mut Pass,
+    service: &Service,
+    link: &mut L,
+) -> Served
+    requires own { IsPassOf shared.now pass.old }
+    requires free { pass.old.holding ≡ false }
+    ensures seat { (pass.new.seat ≡ pass.old.seat) × (pass.new.holding ≡ false) }
+{
+    let mut clock = FixedClock {
+        second: 1_700_000_000,
+    };
+    serve_at(rt, alloc, shared, pass, service, link, &mut clock)
 }
 
 /// Serves a connection.
@@ -96,20 +134,7 @@ pub fn serve_one<D: Disk, R: Wait>(
     let Ok(mut link) = BytesLink::new(alloc, REQUEST, &[], 2000, &[]) else {
         return Err(AllocError);
     };
-    let mut clock = FixedClock {
-        second: 1_700_000_000,
-    };
-    let mut nonces = OneNonce::new(Some([7; 16]));
-    let served = serve_over(
-        rt,
-        alloc,
-        shared,
-        pass,
-        service,
-        &mut link,
-        &mut clock,
-        &mut nonces,
-    );
+    let served = serve_link(rt, alloc, shared, pass, service, &mut link);
     Ok(Told {
         served,
         taken: link.taken().to_vec(alloc)?,

@@ -1,11 +1,11 @@
 //! Connections that end in each way, over a link that notes when it is finished.
 
-use crate::service::connections::{close, serve_over, share};
+use crate::service::connections::{close, serve_link, share};
 use ots_calendar::Book;
 use ots_connection::{Served, Service};
 use ots_disk::Disk;
 use ots_io::BytesLink;
-use ots_outside::{Failed, FixedClock, Link, OneNonce};
+use ots_outside::{Failed, Link};
 use std::alloc::{AllocError, Global};
 use std::sync::Wait;
 
@@ -55,8 +55,21 @@ pub struct Noted {
     pub taken: usize,
 }
 
-/// Serves one connection with this request over a book, at second 1700000000 and with the nonce of 16 bytes 7. The
-/// calls of its link with these numbers fail.
+/// Serves one connection over a book that has no other caller.
+fn serve_shared<L: Link, D: Disk + Drop, R: Wait>(
+    rt: &R,
+    alloc: Global,
+    book: Book<D>,
+    service: &Service,
+    link: &mut L,
+) -> Result<Served, AllocError> {
+    let (shared, mut pass) = share(alloc, book, 1)?;
+    let served = serve_link(rt, alloc, &shared, &mut pass, service, link);
+    close(shared, pass);
+    Ok(served)
+}
+
+/// Serves one connection with this request over a book. The calls of its link with these numbers fail.
 pub fn serve_noting<D: Disk + Drop, R: Wait>(
     rt: &R,
     alloc: Global,
@@ -73,22 +86,7 @@ pub fn serve_noting<D: Disk + Drop, R: Wait>(
         finishes: 0,
         taken: 0,
     };
-    let mut clock = FixedClock {
-        second: 1_700_000_000,
-    };
-    let mut nonces = OneNonce::new(Some([7; 16]));
-    let (shared, mut pass) = share(alloc, book, 1)?;
-    let served = serve_over(
-        rt,
-        alloc,
-        &shared,
-        &mut pass,
-        service,
-        &mut link,
-        &mut clock,
-        &mut nonces,
-    );
-    close(shared, pass);
+    let served = serve_shared(rt, alloc, book, service, &mut link)?;
     Ok(Noted {
         served,
         finishes: link.finishes,

@@ -3,9 +3,8 @@ ghost use Rattle.std.specs.Prelude.{◌<◌, ◌≤◌};
 use crate::books::{AMPLE, book_on, new_disk, service};
 use crate::service::beside::{Beside, serve_beside};
 use crate::service::connections::{Ended, REQUEST, Told, serve_alone};
-use crate::service::crews::{Ends, serve_all};
-use crate::service::endings::serve_noting;
-use crate::service::turns::take_turns;
+use crate::service::crews::{Ends, serve_all, take_turns};
+use crate::service::endings::{Noted, serve_noting};
 use crate::service::watching::watch_while_added;
 use hex::decode;
 use ots_calendar::{Leaf, Receipt};
@@ -202,6 +201,22 @@ fn no_caller_finds_fewer_records_than_it_was_told_of(rt: HostRuntime) -> Result<
     Ok(())
 }
 
+/// So many callers hold a new book so many times each: whether each found as many records as it was told of, and how
+/// many commitments are stored.
+fn turns<D: Disk + Send + Drop, R: Threads + Wait + Sync>(
+    rt: &R,
+    alloc: Global,
+    disk: D,
+    callers: u32,
+    times: u32,
+) -> Result<(bool, u64), Fail>
+    requires { (0 < callers) × (callers ≤ 65) }
+{
+    let service = service(alloc)?;
+    let book = book_on(alloc, disk, AMPLE)?;
+    Ok(take_turns(rt, alloc, book, &service, callers, times)?)
+}
+
 /// So many callers hold a new book so many times each. A wake-up that is lost leaves some of them asleep for ever.
 fn turns_are_taken<R: Threads + Wait + Sync + Abort>(
     rt: &R,
@@ -211,8 +226,10 @@ fn turns_are_taken<R: Threads + Wait + Sync + Abort>(
 ) -> Result<(), Fail>
     requires { (0 < callers) × (callers ≤ 65) }
 {
-    let book = book_on(alloc, new_disk(alloc)?, AMPLE)?;
-    assert_eq!(rt; take_turns(rt, alloc, book, callers, times)?, (true, 0));
+    assert_eq!(rt;
+        turns(rt, alloc, new_disk(alloc)?, callers, times)?,
+        (true, 0)
+    );
     Ok(())
 }
 
@@ -234,11 +251,22 @@ fn ended<R: Wait + Abort>(
     request: &[u8],
     failing: &[u64],
 ) -> Result<Served, Fail> {
-    let service = service(alloc)?;
-    let book = book_on(alloc, new_disk(alloc)?, AMPLE)?;
-    let noted = serve_noting(rt, alloc, book, &service, request, failing)?;
+    let noted = noted(rt, alloc, new_disk(alloc)?, request, failing)?;
     assert_eq!(rt; (noted.finishes, noted.taken_then), (1, noted.taken));
     Ok(noted.served)
+}
+
+/// Such a connection over a new book.
+fn noted<D: Disk + Drop, R: Wait>(
+    rt: &R,
+    alloc: Global,
+    disk: D,
+    request: &[u8],
+    failing: &[u64],
+) -> Result<Noted, Fail> {
+    let service = service(alloc)?;
+    let book = book_on(alloc, disk, AMPLE)?;
+    Ok(serve_noting(rt, alloc, book, &service, request, failing)?)
 }
 
 #[test]

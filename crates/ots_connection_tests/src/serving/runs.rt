@@ -29,7 +29,7 @@ pub struct Plan {
 /// What is left: how it ended, how many links were accepted, how many are left, how many that were
 /// given back took a reply of status 200 and of 404, how many tickets wait, and whether a sync found
 /// two links read.
-#[derive(Clone, Copy, Debug, PartialEq, Eq)]
+#[derive(Clone, Copy)]
 pub struct Left {
     pub ending: ServeEnd,
     pub count: u64,

@@ -178,7 +178,7 @@ fn new_accepter(
 
 /// What is left: how it ended, how many links met what they waited for, and how many took a reply of status 200 and of
 /// 404.
-#[derive(Clone, Copy, Debug, PartialEq, Eq)]
+#[derive(Clone, Copy)]
 pub struct Met {
     pub ending: ServeEnd,
     pub met: usize,
