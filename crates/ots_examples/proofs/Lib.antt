@@ -1,0 +1,3 @@
+mod Cycle
+mod Standing
+mod Confirmed

@@ -1,0 +1,3 @@
+pub mod OneRound
+pub mod OnDisk
+pub mod OneHeader
