@@ -85,10 +85,11 @@ def proof(case):
         return ('agree', None) if 'fault' in case else ('DIFFER', f'the library refuses it: {error!r}')
     if 'fault' in case:
         return (ON_PURPOSE[case['fault']], None) if case['fault'] in ON_PURPOSE else ('DIFFER', f'the library reads it, here: {case["fault"]}')
-    if set(paths(found.timestamp)) == set(listed(case['listing'])):
+    its, ours = list(paths(found.timestamp)), listed(case['listing'])
+    if sorted(its) == sorted(ours):
         return 'agree', None
     # (the later of two equal operations takes the place of the earlier)
-    if set(paths(found.timestamp)) < set(listed(case['listing'])):
+    if set(its) <= set(ours):
         return 'of equal siblings the library keeps the later', None
     return 'DIFFER', 'other paths'
 
@@ -134,6 +135,8 @@ def verify(case):
     said = f'yes block {best[0]} time {best[1]}' if best else 'no path'
     if said == case['verdict']:
         return 'agree', None
+    if case['verdict'] == 'no digest':
+        return 'DIFFER', said
     ends = [it for it in plain.read_proof(bytes.fromhex(case['proof']))[2] if it[0] == 'end']
     lost = len(list(found.timestamp.all_attestations())) < len({(it[1], it[2], k) for k, it in enumerate(ends)})
     return ('of equal siblings the library keeps the later', None) if lost else ('DIFFER', said)
@@ -152,10 +155,18 @@ def operation(case):
     return ('agree', None) if said == case['result'] else ('DIFFER', said)
 
 
+def way(timestamp):
+    """The operations from a leaf of a tree to its root."""
+    while timestamp.ops:
+        (op, timestamp), = timestamp.ops.items()
+        yield [op.TAG_NAME, '' if isinstance(op, UnaryOp) else op[0].hex()]
+
+
 def tree(case):
     leaves = [Timestamp(bytes.fromhex(case['leaves'][at:at + 64])) for at in range(0, len(case['leaves']), 64)]
     root = make_merkle_tree(leaves).msg.hex() if len(leaves) > 1 else leaves[0].msg.hex()
-    return ('agree', None) if root == case['root'] else ('DIFFER', root)
+    path = list(way(leaves[case['index']]))
+    return ('agree', None) if (root, path) == (case['root'], case['path']) else ('DIFFER', f'{root} {path}')
 
 
 KINDS = {'proof': proof, 'canon': rewritten, 'merge': rewritten, 'verify': verify, 'operation': operation, 'calendar-tree': tree}
