@@ -25,12 +25,24 @@ sums_of_audit() {
     sed -n 's/^| `\(ots[a-z]*\)` | `\([0-9a-f]\{64\}\)` |$/\1 \2/p' "$top/docs/AUDIT.md" | sort
 }
 
-# Proves and builds the programs from nothing in a clone, and puts them into a folder.
+# Proves and builds the programs from nothing in a clone of which only their crates are left, without the edits that must be
+# refused, which say nothing of the programs; and puts them into a folder.
 build() {
     git clone -q "$top" "$1" || return 70
-    # What is refused says nothing of the programs.
-    rm -rf "$1"/crates/*/must-fail
-    (cd "$1" && rt ci --anew $programs) >&2 || return
+    needed=$(cd "$1" && python3 bench/check.py --names $programs) || return 70
+    for crate in "$1"/crates/*; do
+        case " $(echo $needed) " in
+        *" ${crate##*/} "*) rm -rf "$crate/must-fail" ;;
+        *) rm -rf "$crate" ;;
+        esac
+    done
+    echo $needed | tr ' ' '\n' | awk '
+        NR == FNR { wanted[$1] = 1; next }
+        { sub(/#.*/, "") }
+        /:/ { split(substr($0, 1, index($0, ":") - 1), words, " "); if (words[1] in wanted) print }
+    ' - "$1/crates.txt" > "$1/crates.new"
+    mv "$1/crates.new" "$1/crates.txt"
+    (cd "$1" && rt ci --anew) >&2 || return
     mkdir -p "$2"
     for program in $programs; do
         cp "$1/crates/$program/out/$program" "$2/" || return 70
