@@ -1,13 +1,18 @@
 -- What a book is left with where the round of a ticket is closed. It serves the code alone.
-use Rattle.std.specs.Prelude.{◌≡◌, ◌⊎◌, ◌≤◌, ℕ, ◌+◌, List, ◌++◌, length}
+use Rattle.std.specs.Prelude.{◌≡◌, ◌⊎◌, ◌≤◌, ℕ, ◌+◌, List, ◌++◌, length, Result, Ok}
+use Rattle.ots_base.specs.declared.out_of_memory.OutOfMemory.{OutOfMemory}
 use Rattle.ots_calendar.specs.Book.{BookTold}
 use Rattle.std.specs.List.{AllByRecursion}
+use Rattle.ots_http.specs.declared.word.Word.{Word}
+use Rattle.ots_http.specs.declared.word.Word.TheVariants.{Busy}
 use Rattle.ots_shared.specs.Records.{StartsWith}
 use Rattle.ots_store.specs.Order.{commits_of}
 use Rattle.ots_round.specs.declared.ticket.Receipt.{Receipt}
 use Rattle.ots_round.specs.declared.ticket.Ticket.{Ticket}
-use Rattle.ots_tickets.specs.Tickets.{TicketsTold, IsSettled, OneIs, Waits, settles}
+use Rattle.ots_tickets.specs.Tickets.{TicketsTold, IsSettled, NoneIs, OneIs, Waits, settles}
 use Rattle.ots_tickets.specs.declared.settled.Settled.{Settled}
+use Rattle.ots_connection.specs.declared.due.Due.{Due}
+use Rattle.ots_connection.specs.Replies.{in_words}
 
 -- Records are added at the end alone, the limit stays, and no more tickets wait than before.
 pub record Goes {D : Type 0} (old new : BookTold D) : Type 0 where
@@ -32,3 +37,12 @@ pub record Closed {D : Type 0} (key : List ℕ) (second : ℕ) (old new : BookTo
   pub index : ℕ
   pub settled : new.tickets.settled ≡ old.tickets.settled ++ settles key second index old.tickets.waiting
   pub last : index + 1 ≡ length (commits_of new.store.records)
+
+-- What is due is never words.
+abbrev pub IsNoWord : Result Due OutOfMemory → Type 0
+IsNoWord due = (word : Word) → due ≡ Ok (in_words word) → ⊥
+
+-- A ticket is refused in words only where its round is not closed, and as busy only where it doesn't wait either.
+pub record Owes (ticket : Ticket) (tickets : TicketsTold) (due : Result Due OutOfMemory) : Type 0 where
+  pub settled : (word : Word) → due ≡ Ok (in_words word) → NoneIs (IsSettled ticket) tickets.settled
+  pub waits : due ≡ Ok (in_words Busy) → NoneIs (Waits ticket) tickets.waiting

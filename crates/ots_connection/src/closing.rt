@@ -1,11 +1,13 @@
 //! The round of a ticket, closed while the book is held.
-ghost use Rattle.std.specs.Prelude.{◌≡◌, ◌⊎◌, ◌<◌, ◌≤◌, ℕ, List, Err, IfOk, OnOk, OnErr, length};
+ghost use Rattle.std.specs.Prelude.{◌≡◌, ◌⊎◌, ◌<◌, ◌≤◌, ℕ, List, Err, Ok, IfOk, OnOk, OnErr, length};
 ghost use Rattle.ots_base.specs.Cause.{Rose};
 ghost use Rattle.ots_http.specs.ReplyText.{IsReply};
 ghost use Rattle.ots_shared.specs.Rows.{row};
 ghost use Rattle.ots_shared.specs.declared.row.Row.{Row};
 ghost use Rattle.ots_tickets.specs.Tickets.{IsSettled, NoneIs, OneIs, Waits};
-ghost use Rattle.ots_connection.specs.Closing.{AllBear, Closed, Goes, IsKept, kept};
+ghost use Rattle.ots_http.specs.declared.word.Word.TheVariants.{Busy};
+ghost use Rattle.ots_connection.specs.Closing.{AllBear, Closed, Goes, IsKept, IsNoWord, Owes, kept};
+ghost use Rattle.ots_connection.specs.Replies.{in_words};
 ghost use Rattle.ots_connection.specs.Stamping.{IsBusy, IsFull, IsStored, Settles};
 
 use crate::Service;
@@ -28,6 +30,7 @@ pub(crate) fn settle<D: Disk>(
 ) -> Result<Due, OutOfMemory>
     ensures goes { Goes book.old book.new }
     ensures gone { IsKept ticket.now book.old.tickets → kept book.new.tickets < kept book.old.tickets }
+    ensures owes { Owes ticket.now book.old.tickets result }
     ensures settles { Settles ticket.now.leaf ticket.now.nonce service.now.key service.now.uri second
         book.old.store.journal.limit book.new.store.records (row D.faults book.old book.new) result
         ⊎ IsBusy (row D.faults book.old book.new) result }
@@ -77,6 +80,7 @@ fn close_round<D: Disk>(
     ensures goes { Goes book.old book.new }
     ensures fewer { length book.new.tickets.waiting < length book.old.tickets.waiting }
     ensures gone { kept book.new.tickets < kept book.old.tickets }
+    ensures not_busy { result ≡ Ok (in_words Busy) → ⊥ }
     ensures settles { Settles ticket.now.leaf ticket.now.nonce service.now.key service.now.uri second
         book.old.store.journal.limit book.new.store.records (row D.faults book.old book.new) result }
     ensures reply { IfOk result (λ due. IsReply due.reply) }
@@ -124,6 +128,7 @@ fn take_settled<D: Disk>(book: &mut Book<D>, uri: &Uri, ticket: &Ticket) -> Resu
     ensures store { book.new.store ≡ book.old.store }
     ensures waiting { length book.new.tickets.waiting ≤ length book.old.tickets.waiting }
     ensures gone { kept book.new.tickets < kept book.old.tickets }
+    ensures no_word { IsNoWord result }
     ensures settles { (key : List ℕ) (second limit : ℕ) (row : Row) → AllBear ticket.now
         (IsStored ticket.now.leaf ticket.now.nonce key second limit book.new.store.records row) book.old.tickets.settled
         → Settles ticket.now.leaf ticket.now.nonce key uri.now second limit book.new.store.records row result }

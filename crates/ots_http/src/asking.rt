@@ -44,7 +44,7 @@ pub fn write_request<L: Link>(
 }
 
 /// The request that posts a digest.
-fn draft_post(address: &Address, digest: &[u8]) -> Draft
+fn draft_post(address: &Address, digest: &[u8]) -> Draft<ROOM>
     requires { length digest.now ≤ 32 }
     ensures { result ≡ post_text (host_text address.now.host address.now.port) digest.now }
 {
@@ -61,7 +61,7 @@ fn draft_post(address: &Address, digest: &[u8]) -> Draft
 }
 
 /// The request that asks for the timestamp of a message.
-fn draft_get(address: &Address, message: &[u8]) -> Draft
+fn draft_get(address: &Address, message: &[u8]) -> Draft<ROOM>
     requires { length message.now ≤ MAX_MESSAGE }
     ensures { result ≡ get_text (host_text address.now.host address.now.port) message.now }
 {
@@ -73,7 +73,7 @@ fn draft_get(address: &Address, message: &[u8]) -> Draft
 }
 
 /// The request that asks for the records from this number on.
-fn draft_records(address: &Address, number: u64) -> Draft
+fn draft_records(address: &Address, number: u64) -> Draft<ROOM>
     ensures { result ≡ records_text (host_text address.now.host address.now.port) number }
 {
     let mut draft = Draft::new();
@@ -84,7 +84,7 @@ fn draft_records(address: &Address, number: u64) -> Draft
 }
 
 /// Adds what stands after the target of a request that asks for something.
-fn add_get_end(draft: &mut Draft, address: &Address)
+fn add_get_end(draft: &mut Draft<ROOM>, address: &Address)
     requires { length draft.old + (MAX_HOST + 21 + 100) ≤ ROOM }
     ensures { draft.new ≡ draft.old ++ get_end (host_text address.now.host address.now.port) }
 {
@@ -94,7 +94,7 @@ fn add_get_end(draft: &mut Draft, address: &Address)
 }
 
 /// Adds the host, and the port where it is not the default.
-fn add_host(draft: &mut Draft, address: &Address)
+fn add_host(draft: &mut Draft<ROOM>, address: &Address)
     requires { length draft.old + (MAX_HOST + 21) ≤ ROOM }
     ensures host { draft.new ≡ draft.old ++ host_text address.now.host address.now.port }
     ensures length { length draft.new ≤ length draft.old + (MAX_HOST + 21) }

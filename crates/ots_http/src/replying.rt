@@ -5,13 +5,19 @@ ghost use Rattle.ots_tree.specs.Wire.{spelled};
 ghost use Rattle.ots_http.specs.ReplyText.{IsReply, reply_bytes, reply_head, text_reply, octets_reply, status_of};
 ghost use Rattle.ots_http.specs.Written.{WritesAll};
 
-use crate::draft::Draft;
+use crate::draft::{Draft, ROOM};
 use crate::draft_sink::add_tree;
 use crate::word::Word;
 use crate::writing::{LinkFault, write_bytes};
 use ots_base::{MAX_PROOF_FILE, MAX_REPLY_BODY};
 use ots_outside::{Bytes, Link, LinkSink};
 use ots_tree::{Tree, spell_to, spelled_length};
+
+/// More bytes than the head of a reply has.
+const HEAD_ROOM: usize = 256;
+
+/// The room of a reply in words, which is filled with zeros in a moment.
+const TEXT_ROOM: usize = 512;
 
 /// A reply of a calendar.
 #[derive(Debug, Drop)]
@@ -50,7 +56,7 @@ fn write_text<L: Link>(link: &mut L, status: u16, word: Word) -> Result<(), Link
 {
     let words = word.words();
     let size = words.len() as u64 + 1;
-    let mut draft = Draft::new();
+    let mut draft = Draft::<TEXT_ROOM>::new();
     add_head(&mut draft, status, word.phrase(), "text/plain", size);
     draft.add(words.as_bytes());
     draft.add(b"\n");
@@ -65,7 +71,7 @@ fn write_tree<L: Link>(link: &mut L, tree: &Tree) -> Result<(), LinkFault>
     ensures same { L.same link.old link.new }
 {
     let size = size_of(tree);
-    let mut draft = Draft::new();
+    let mut draft = Draft::<ROOM>::new();
     add_octets_head(&mut draft, size);
     if size <= MAX_REPLY_BODY as u64 {
         add_tree(&mut draft, tree);
@@ -92,7 +98,7 @@ fn write_page<L: Link>(link: &mut L, page: &[u8]) -> Result<(), LinkFault>
     ensures cause { HasCause (L.faults link.old) (L.faults link.new) result }
     ensures same { L.same link.old link.new }
 {
-    let mut draft = Draft::new();
+    let mut draft = Draft::<ROOM>::new();
     add_octets_head(&mut draft, page.len() as u64);
     draft.add(page);
     write_bytes(link, draft.text())
@@ -111,21 +117,22 @@ fn write_spelling<L: Link>(link: &mut L, tree: &Tree) -> Result<(), LinkFault>
 }
 
 /// Begins a reply with as many bytes, of a tree or of a page.
-fn add_octets_head(draft: &mut Draft, size: u64)
+fn add_octets_head(draft: &mut Draft<ROOM>, size: u64)
     requires { draft.old ≡ [] }
     ensures head { draft.new ≡ reply_head 200 (codes "OK") (codes "application/octet-stream") size }
-    ensures short { length draft.new < 256 }
+    ensures short { length draft.new < HEAD_ROOM }
 {
     add_head(draft, 200, "OK", "application/octet-stream", size);
 }
 
 /// Begins a reply with its head.
-fn add_head(draft: &mut Draft, status: u16, phrase: &str, kind: &str, size: u64)
+fn add_head<const N: usize>(draft: &mut Draft<N>, status: u16, phrase: &str, kind: &str, size: u64)
+    requires room { HEAD_ROOM ≤ N }
     requires empty { draft.old ≡ [] }
     requires phrase { length phrase.now ≤ 32 }
     requires kind { length kind.now ≤ 32 }
     ensures head { draft.new ≡ reply_head status phrase.now kind.now size }
-    ensures short { length draft.new < 256 }
+    ensures short { length draft.new < HEAD_ROOM }
 {
     draft.add(b"HTTP/1.1 ");
     draft.add_number(u64::from(status));

@@ -27,6 +27,7 @@ mod conversation;
 mod counted;
 mod dir_shelf;
 mod open_file;
+mod reserve;
 mod rng_nonces;
 mod std_sink;
 mod std_source;

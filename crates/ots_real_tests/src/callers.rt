@@ -13,6 +13,8 @@ pub const REPLY: usize = 1 << 18;
 pub enum Caller {
     /// It sends `abc`, and is to get `defgh` and then the end.
     Asks,
+    /// The same, but it sends `abc` only after more than the second that one call of the system waits.
+    AsksLate,
     /// It sends nothing, and is to get the end.
     IsSilent,
     /// It sends a byte now and then, at most so many, and is to be cut off.
@@ -80,10 +82,17 @@ fn sends_much<L: Link>(rt: &HostRuntime, link: &mut L) -> bool {
     is_sent && given == Some(REPLY)
 }
 
+/// Sends `abc` after more than a second: whether `defgh` comes, and then the end.
+fn asks_late<L: Link>(rt: &HostRuntime, link: &mut L) -> bool {
+    thread::sleep(rt, Duration::from_millis(1_300));
+    takes(link, b"abc") && gives(link, b"defgh")
+}
+
 /// Whether a caller meets over a link what it is to meet.
 fn speaks<L: Link>(rt: &HostRuntime, link: &mut L, caller: Caller) -> bool {
     match caller {
         Caller::Asks => takes(link, b"abc") && gives(link, b"defgh"),
+        Caller::AsksLate => asks_late(rt, link),
         Caller::IsSilent => takes(link, b"") && gives(link, b""),
         Caller::Drips(most) => drips(rt, link, most),
         Caller::SendsMuch => sends_much(rt, link),

@@ -12,6 +12,7 @@ use std::time::{Duration, Instant};
 #[derive(Clone, Copy)]
 pub enum Trial {
     BothWays,
+    Lateness,
     Silence,
     Slowness,
     LateReply,
@@ -97,9 +98,10 @@ fn both_ways<A: Accepter + Send, R: Threads + Abort>(
     rt: &R,
     host: HostRuntime,
     accepter: &mut A,
+    caller: Caller,
 ) -> Result<(), Fail> {
     let port = listen_from(accepter, 47_200)?;
-    let caller = begin(rt, host, port, Caller::Asks)?;
+    let caller = begin(rt, host, port, caller)?;
     let mut link = next_link(accepter)?;
     is_sent(accepter);
     is_sent(&link);
@@ -176,7 +178,8 @@ fn try_accepter<A: Accepter + Send, R: Threads + Abort>(
     trial: Trial,
 ) -> Result<(), Fail> {
     match trial {
-        Trial::BothWays => both_ways(rt, host, accepter),
+        Trial::BothWays => both_ways(rt, host, accepter, Caller::Asks),
+        Trial::Lateness => both_ways(rt, host, accepter, Caller::AsksLate),
         Trial::Silence => silence(rt, host, accepter),
         Trial::Slowness => slowness(rt, host, accepter),
         Trial::LateReply => late_reply(rt, host, accepter),
@@ -212,6 +215,11 @@ const SHORT: Limits = Limits {
 #[test]
 fn bytes_go_both_ways(rt: HostRuntime) -> Result<(), Fail> {
     try_over_tcp(&rt, rt, None, Trial::BothWays)
+}
+
+#[test]
+fn a_read_that_a_real_socket_cuts_short_is_made_again(rt: HostRuntime) -> Result<(), Fail> {
+    try_over_tcp(&rt, rt, None, Trial::Lateness)
 }
 
 #[test]

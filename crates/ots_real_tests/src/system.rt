@@ -6,17 +6,25 @@ use std::test::Fail;
 /// Workers share a clock and nonces.
 fn is_sent<T: Send>(_value: &T) {}
 
-/// Whether two draws are given, and differ.
+/// More nonces than are drawn at once.
+const NONCES: usize = 40;
+
+/// Whether so many nonces are given, and each differs from those before.
 fn draws_differ<N: Nonces>(nonces: &mut N) -> Result<bool, Failed> {
-    let mut first = [0; 16];
-    let mut second = [0; 16];
-    nonces.fill16(&mut first)?;
-    nonces.fill16(&mut second)?;
-    Ok(first != second)
+    let mut drawn = [[0; 16]; NONCES];
+    for i in 0..NONCES {
+        let mut nonce = [0; 16];
+        nonces.fill16(&mut nonce)?;
+        if drawn[..i].contains(&nonce) {
+            return Ok(false);
+        }
+        drawn[i] = nonce;
+    }
+    Ok(true)
 }
 
 #[test]
-fn two_draws_differ(rt: HostRuntime) -> Result<(), Fail> {
+fn forty_draws_differ(rt: HostRuntime) -> Result<(), Fail> {
     let mut nonces = RngNonces::new(SysRng::new(&rt));
     is_sent(&nonces);
     assert_eq!(rt; draws_differ(&mut nonces), Ok(true));

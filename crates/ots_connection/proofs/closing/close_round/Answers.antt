@@ -1,4 +1,5 @@
 use Rattle.std.proofs.Common.{refl}
+use Rattle.ots_http.specs.declared.word.Word.TheVariants.{Busy}
 use Rattle.ots_shared.specs.Rows.{row}
 use Rattle.ots_connection.proofs.Closes.{closes_it}
 use Rattle.ots_connection.specs.Stamping.{no_memory}
@@ -42,3 +43,6 @@ returns-in-Full-clause-gone g c =
 pub returns-in-OutOfMemory-clause-gone : goal.returns-in-OutOfMemory-clause-gone
 returns-in-OutOfMemory-clause-gone g c =
     refused_gone c.args.ticket.now c.args.book.now.tickets c.close.new.book.tickets c.withdraw.new.self.tickets c.withdraw.result c.in-Err.ensures.refused c.requires.waits c.withdraw.ensures.withdraws
+
+pub returns-in-Ok-clause-not_busy : goal.returns-in-Ok-clause-not_busy
+returns-in-Ok-clause-not_busy g c = c.take_settled.ensures.no_word Busy
