@@ -61,7 +61,7 @@ in_has f (r ∷ ps) p q (inl is) k = (has_append (f r) (flat_map f ps) p).0 (inl
 in_has f (r ∷ ps) p q (inr h) k = (has_append (f r) (flat_map f ps) p).0 (inr (in_has f ps p q h k))
 
 module _ (pairs : List PairAt) (given : List (Option Node)) (m : Option (List ℕ)) where
-  gains_all : (ps : List Path) (p : Path) → Gains pairs given m ps p ↔ Has (ps ++ flat_map (gained pairs given m) ps) p
+  pub gains_all : (ps : List Path) (p : Path) → Gains pairs given m ps p ↔ Has (ps ++ flat_map (gained pairs given m) ps) p
   gains_all ps p = (
     λ h. (has_append ps (flat_map (gained pairs given m) ps) p).0 (elim h [
       | inl x ↦ inl x
@@ -240,7 +240,7 @@ module _ (proof : Detached) (pairs : List PairAt) (trees : List (Option (List To
   abbrev m : Option (List ℕ)
   m = Some proof.digest
 
-  same_gains : (t : Node) → pre t ≡ form → HaveSame (paths t ++ flat_map (gained pairs given m) (paths t)) (paths canon.node ++ flat_map (gained pairs given m) (paths canon.node))
+  pub same_gains : (t : Node) → pre t ≡ form → HaveSame (paths t ++ flat_map (gained pairs given m) (paths t)) (paths canon.node ++ flat_map (gained pairs given m) (paths canon.node))
   same_gains t is p =
       onward (back (gains_all pairs given m (paths t) p))
       (onward (gains_same pairs given m (paths t) (paths canon.node) (same_form t canon.node form is canon.form) p) (gains_all pairs given m (paths canon.node) p))

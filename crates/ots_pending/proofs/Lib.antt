@@ -18,3 +18,6 @@ mod Existing
 mod Within
 mod SameForms
 mod Fits
+mod Grafts
+mod Disjoint
+mod AtLeast

@@ -132,7 +132,7 @@ ready_or_not : (b : Bool) (x : Token) (uri : List ℕ) (t : Option Node) (r : Op
 ready_or_not b x uri t None e h = absurd h
 ready_or_not b x uri t (Some r) e h = put_as_ready b x uri t r e h
 
-given_long : (given : List (Option Node)) (trees : List (Option (List Token))) → map (option_map pre) given ≡ trees → length given ≡ length trees
+pub given_long : (given : List (Option Node)) (trees : List (Option (List Token))) → map (option_map pre) given ≡ trees → length given ≡ length trees
 given_long given trees e = sym (length-map given (option_map pre)) ∙ ap (λ (z : List (Option (List Token))). length z) e
 
 pub put_of_ready : (pairs : List PairAt) (trees ready : List (Option (List Token))) (given : List (Option Node)) → AreReady pairs trees ready → map (option_map pre) given ≡ trees

@@ -17,6 +17,8 @@ use Rattle.ots_canon.proofs.SoundResults.{sound_canon}
 use Rattle.ots_pending.specs.Pairs.{Pair, PairAt, is_same}
 use Rattle.ots_pending.specs.Completed.{tree_for, answer_to, paths_after, gained, IsCompleted, IsCompletedWithin, IsSoundFor, AreSoundFor}
 use Rattle.ots_pending.specs.Forms.{IsForm, AreForms}
+use Rattle.ots_pending.specs.Least.{AreCanonical}
+use Rattle.ots_canon.specs.Canonical.{IsCanonicalPre}
 use Rattle.ots_pending.proofs.Completion.{canon_same, same_form}
 use Rattle.ots_pending.proofs.Lists.{some_same, none_some}
 
@@ -58,6 +60,17 @@ sound_form pairs i (Some ts) (Some us) h sound = λ p at. sound_canon (length p.
 
 pub sound_forms : (pairs : List PairAt) (trees forms : List (Option (List Token))) → AreForms trees forms → AreSoundFor pairs trees → AreSoundFor pairs forms
 sound_forms pairs trees forms h sound i u at = let f = at_form trees forms i u h at in sound_form pairs i f.0 u f.2 (sound i f.0 f.1)
+
+-- ---- they are canonical
+
+canonical_form_of : (t u : Option (List Token)) (us : List Token) → IsForm t u → u ≡ Some us → IsCanonicalPre us
+canonical_form_of None None us h e = absurd (none_some us e)
+canonical_form_of None (Some vs) us h e = absurd h
+canonical_form_of (Some ts) None us h e = absurd h
+canonical_form_of (Some ts) (Some vs) us h e = record { node = h.form.node; are = h.form.are ∙ some_same vs us e; canonical = h.form.is_tree.canonical }
+
+pub canonical_forms : (trees forms : List (Option (List Token))) → AreForms trees forms → AreCanonical forms
+canonical_forms trees forms h i us at = let f = at_form trees forms i (Some us) h at in canonical_form_of f.0 (Some us) us f.2 refl
 
 -- ---- they have the same paths
 

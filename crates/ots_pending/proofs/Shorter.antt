@@ -127,10 +127,10 @@ head_op {o} e = ap (λ (z : Path). heads z.ops) e
 
 -- ---- lengths
 
-length_more : (i : Item) (t : Node) → length (bytes (more i t)) ≡ 1 + length (spelled (pre_item i)) + length (bytes t)
+pub length_more : (i : Item) (t : Node) → length (bytes (more i t)) ≡ 1 + length (spelled (pre_item i)) + length (bytes t)
 length_more i t = let e = ap length (flat_map-append spell (pre_item i) (pre t)) in omega (arith, length-append (spelled (pre_item i)) (bytes t), e)
 
-length_step : (o : Op) (t : Node) → length (spelled (pre_item (step o t))) ≡ length (spell_op o) + length (bytes t)
+pub length_step : (o : Op) (t : Node) → length (spelled (pre_item (step o t))) ≡ length (spell_op o) + length (bytes t)
 length_step o t = length-append (spell_op o) (bytes t)
 
 ends_alike : (a b : Attestation) → AreIn (paths_of_item (attested a)) (paths_of_item (attested b)) → b ≡ a
@@ -160,7 +160,7 @@ one_op o q t u h =
     sym (head_op b.is)
 
 mutual
-  shorter_node : (t u : Node) → IsCanonical t → IsCanonical u → AreIn (paths t) (paths u) → length (bytes t) ≤ length (bytes u)
+  pub shorter_node : (t u : Node) → IsCanonical t → IsCanonical u → AreIn (paths t) (paths u) → length (bytes t) ≤ length (bytes u)
   shorter_node (last i) (last j) c d h = shorter_item i j c d h
   shorter_node (more i t) (last j) c d h = absurd (not_alone i j t c h)
   shorter_node (last i) (more j u) c d h = elim (some_or_not (place i) (place j)) [

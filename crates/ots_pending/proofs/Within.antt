@@ -22,6 +22,15 @@ module _ (proof : Detached) (pairs : List PairAt) (trees : List (Option (List To
   pub soundly : (made : List Token) → IsCompleted proof pairs trees made → IsSoundlyCompleted proof pairs trees made
   soundly made h = record { completed = h; sound = completed_sound proof pairs trees made pairs_are sound tree_sound h }
 
+  -- no completed tree is as short
+  pub all_too_long : (form : List Token) (given : List (Option Node)) (most : ℕ) → IsCanonOf proof.tree form → map (option_map pre) given ≡ trees → HaveLimits trees → AllByRecursion IsToken proof.tree
+      → ((made : List Token) → IsCompleted proof pairs trees made → most < length (spelled made)) → IsCompletedWithin proof pairs trees most None
+  all_too_long form given most canon given_are limits within long =
+      let all = completed_exists pairs trees given (Some proof.digest) canon.node proof.tree given_are canon.are limits within in
+      let completed : IsCompleted proof pairs trees all.0 = record { node = canon.node; tree = canon.are; given = given; given_are = given_are; form = all.1 } in
+      let s = soundly all.0 completed in
+      record { made = all.0; completed = completed; sound = s.sound; told = long all.0 completed }
+
   module _ (given : List (Option Node)) (form : List Token) (part : Part) (given_are : map (option_map pre) given ≡ trees) (canon : IsCanonOf proof.tree form)
       (h : IsFormOfPart pairs given (Some proof.digest) form part) where
     -- a part that is too long

@@ -9,3 +9,4 @@ pub mod Grown
 pub mod Parts
 pub mod Forms
 pub mod Limits
+pub mod Least

@@ -3,6 +3,7 @@ ghost use Rattle.std.specs.Prelude.{◌≡◌, ◌↔◌, ◌≤◌, ◌<◌, �
 ghost use Rattle.ots_canon.specs.Canonical.{IsCanonOf};
 ghost use Rattle.ots_pending.specs.Completed.{AreSoundFor, IsCompleted, IsCompletedWithin, IsToldWithin};
 ghost use Rattle.ots_pending.specs.Grown.{ArePut};
+ghost use Rattle.ots_pending.specs.Least.{AreCanonical};
 ghost use Rattle.ots_pending.specs.Pairs.{ArePairs, PairAt};
 ghost use Rattle.ots_pending.specs.Parts.{AreNone, IsFormOfPart, IsPart, SomeArePut};
 ghost use Rattle.ots_tree.specs.Sound.{IsSoundPre};
@@ -11,6 +12,7 @@ ghost use Rattle.ots_tree.specs.declared.token.Token.{Token};
 
 use crate::forms::forms_of;
 use crate::growing::{Growth, Window, grown, ready_trees};
+use crate::least::at_least;
 use crate::limits::{limits_of_tree, limits_of_trees};
 use crate::pairs::Pairs;
 use ots_base::OutOfMemory;
@@ -60,12 +62,15 @@ pub fn completed(
 
 /// The same tree, where its spelling has at most `most` bytes, and none where it has more.
 ///
-/// The trees that were given are put in canonical form, and then into the proof part by part: each part
-/// until the trees that are put in it are spelled in more than `most` bytes, at least one. It is joined to what
-/// the parts before made, and once that is too long, the whole is, and no more is made of it. So it takes memory
-/// for the proof, for the forms of the trees, for twice `most` bytes, and for one tree more, also where paths that
-/// are put in are there already. Its time is that for all that is put in, with the proof and `most` bytes once for
-/// each part.
+/// The trees that were given are put in canonical form. Where those at places of which none stands in the node
+/// of another or below it are spelled in more than `most` bytes together, the whole is too, and nothing is put
+/// anywhere: that takes memory for the proof and for the forms of the trees.
+///
+/// Else they are put into the proof part by part: each part until the trees that are put in it are spelled in more
+/// than `most` bytes, at least one. It is joined to what the parts before made, and once that is too long, the whole
+/// is, and no more is made of it. So it takes memory for the proof, for the forms of the trees, for twice `most`
+/// bytes, and for one tree more, also where paths that are put in are there already. Its time is that for all that
+/// is put in, with the proof and `most` bytes once for each part.
 pub fn completed_within(
     alloc: Global,
     proof: &Detached,
@@ -108,12 +113,16 @@ fn within(
     requires pairs { ArePairs proof.now pairs.now }
     requires trees { length trees.now ≡ length pairs.now }
     requires sound { AreSoundFor pairs.now trees.now }
+    requires canonical { AreCanonical trees.now }
     ensures { IfOk result (IsCompletedWithin proof.now pairs.now trees.now most) }
 {
     limits_of_detached(proof);
     limits_of_tree(&proof.tree);
     limits_of_trees(trees);
     let form = canon(alloc, &proof.tree)?;
+    if at_least(alloc, proof, &form, pairs, trees)? > most as u64 {
+        return Ok(None);
+    }
     let ready = ready_trees(alloc, pairs, trees)?;
     let room = most as u64;
     let first = grown_part(alloc, proof, &form, pairs, &ready, Window { from: 0, room })?;

@@ -112,8 +112,8 @@ fn next_after(is_within: bool, ended: usize, next: usize) -> usize
     if is_within { ended } else { next }
 }
 
-/// The tree that is put for a token at this depth, where there is one for it in the window.
-fn tree_for<'a>(
+/// The tree for a token at this depth, where there is one for it and its place is among those that count.
+pub(crate) fn tree_for<'a>(
     alloc: Global,
     token: &Token,
     depth: u32,
@@ -136,7 +136,7 @@ fn tree_for<'a>(
 }
 
 /// How many bytes a tree is spelled in, if there is one. A number over 2^64 - 1 is given as 2^64 - 1.
-fn length_put(tree: Option<&Tree>) -> u64
+pub(crate) fn length_put(tree: Option<&Tree>) -> u64
     ensures { result ≡ length_put (option_copied tree.entry) }
 {
     match tree {

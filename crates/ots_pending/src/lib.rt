@@ -22,6 +22,7 @@ mod growing;
 mod kept_pair;
 mod laws;
 mod lazy_path;
+mod least;
 mod limits;
 mod listing;
 mod pairs;

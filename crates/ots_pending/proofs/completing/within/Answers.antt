@@ -6,8 +6,20 @@ use Rattle.ots_pending.specs.Grown.{ArePut}
 use Rattle.ots_pending.specs.Parts.{IsFormOfPart}
 use Rattle.ots_pending.proofs.Completion.{some_put}
 use Rattle.ots_pending.proofs.Putting.{put_of_ready}
-use Rattle.ots_pending.proofs.Within.{too_long, told_whole}
+use Rattle.ots_pending.proofs.AtLeast.{trees_given}
+use Rattle.ots_pending.proofs.Within.{all_too_long, too_long, told_whole}
 use Rattle.ots_pending.proofs.completing.within.Goals as goal
+
+pub returns-then-branch-most : goal.returns-then-branch-most
+returns-then-branch-most c =
+    let proof = c.args.proof.now in
+    let trees = trees_given c.args.trees.now c.requires.canonical in
+    all_too_long proof c.args.pairs.now c.args.trees.now c.requires.pairs c.requires.sound c.limits_of_detached.ensures.sound c.in_ok-form.form trees.given c.args.most c.in_ok-form.ensures
+    trees.are c.limits_of_trees.ensures c.limits_of_tree.ensures (λ made completed. let low = c.in_ok-at_least.ensures made completed in let more = c.if-branch-most.true in omega arith)
+
+pub grown_part-requires-clause-ready : goal.grown_part-requires-clause-ready
+grown_part-requires-clause-ready c =
+    some_put c.args.pairs.now c.args.trees.now c.in_ok-ready.ready.items c.deref.result.now c.in_ok-ready.ensures.ready c.in_ok-ready.ensures.trees c.deref.ensures.value
 
 pub loop-made-init : goal.loop-made-init
 loop-made-init c =
