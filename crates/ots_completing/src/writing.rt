@@ -22,11 +22,11 @@ use ots_outside::{Failed, Shelf, Sink};
 use ots_pending::has_bitcoin;
 use ots_printer::Printer;
 use ots_tree::Detached;
-use ots_upgrade::{AskedAt, UpgradedWithin};
+use ots_upgrade::{AskedList, UpgradedWithin};
 
 /// A line for each pair that a proof asks calendars for.
 #[derive(Clone, Copy)]
-struct AskedLines<'a>(&'a [AskedAt]);
+struct AskedLines<'a>(&'a AskedList);
 
 impl PrintedText for AskedLines<'_> {
     ghost use Rattle.std.specs.Prelude.{◌≡◌};
@@ -67,7 +67,7 @@ pub fn write_upgraded<S: Shelf, K: Sink>(
         (at S.told S.faults K.taken K.faults shelf.new out.new) result }
     ensures same { K.same out.old out.new }
 {
-    let asked = upgraded.asked.items();
+    let asked = &upgraded.asked;
     match &upgraded.proof {
         Some(proof) => write_asked(asked, proof, to, shelf, out),
         None => refuse_after(&AskedLines(asked), to, Status::TooBig, out),
@@ -77,7 +77,7 @@ pub fn write_upgraded<S: Shelf, K: Sink>(
 /// Prints what was asked and writes a proof under a name, and tells whether some path of it ends in Bitcoin; or prints
 /// why it can't be made.
 fn write_asked<S: Shelf, K: Sink>(
-    asked: &[AskedAt],
+    asked: &AskedList,
     proof: &Detached,
     to: &str,
     shelf: &mut S,

@@ -5,7 +5,7 @@ use ots_base::OutOfMemory;
 use ots_io::Dialer;
 use ots_row_words::Said;
 use ots_tree::Detached;
-use ots_upgrade::{AskedAt, Upgraded, upgrade_with};
+use ots_upgrade::{Outcome, Upgraded, upgrade_with};
 use std::alloc::Global;
 
 /// Asks calendars to complete a proof, says what came of each pair of a message and a URI, and gives the proof that
@@ -19,18 +19,18 @@ pub fn upgrade<D: Dialer>(
 ) -> Result<Detached, OutOfMemory> {
     let Upgraded { proof, asked } = upgrade_with(alloc, dialer, calendars, proof)?;
     said.push("=");
-    for pair in asked.items() {
-        say_pair(pair, said);
+    for i in 0..asked.len() {
+        said.bytes(asked.message(i).bytes());
+        said.word(asked.uri(i).text());
+        say_asked(asked.outcome(i), said);
     }
     said.push("\n");
     Ok(proof)
 }
 
-/// Says a message, a URI, and what came of asking for them.
-fn say_pair(pair: &AskedAt, said: &mut Said) {
-    said.bytes(pair.message.bytes());
-    said.word(pair.uri.text());
-    match &pair.outcome {
+/// Says what came of asking for a pair.
+fn say_asked(outcome: Option<&Outcome>, said: &mut Said) {
+    match outcome {
         Some(outcome) => say_outcome(outcome, said),
         None => said.word("skipped;"),
     }

@@ -1,6 +1,7 @@
 //! The lines that are printed of conversations with calendars, put piece after piece.
 ghost use Rattle.std.specs.Prelude.{◌≡◌, ◌++◌, ◌≤◌, None, Some, codes, length, zip};
 ghost use Rattle.std.specs.List.{flat_map};
+ghost use Rattle.std.specs.Option.{option_copied};
 ghost use Rattle.ots_info.specs.Listing.{or_dash};
 ghost use Rattle.ots_lines.specs.Lines.{asked_line, calendar_line, outcome_words, uri_line};
 ghost use Rattle.ots_printer.specs.Printing.{Puts};
@@ -10,15 +11,15 @@ use ots_address::Address;
 use ots_outside::Sink;
 use ots_printer::Printer;
 use ots_reader::Fault;
-use ots_upgrade::{AskedAt, Outcome};
+use ots_upgrade::{AskedList, Outcome};
 
 /// Puts a line for each pair of a URI and a message that a proof asks for: what came of asking, or
 /// that no calendar was asked.
-pub fn put_asked<K: Sink>(asked: &[AskedAt], out: &mut Printer<'_, K>)
+pub fn put_asked<K: Sink>(asked: &AskedList, out: &mut Printer<'_, K>)
     ensures { Puts K.taken K.faults K.same (flat_map asked_line asked.now) out.old out.new }
 {
-    for pair in asked {
-        put_pair(pair, out);
+    for i in 0..asked.len() {
+        put_pair(asked.uri(i).text(), asked.outcome(i), out);
     }
 }
 
@@ -42,12 +43,11 @@ fn put_calendar<K: Sink>(calendar: &Address, outcome: &Outcome, out: &mut Printe
     out.word("\n");
 }
 
-/// Puts the line of a pair.
-fn put_pair<K: Sink>(pair: &AskedAt, out: &mut Printer<'_, K>)
-    ensures { Puts K.taken K.faults K.same (asked_line pair.now) out.old out.new }
+/// Puts the line of a pair with this URI.
+fn put_pair<K: Sink>(uri: &str, outcome: Option<&Outcome>, out: &mut Printer<'_, K>)
+    ensures { Puts K.taken K.faults K.same (uri_line uri.now (option_copied outcome.entry)) out.old out.new }
 {
-    let uri = pair.uri.text();
-    match &pair.outcome {
+    match outcome {
         Some(outcome) => put_uri_line(uri, outcome, out),
         None => put_skipped(uri, out),
     }

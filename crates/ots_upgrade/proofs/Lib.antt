@@ -1,3 +1,4 @@
+pub mod AskedWith
 pub mod Conversing
 pub mod FormBelow
 pub mod Founded

@@ -1,9 +1,8 @@
 -- Pairs that are asked for one after the other.
-use Rattle.std.proofs.Common.{◌≡◌, ◌<◌, ◌+◌, ℕ, zero, suc, List, [], ◌∷◌, ◌++◌, length, take, drop, Option, Some, None, refl, sym, ap, subst, ◌∙◌, inl, inr, arith}
-use Rattle.std.specs.Prelude.{is_some, IfSome}
+use Rattle.std.proofs.Common.{◌≡◌, ◌<◌, ◌+◌, ℕ, zero, suc, List, [], ◌∷◌, ◌++◌, length, map, take, drop, Option, Some, None, refl, sym, ap, subst, ◌∙◌, inl, inr, arith}
+use Rattle.std.specs.Prelude.{IfSome}
 use Rattle.std.specs.List.{slice_get}
-use Rattle.std.specs.Option.{option_map}
-use Rattle.std.proofs.lemmas.List.{drop_more, take-append-drop, take_more}
+use Rattle.std.proofs.lemmas.List.{drop_more, length-take, take-append-drop, take_more}
 use Rattle.std.proofs.lemmas.List.Elements.{filter_map-append}
 use Rattle.std.proofs.lemmas.Option.{get_or_from_slice_get}
 use Rattle.ots_address.specs.Address.{AddressParts}
@@ -11,12 +10,14 @@ use Rattle.ots_outside.specs.Dialer.{DialerTold}
 use Rattle.ots_tree.specs.declared.token.Token.{Token}
 use Rattle.ots_pending.specs.Completed.{AreSoundFor, IsSoundFor}
 use Rattle.ots_pending.specs.Pairs.{PairAt}
+use Rattle.ots_upgrade.specs.AskedList.{asked_with}
 use Rattle.ots_upgrade.specs.Conversation.{Converse, ConverseUpTo, Question}
 use Rattle.ots_upgrade.specs.Outcome.{IsSoundOutcome}
-use Rattle.ots_upgrade.specs.Upgrading.{address_of, outcomes, question_for, questions, to_get, tree_of, trees_of, AreAskedPairs, AsksFor, AsksIf, AsksUpTo}
+use Rattle.ots_upgrade.specs.Upgrading.{outcomes, question_for, questions, tree_of, trees_of, AreAskedPairs, AsksFor}
 use Rattle.ots_upgrade.specs.declared.asking.AskedAt.{AskedAt}
 use Rattle.ots_upgrade.specs.declared.outcome.Outcome.{Outcome}
 use Rattle.ots_upgrade.specs.declared.outcome.Outcome.TheVariants as outcome
+use Rattle.ots_upgrade.proofs.AskedWith.{asked_append, trees_same}
 use Rattle.ots_upgrade.proofs.Questions.{breaks_off_later, nothing_asked}
 
 -- ---- lists
@@ -81,13 +82,15 @@ module _ {D : Type 0} (told : D → DialerTold) (faults : D → ℕ) where
   }
 
   -- the next pair was asked for
-  pub asks_next : (calendars : List AddressParts) (pairs : List PairAt) (i : ℕ) (old mid new : D) (asked all : List AskedAt) (a : AskedAt) → i < length pairs
-      → AsksFor told faults calendars (take i pairs) old mid asked
-      → ((p : PairAt) → slice_get pairs i ≡ Some p → AsksFor told faults calendars (p ∷ []) mid new (a ∷ [])) → all ≡ asked ++ a ∷ []
-      → AsksFor told faults calendars (take (i + 1) pairs) old new all
-  asks_next calendars pairs i old mid new asked all a less so then is =
+  pub asks_next : (calendars : List AddressParts) (pairs : List PairAt) (i : ℕ) (old mid new : D) (outcomes all : List (Option Outcome)) (o : Option Outcome) → i < length pairs
+      → length outcomes ≡ i → AsksFor told faults calendars (take i pairs) old mid (asked_with (take i pairs) outcomes)
+      → ((p : PairAt) → slice_get pairs i ≡ Some p → AsksFor told faults calendars (p ∷ []) mid new (asked_with (p ∷ []) (o ∷ []))) → all ≡ outcomes ++ o ∷ []
+      → AsksFor told faults calendars (take (i + 1) pairs) old new (asked_with (take (i + 1) pairs) all)
+  asks_next calendars pairs i old mid new outcomes all o less count so then is =
       let p = there pairs i less in
-      rw (next_pair pairs i p.0 less p.1, is) (asks_more calendars (take i pairs) (p.0 ∷ []) old mid new asked (a ∷ []) so (then p.0 p.1))
+      let same : length outcomes ≡ length (take i pairs) = omega (arith, length-take i pairs) in
+      rw (next_pair pairs i p.0 less p.1, is, asked_append (take i pairs) (p.0 ∷ []) outcomes (o ∷ []) same)
+      (asks_more calendars (take i pairs) (p.0 ∷ []) old mid new (asked_with (take i pairs) outcomes) (asked_with (p.0 ∷ []) (o ∷ [])) so (then p.0 p.1))
 
   -- it broke off in the next one
   pub breaks_off_in : (calendars : List AddressParts) (pairs : List PairAt) (i : ℕ) (old mid new : D) (asked : List AskedAt) → i < length pairs
@@ -109,43 +112,6 @@ module _ {D : Type 0} (told : D → DialerTold) (faults : D → ℕ) where
   all_asked (q ∷ qs) old new [] had = absurd had
   all_asked (q ∷ qs) old new (o ∷ os) (at, one, had) = inr (inr (at, o, one, all_asked qs at new os had))
 
-  -- ---- one pair
-
-  one_asked : (calendars : List AddressParts) (p : PairAt) (old new : D) (a : AskedAt) (q : Option AddressParts) (o : Option Outcome) → address_of calendars p.pair.uri ≡ q → a.outcome ≡ o
-      → a.uri ≡ p.pair.uri → a.message ≡ p.pair.message
-      → AsksIf told faults (option_map (to_get p.pair.message p.depth) q) old new o → AsksFor told faults calendars (p ∷ []) old new (a ∷ [])
-  one_asked calendars p old new a None None no-one nothing uri message asks = record {
-    are = (record { uri = uri; message = message; which = ap is_some nothing ∙ sym (ap (λ z. is_some (option_map (to_get p.pair.message p.depth) z)) no-one); sound = rw nothing tt }, tt);
-    conversed = rw (no-one, nothing) asks;
-  }
-  one_asked calendars p old new a None (Some o) one is uri message asks = absurd asks
-  one_asked calendars p old new a (Some q) None one is uri message asks = absurd asks
-  one_asked calendars p old new a (Some q) (Some o) one is uri message asks = record {
-    are = (record { uri = uri; message = message; which = ap is_some is ∙ sym (ap (λ z. is_some (option_map (to_get p.pair.message p.depth) z)) one); sound = rw is asks.1 }, tt);
-    conversed = rw (one, is) asks.0;
-  }
-
-  pub asks_one : (calendars : List AddressParts) (p : PairAt) (uri message : List ℕ) (depth : ℕ) (address : Option AddressParts) (old new : D) (a : AskedAt)
-      → address ≡ address_of calendars uri → uri ≡ p.pair.uri → message ≡ p.pair.message → depth ≡ p.depth → a.uri ≡ uri → a.message ≡ message
-      → AsksIf told faults (option_map (to_get message depth) address) old new a.outcome → AsksFor told faults calendars (p ∷ []) old new (a ∷ [])
-  asks_one calendars p uri message depth address old new a found uri-is message-is depth-is its-uri its-message asks =
-      one_asked calendars p old new a address a.outcome (ap (address_of calendars) (sym uri-is) ∙ sym found) refl (its-uri ∙ uri-is) (its-message ∙ message-is)
-      (subst (λ (d : ℕ). AsksIf told faults (option_map (to_get p.pair.message d) address) old new a.outcome) depth-is
-      (subst (λ (m : List ℕ). AsksIf told faults (option_map (to_get m depth) address) old new a.outcome) message-is asks))
-
-  one_up_to : (calendars : List AddressParts) (p : PairAt) (old new : D) (q : Option AddressParts) → address_of calendars p.pair.uri ≡ q
-      → AsksUpTo told faults (option_map (to_get p.pair.message p.depth) q) old new → ConverseUpTo told faults (questions calendars (p ∷ [])) old new
-  one_up_to calendars p old new None no-one asks = rw no-one asks
-  one_up_to calendars p old new (Some q) one asks = rw one asks
-
-  pub asks_up_to : (calendars : List AddressParts) (p : PairAt) (uri message : List ℕ) (depth : ℕ) (address : Option AddressParts) (old new : D)
-      → address ≡ address_of calendars uri → uri ≡ p.pair.uri → message ≡ p.pair.message → depth ≡ p.depth
-      → AsksUpTo told faults (option_map (to_get message depth) address) old new → ConverseUpTo told faults (questions calendars (p ∷ [])) old new
-  asks_up_to calendars p uri message depth address old new found uri-is message-is depth-is asks =
-      one_up_to calendars p old new address (ap (address_of calendars) (sym uri-is) ∙ sym found)
-      (subst (λ (d : ℕ). AsksUpTo told faults (option_map (to_get p.pair.message d) address) old new) depth-is
-      (subst (λ (m : List ℕ). AsksUpTo told faults (option_map (to_get m depth) address) old new) message-is asks))
-
 -- ---- trees
 
 sound_tree : (n k : ℕ) (o : Option Outcome) → IfSome o (IsSoundOutcome n k) → (pairs : List PairAt) (p : PairAt) → slice_get pairs zero ≡ Some p
@@ -164,7 +130,7 @@ later : (p : PairAt) (pairs : List PairAt) (i : ℕ) (tree : Option (List Token)
 later p pairs i None sound = tt
 later p pairs i (Some tree) sound = sound
 
-pub sound_trees : (calendars : List AddressParts) (pairs : List PairAt) (asked : List AskedAt) → AreAskedPairs calendars pairs asked → AreSoundFor pairs (trees_of asked)
+sound_trees : (calendars : List AddressParts) (pairs : List PairAt) (asked : List AskedAt) → AreAskedPairs calendars pairs asked → AreSoundFor pairs (trees_of asked)
 sound_trees calendars [] [] are i tree at = absurd (none_some tree at)
 sound_trees calendars [] (a ∷ asked) are i tree at = absurd are
 sound_trees calendars (p ∷ pairs) [] are i tree at = absurd are
@@ -173,8 +139,6 @@ sound_trees calendars (p ∷ pairs) (a ∷ asked) are zero tree at =
     (sound_tree (length p.pair.message) p.depth a.outcome are.0.sound (p ∷ pairs) p refl refl refl)
 sound_trees calendars (p ∷ pairs) (a ∷ asked) are (suc i) tree at = later p pairs i tree (sound_trees calendars pairs asked are.1 i tree at)
 
-pub one_each : (calendars : List AddressParts) (pairs : List PairAt) (asked : List AskedAt) → AreAskedPairs calendars pairs asked → length (trees_of asked) ≡ length pairs
-one_each calendars [] [] are = refl
-one_each calendars [] (a ∷ asked) are = absurd are
-one_each calendars (p ∷ pairs) [] are = absurd are
-one_each calendars (p ∷ pairs) (a ∷ asked) are = ap suc (one_each calendars pairs asked are.1)
+pub sound_outcomes : (calendars : List AddressParts) (pairs : List PairAt) (outcomes : List (Option Outcome)) → length outcomes ≡ length pairs
+    → AreAskedPairs calendars pairs (asked_with pairs outcomes) → AreSoundFor pairs (map tree_of outcomes)
+sound_outcomes calendars pairs outcomes same are = subst (AreSoundFor pairs) (trees_same pairs outcomes same) (sound_trees calendars pairs (asked_with pairs outcomes) are)

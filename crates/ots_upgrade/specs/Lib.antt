@@ -1,3 +1,4 @@
+pub mod AskedList
 pub mod Batch
 pub mod Conversation
 pub mod Outcome

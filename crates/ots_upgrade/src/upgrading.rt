@@ -1,5 +1,5 @@
 //! Asking calendars to complete a proof.
-ghost use Rattle.std.specs.Prelude.{◌≡◌, ◌≤◌, ◌<◌, ℕ, List, [], ◌∷◌, length, Some, IfOk, IfSome, OnErr};
+ghost use Rattle.std.specs.Prelude.{◌≡◌, ◌≤◌, ◌<◌, ℕ, List, [], ◌∷◌, length, map, Some, IfOk, IfSome, OnErr};
 ghost use Rattle.std.specs.List.{filter_map, slice_get};
 ghost use Rattle.std.specs.Option.{option_copied, option_map};
 ghost use Rattle.ots_base.specs.declared.limits.TheConstants.{MAX_OPERATIONS};
@@ -7,12 +7,13 @@ ghost use Rattle.ots_ops.specs.HashOp.{digest_length};
 ghost use Rattle.ots_pending.specs.Completed.{AreSoundFor, IsCompleted};
 ghost use Rattle.ots_pending.specs.Pairs.{AreAskable, ArePairs, PairAt};
 ghost use Rattle.ots_tree.specs.Sound.{IsSoundPre};
+ghost use Rattle.ots_upgrade.specs.AskedList.{asked_with};
 ghost use Rattle.ots_upgrade.specs.Conversation.{ConverseUpTo};
-ghost use Rattle.ots_upgrade.specs.Upgrading.{address_of, questions, to_get, tree_of, trees_of, AsksFor, AsksIf};
+ghost use Rattle.ots_upgrade.specs.Upgrading.{address_of, questions, to_get, tree_of, AsksFor, AsksIf};
 ghost use Rattle.ots_upgrade.specs.Upgrading.{AsksUpTo, CompletesWithin, HasTree, UpgradesProof, UpgradesUpTo};
 ghost use Rattle.ots_upgrade.specs.Upgrading.{UpgradesWithin};
 
-use crate::asking::{AskedAt, AskedList};
+use crate::asking::AskedList;
 use crate::conversation::converse;
 use crate::laws::one_list_of_pairs;
 use crate::outcome::Outcome;
@@ -43,8 +44,8 @@ pub struct Upgraded {
 /// each pending path with a good answer, its operations followed by each path of that tree. Pending
 /// attestations stay.
 ///
-/// For each pair it looks at all addresses. In the answer each pair has its message, at most 4096 bytes, for
-/// itself, also where several have the same. Good trees are copied once.
+/// For each pair it looks at all addresses. A message is copied for one conversation at a time, and the answer
+/// has it once, also where several pairs ask for it. Good trees are copied once.
 pub fn upgrade_with<D: Dialer>(
     alloc: Global,
     dialer: &mut D,
@@ -57,13 +58,14 @@ pub fn upgrade_with<D: Dialer>(
     limits_of_detached(proof);
     one_list_of_pairs(proof);
     let pairs = pending_pairs(alloc, proof)?;
-    let asked = ask_for_all(alloc, dialer, calendars, &pairs)?;
-    let tree = completed_by(alloc, proof, &pairs, asked.items())?;
+    let outcomes = ask_for_all(alloc, dialer, calendars, &pairs)?;
+    let tree = completed_by(alloc, proof, &pairs, &outcomes)?;
     let proof = Detached {
         hash: proof.hash,
         digest: proof.digest,
         tree,
     };
+    let asked = AskedList::new(pairs, outcomes);
     Ok(Upgraded { proof, asked })
 }
 
@@ -92,8 +94,9 @@ pub fn upgrade_within<D: Dialer>(
 {
     one_list_of_pairs(proof);
     let pairs = pending_pairs(alloc, proof)?;
-    let asked = ask_for_all(alloc, dialer, calendars, &pairs)?;
-    let proof = proof_within(alloc, proof, &pairs, asked.items(), most)?;
+    let outcomes = ask_for_all(alloc, dialer, calendars, &pairs)?;
+    let proof = proof_within(alloc, proof, &pairs, &outcomes, most)?;
+    let asked = AskedList::new(pairs, outcomes);
     Ok(UpgradedWithin { proof, asked })
 }
 
@@ -102,16 +105,16 @@ fn proof_within(
     alloc: Global,
     proof: &Detached,
     pairs: &Pairs,
-    asked: &[AskedAt],
+    outcomes: &[Option<Outcome>],
     most: u32,
 ) -> Result<Option<Detached>, OutOfMemory>
     requires pairs { ArePairs proof.now pairs.now }
-    requires one_each { length (trees_of asked.now) ≡ length pairs.now }
-    requires sound { AreSoundFor pairs.now (trees_of asked.now) }
-    ensures { IfOk result (CompletesWithin proof.now pairs.now (trees_of asked.now) most) }
+    requires one_each { length outcomes.now ≡ length pairs.now }
+    requires sound { AreSoundFor pairs.now (map tree_of outcomes.now) }
+    ensures { IfOk result (CompletesWithin proof.now pairs.now (map tree_of outcomes.now) most) }
 {
     limits_of_detached(proof);
-    let trees = good_trees(alloc, asked)?;
+    let trees = good_trees(alloc, outcomes)?;
     let tree = completed_within(alloc, proof, pairs, &trees, most)?;
     Ok(with_tree(proof, tree))
 }
@@ -129,23 +132,25 @@ fn with_tree(proof: &Detached, tree: Option<Tree>) -> Option<Detached>
     })
 }
 
-/// Asks for each pair in order.
+/// Asks for each pair in order: what came of each.
 fn ask_for_all<D: Dialer>(
     alloc: Global,
     dialer: &mut D,
     calendars: &[Address],
     pairs: &Pairs,
-) -> Result<AskedList, OutOfMemory>
+) -> Result<Vec<Option<Outcome>>, OutOfMemory>
     requires { AreAskable pairs.now }
-    ensures asked { IfOk result (AsksFor D.told D.faults calendars.now pairs.now dialer.old dialer.new) }
+    ensures one_each { IfOk result (λ outcomes. length outcomes.items ≡ length pairs.now) }
+    ensures asked { IfOk result (λ outcomes. AsksFor D.told D.faults calendars.now pairs.now dialer.old dialer.new
+        (asked_with pairs.now outcomes.items)) }
     ensures broken_off { OnErr result (ConverseUpTo D.told D.faults (questions calendars.now pairs.now) dialer.old
         dialer.new) }
 {
-    let mut asked = AskedList::new(alloc);
+    let mut outcomes = Vec::with_capacity(alloc, pairs.len())?;
     for i in 0..pairs.len() {
-        asked.push(ask_for(alloc, dialer, calendars, pairs, i)?)?;
+        outcomes.push(ask_for(alloc, dialer, calendars, pairs, i)?)?;
     }
-    Ok(asked)
+    Ok(outcomes)
 }
 
 /// Asks for the pair at this place.
@@ -155,23 +160,17 @@ fn ask_for<D: Dialer>(
     calendars: &[Address],
     pairs: &Pairs,
     i: usize,
-) -> Result<AskedAt, OutOfMemory>
+) -> Result<Option<Outcome>, OutOfMemory>
     requires askable { AreAskable pairs.now }
     requires place { i < length pairs.now }
-    ensures asked { IfOk result (λ asked. (p : PairAt) → slice_get pairs.now i ≡ Some p
-        → AsksFor D.told D.faults calendars.now (p ∷ []) dialer.old dialer.new (asked ∷ [])) }
+    ensures asked { IfOk result (λ outcome. (p : PairAt) → slice_get pairs.now i ≡ Some p
+        → AsksFor D.told D.faults calendars.now (p ∷ []) dialer.old dialer.new
+        (asked_with (p ∷ []) (outcome ∷ []))) }
     ensures broken_off { OnErr result ((p : PairAt) → slice_get pairs.now i ≡ Some p
         → ConverseUpTo D.told D.faults (questions calendars.now (p ∷ [])) dialer.old dialer.new) }
 {
-    let uri = pairs.uri(i).copy()?;
-    let message = pairs.message(i).copy()?;
-    let address = address_of(calendars, uri.text());
-    let outcome = ask_at(alloc, dialer, address, &message, pairs.depth(i))?;
-    Ok(AskedAt {
-        uri,
-        message,
-        outcome,
-    })
+    let address = address_of(calendars, pairs.uri(i).text());
+    ask_at(alloc, dialer, address, pairs.message(i), pairs.depth(i))
 }
 
 /// The first address whose text is exactly this.
@@ -220,25 +219,25 @@ fn completed_by(
     alloc: Global,
     proof: &Detached,
     pairs: &Pairs,
-    asked: &[AskedAt],
+    outcomes: &[Option<Outcome>],
 ) -> Result<Tree, OutOfMemory>
     requires pairs { ArePairs proof.now pairs.now }
-    requires one_each { length (trees_of asked.now) ≡ length pairs.now }
-    requires sound { AreSoundFor pairs.now (trees_of asked.now) }
-    ensures completed { IfOk result (IsCompleted proof.now pairs.now (trees_of asked.now)) }
+    requires one_each { length outcomes.now ≡ length pairs.now }
+    requires sound { AreSoundFor pairs.now (map tree_of outcomes.now) }
+    ensures completed { IfOk result (IsCompleted proof.now pairs.now (map tree_of outcomes.now)) }
     ensures sound { IfOk result (IsSoundPre (length proof.now.digest) 0) }
 {
-    let trees = good_trees(alloc, asked)?;
+    let trees = good_trees(alloc, outcomes)?;
     completed(alloc, proof, pairs, &trees)
 }
 
 /// For each pair the tree that was answered for it, if one was.
-fn good_trees(alloc: Global, asked: &[AskedAt]) -> Result<Vec<Option<Tree>>, OutOfMemory>
-    ensures { IfOk result (λ trees. trees.items ≡ trees_of asked.now) }
+fn good_trees(alloc: Global, outcomes: &[Option<Outcome>]) -> Result<Vec<Option<Tree>>, OutOfMemory>
+    ensures { IfOk result (λ trees. trees.items ≡ map tree_of outcomes.now) }
 {
-    let mut trees = Vec::with_capacity(alloc, asked.len())?;
-    for pair in asked {
-        trees.push(good_tree(&pair.outcome)?)?;
+    let mut trees = Vec::with_capacity(alloc, outcomes.len())?;
+    for outcome in outcomes {
+        trees.push(good_tree(outcome)?)?;
     }
     Ok(trees)
 }

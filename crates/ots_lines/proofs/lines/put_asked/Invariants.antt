@@ -5,5 +5,5 @@ use Rattle.ots_lines.specs.Lines.{asked_line}
 use Rattle.ots_lines.proofs.lines.put_asked.Given as goal
 
 -- The lines of the pairs up to here were put.
-abbrev pub invariant-loop-pair : goal.invariant-loop-pair
-invariant-loop-pair g l = Puts g.K.Sink.taken g.K.Sink.faults g.K.Sink.same (flat_map asked_line (take l.pair-index l.asked)) l.fn.out l.out
+abbrev pub invariant-loop-i : goal.invariant-loop-i
+invariant-loop-i g l = Puts g.K.Sink.taken g.K.Sink.faults g.K.Sink.same (flat_map asked_line (take l.i l.asked)) l.fn.out l.out

@@ -1,9 +1,8 @@
-use Rattle.std.proofs.Common.{List, refl, subst}
-use Rattle.ots_pending.specs.Completed.{IsCompleted}
-use Rattle.ots_upgrade.specs.Upgrading.{questions, trees_of}
-use Rattle.ots_upgrade.specs.declared.asking.AskedAt.{AskedAt}
-use Rattle.ots_upgrade.proofs.Pairwise.{all_asked, one_each, sound_trees}
+use Rattle.std.proofs.Common.{refl}
+use Rattle.ots_upgrade.proofs.AskedWith.{trees_same}
+use Rattle.ots_upgrade.proofs.Pairwise.{all_asked, sound_outcomes}
 use Rattle.ots_upgrade.proofs.Questions.{nothing_asked, on_err}
+use Rattle.ots_upgrade.specs.Upgrading.{questions}
 use Rattle.ots_upgrade.proofs.upgrading.upgrade_within.Goals as goal
 
 pub returns-in_err-pairs-clause-broken_off : goal.returns-in_err-pairs-clause-broken_off
@@ -15,32 +14,32 @@ returns-in_err-pairs-clause-broken_off g c =
       conversed = nothing_asked g.D.Dialer.told g.D.Dialer.faults (questions c.args.calendars.now some.0) c.args.dialer.now;
     })
 
-pub proof_within-requires-clause-one_each : goal.proof_within-requires-clause-one_each
-proof_within-requires-clause-one_each g c = rw c.items.ensures (one_each c.args.calendars.now c.in_ok-pairs.pairs c.in_ok-asked.asked c.in_ok-asked.ensures.asked.are)
-
 pub proof_within-requires-clause-sound : goal.proof_within-requires-clause-sound
-proof_within-requires-clause-sound g c = rw c.items.ensures (sound_trees c.args.calendars.now c.in_ok-pairs.pairs c.in_ok-asked.asked c.in_ok-asked.ensures.asked.are)
+proof_within-requires-clause-sound g c =
+    rw c.deref.ensures.value (sound_outcomes c.args.calendars.now c.in_ok-pairs.pairs c.in_ok-outcomes.outcomes.items c.in_ok-outcomes.ensures.one_each c.in_ok-outcomes.ensures.asked.are)
 
 pub returns-in_err-proof-clause-broken_off : goal.returns-in_err-proof-clause-broken_off
 returns-in_err-proof-clause-broken_off g c =
     on_err c.from_residual-in_err-proof.result (record {
       pairs = c.in_ok-pairs.pairs;
       are = c.in_ok-pairs.ensures.pairs;
-      conversed = all_asked g.D.Dialer.told g.D.Dialer.faults _ _ _ _ c.in_ok-asked.ensures.asked.conversed;
+      conversed = all_asked g.D.Dialer.told g.D.Dialer.faults _ _ _ _ c.in_ok-outcomes.ensures.asked.conversed;
     })
 
 pub returns-clause-upgraded : goal.returns-clause-upgraded
 returns-clause-upgraded g c =
     let h = c.in_ok-proof.ensures in
     record {
-      upgraded = record { proof = h.made; asked = c.in_ok-asked.asked };
+      upgraded = record { proof = h.made; asked = c.new-asked.result };
       upgrades = record {
         pairs = c.in_ok-pairs.pairs;
         are = c.in_ok-pairs.ensures.pairs;
-        asks = c.in_ok-asked.ensures.asked;
+        asks = rw c.new-asked.ensures c.in_ok-outcomes.ensures.asked;
         hash = h.hash;
         digest = h.digest;
-        tree = subst (λ (z : List AskedAt). IsCompleted c.args.proof.now c.in_ok-pairs.pairs (trees_of z) h.made.tree) c.items.ensures h.tree;
+        tree =
+            rw (c.new-asked.ensures, trees_same c.in_ok-pairs.pairs c.in_ok-outcomes.outcomes.items c.in_ok-outcomes.ensures.one_each, ← c.deref.ensures.value)
+            h.tree;
       };
       asked = refl;
       told_within = h.told;
