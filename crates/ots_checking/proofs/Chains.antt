@@ -12,6 +12,7 @@ use Rattle.ots_client_endings.specs.Reading.{RefusesInput, no_file, refuses, is_
 use Rattle.ots_client_endings.specs.Runs.{Moment, Runs}
 use Rattle.ots_client_endings.proofs.Outcome.{MayEnd, only_prints, outcome}
 use Rattle.ots_client_inputs.specs.Headers.{RefusesTable, cut, too_many}
+use Rattle.ots_client_inputs.specs.Inputs.{Input}
 use Rattle.ots_client_inputs.specs.Pins.{RefusesPins}
 use Rattle.ots_client_text.specs.declared.status.Status.{Status}
 use Rattle.ots_client_text.specs.declared.status.Status.TheVariants.{Done, NoFile, BadHeaders, Broken, BadPins, PinFails}
@@ -80,9 +81,9 @@ module _ (names : Names) (c : Chaining) (e : Ending) (s : Status) (may : MayEnd 
     where_done (is_given t has h) = of_pins t c.pins (λ pins. of_chain t pins has) h
     where_done (is_refused h) = absurd (of_refused c.headers.name RefusesTable no_table h)
 
-pub chain_exactly : (names : Names) (c : Chaining) (reads : List (List ℕ)) (old new : Moment) (r : Status) → old.shelf.names ≡ Some names
-    → Runs (λ told. ChecksFile told c) reads old new r → IsDoneExactlyWhere old new (HasWholeChain names c) r
-chain_exactly names c reads old new r told h = elim (outcome (λ t. ChecksFile t c) reads old new r h) [
+pub chain_exactly : (names : Names) (c : Chaining) (inputs : List Input) (old new : Moment) (r : Status) → old.shelf.names ≡ Some names
+    → Runs (λ told. ChecksFile told c) inputs old new r → IsDoneExactlyWhere old new (HasWholeChain names c) r
+chain_exactly names c inputs old new r told h = elim (outcome (λ t. ChecksFile t c) inputs old new r h) [
   | inr excused ↦ inr excused
   | inl (e, a, may) ↦
       let answer = subst (λ (z : Option Names). ChecksFile z c e) told a in

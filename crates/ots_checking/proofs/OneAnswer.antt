@@ -42,7 +42,7 @@ table_refusal b s t (cut h f) (too_many long g) = absurd (let fits = h.0 in omeg
 table_refusal b s t (too_many long f) (cut h g) = absurd (let fits = h.0 in omega arith)
 table_refusal b s t (too_many long f) (too_many long' g) = f ∙ sym g
 
-table_or_not : (first : ℕ) (b : List ℕ) (table : Table) (s : Status) → IsTableOf first b table → RefusesTable b s → ⊥
+pub table_or_not : (first : ℕ) (b : List ℕ) (table : Table) (s : Status) → IsTableOf first b table → RefusesTable b s → ⊥
 table_or_not first b table s is (too_many long f) =
     let size = length_of_table first b table is in let most = is.limits.at_most in omega arith
 table_or_not first b table s is (cut (fits, inl none) f) =
@@ -78,7 +78,7 @@ with_target names name hash =
 pins_refusal : (b : List ℕ) (s t : Status) → RefusesPins b s → RefusesPins b t → s ≡ t
 pins_refusal b s t (n, bad, f) (m, too, g) = f ∙ ap (λ (z : ℕ). BadPins z) (one_bad_line pin_form b n m bad too) ∙ sym g
 
-pins_or_not : (b : List ℕ) (pins : List Pin) (s : Status) → ArePins b pins → RefusesPins b s → ⊥
+pub pins_or_not : (b : List ℕ) (pins : List Pin) (s : Status) → ArePins b pins → RefusesPins b s → ⊥
 pins_or_not b pins s are (n, bad, f) = lines_never_both pin_form b pins n are bad
 
 with_perhaps_pins : (names : Names) (name : Option (List ℕ)) (P : Option (List Pin) → Ending → Type 0) (d e : Ending)

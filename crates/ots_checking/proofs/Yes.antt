@@ -8,6 +8,7 @@ use Rattle.ots_client_endings.specs.Outcome.{IsDoneExactlyWhere}
 use Rattle.ots_client_endings.specs.Runs.{Moment, Runs}
 use Rattle.ots_client_endings.proofs.OneInput.{given_proof}
 use Rattle.ots_client_endings.proofs.Outcome.{only_prints, outcome}
+use Rattle.ots_client_inputs.specs.Inputs.{Input}
 use Rattle.ots_client_text.specs.Status.{verdict_status}
 use Rattle.ots_client_text.specs.declared.status.Status.{Status}
 use Rattle.ots_client_text.specs.declared.status.Status.TheVariants.{Done}
@@ -53,10 +54,10 @@ says_yes p target b l NoPath is (same, chain.Bitcoin, height, confirmed) = absur
 says_yes p target b None NoPath is (same, chain.Litecoin, height, confirmed) = absurd confirmed
 says_yes p target b (Some table) NoPath is (same, chain.Litecoin, height, confirmed) = absurd (is.2 height confirmed)
 
-pub done_exactly : (names : Names) (v : Verification) (b : Table) (l : Option Table) (p : Detached) (target : List ℕ) (reads : List (List ℕ)) (old new : Moment) (r : Status)
-    → HasFiles names v b l p target → old.shelf.names ≡ Some names → Runs (λ told. Verifies told v) reads old new r
+pub done_exactly : (names : Names) (v : Verification) (b : Table) (l : Option Table) (p : Detached) (target : List ℕ) (inputs : List Input) (old new : Moment) (r : Status)
+    → HasFiles names v b l p target → old.shelf.names ≡ Some names → Runs (λ told. Verifies told v) inputs old new r
     → IsDoneExactlyWhere old new (SaysYes p target b l) r
-done_exactly names v b l p target reads old new r has told h = elim (outcome (λ t. Verifies t v) reads old new r h) [
+done_exactly names v b l p target inputs old new r has told h = elim (outcome (λ t. Verifies t v) inputs old new r h) [
   | inr excused ↦ inr excused
   | inl (e, a, may) ↦
       let verdict = prints_verdict names v b l p target e has (subst (λ (z : Option Names). Verifies z v e) told a) in

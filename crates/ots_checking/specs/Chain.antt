@@ -13,6 +13,7 @@ use Rattle.ots_client_text.specs.declared.status.Status.TheVariants.{Done, Broke
 use Rattle.ots_checking.specs.Verified.{WithTable}
 use Rattle.ots_client_endings.specs.Ending.{Ending, printing, refused}
 use Rattle.ots_client_endings.specs.Reading.{RefusesInput, WithInput}
+use Rattle.ots_client_inputs.specs.Inputs.{Input, headers_under, pins_under}
 use Rattle.ots_client_inputs.specs.Pins.{RefusesPins}
 use Rattle.ots_client_words.specs.Words.{Chaining}
 use Rattle.ots_chain.specs.Pins.{ArePins}
@@ -35,10 +36,14 @@ pub data ChecksChain (t : Table) (pins : Option (List Pin)) (e : Ending) : Type 
 
 -- ---- names
 
--- the name that may be given
-abbrev pub names_perhaps : Option (List ℕ) → List (List ℕ)
-names_perhaps None = []
-names_perhaps (Some name) = name ∷ []
+-- the pins that may be given
+abbrev pub perhaps_pins : Option (List ℕ) → List Input
+perhaps_pins None = []
+perhaps_pins (Some name) = pins_under name ∷ []
+
+-- what is read, in order
+abbrev pub inputs_chained : Chaining → List Input
+inputs_chained c = headers_under c.headers ∷ perhaps_pins c.pins
 
 -- pins that may be given
 abbrev pub WithPins : Option Names → List ℕ → (List Pin → Ending → Type 0) → Ending → Type 0

@@ -5,6 +5,7 @@ use Rattle.ots_checking.specs.declared.evidence.Evidence.{Evidence}
 use Rattle.ots_client_endings.specs.Ending.{Ending, printing}
 use Rattle.ots_client_endings.specs.Reading.{Reads, RefusesInput, WithInput, WithProof}
 use Rattle.ots_client_inputs.specs.Headers.{RefusesTable}
+use Rattle.ots_client_inputs.specs.Inputs.{Input, headers_under, names_in, proof_under, target_under}
 use Rattle.ots_client_inputs.specs.Target.{IsHashOf, RefusesTarget}
 use Rattle.ots_client_text.specs.Lines.{verdict_text}
 use Rattle.ots_client_text.specs.Status.{verdict_status}
@@ -24,18 +25,19 @@ use Rattle.ots_verifier.specs.Checked.{IsCheckOf}
 
 -- ---- names
 
--- the name of headers that may be given
-abbrev pub names_of : Option HeaderFile → List (List ℕ)
-names_of None = []
-names_of (Some file) = file.name ∷ []
+-- the headers that may be given
+abbrev pub perhaps_headers : Option HeaderFile → List Input
+perhaps_headers None = []
+perhaps_headers (Some file) = headers_under file ∷ []
+
+-- what is read, in order
+abbrev pub inputs_verified : Verification → List Input
+inputs_verified v = headers_under v.bitcoin ∷ perhaps_headers v.litecoin ++ proof_under v.proof
+    ∷ target_under v.target ∷ []
 
 -- the names of the files of headers, in the order in which they are read
 abbrev pub header_names : Verification → List (List ℕ)
-header_names v = v.bitcoin.name ∷ names_of v.litecoin
-
--- the names that are read, in order
-abbrev pub names_verified : Verification → List (List ℕ)
-names_verified v = v.bitcoin.name ∷ names_of v.litecoin ++ v.proof ∷ v.target ∷ []
+header_names v = names_in (headers_under v.bitcoin ∷ perhaps_headers v.litecoin)
 
 -- ---- what is read
 
@@ -106,5 +108,5 @@ TellsEvidence x e = (v : Verdict) × ComesOf x v × TellsVerdict v e
 -- Everything was read, and the command ends as what comes of that; or it ends at a name.
 abbrev pub ReadsEvidence : Verification → ShelfTold → ShelfTold → ShelfFaults → ShelfFaults
     → Result Evidence (Stop Status) → Type 0
-ReadsEvidence v = Reads (names_verified v) (λ told x. (e : Ending) → TellsEvidence x e → Verifies told v e)
+ReadsEvidence v = Reads (inputs_verified v) (λ told x. (e : Ending) → TellsEvidence x e → Verifies told v e)
     (λ told. Verifies told v)

@@ -1,8 +1,8 @@
 //! The command `chain`.
-ghost use Rattle.std.specs.Prelude.{◌≡◌, ◌∷◌, length};
+ghost use Rattle.std.specs.Prelude.{◌≡◌, length};
 ghost use Rattle.std.specs.Option.{option_map};
 ghost use Rattle.ots_checking.specs.Chain.{ChecksChain, ChecksFile, HasPerhapsPins, RefusesPerhapsPins, failing_of};
-ghost use Rattle.ots_checking.specs.Chain.{items_of, names_perhaps};
+ghost use Rattle.ots_checking.specs.Chain.{inputs_chained, items_of, perhaps_pins};
 ghost use Rattle.ots_client_endings.specs.Reading.{Reads};
 ghost use Rattle.ots_client_endings.specs.Runs.{Finishes, Runs, at};
 ghost use Rattle.ots_client_words.specs.Words.{read_chaining};
@@ -55,7 +55,7 @@ pub fn chain<S: Shelf, K: Sink>(
     out: &mut K,
 ) -> Status
     ensures runs { Runs (λ told. ChecksFile told (read_chaining asked.entry))
-        ((read_chaining asked.entry).headers.name ∷ names_perhaps (read_chaining asked.entry).pins)
+        (inputs_chained (read_chaining asked.entry))
         (at S.told S.faults K.taken K.faults shelf.old out.old)
         (at S.told S.faults K.taken K.faults shelf.new out.new) result }
     ensures same { K.same out.old out.new }
@@ -125,7 +125,7 @@ fn read_perhaps_pins<'a, S: Shelf>(
     name: Option<&'a str>,
     shelf: &mut S,
 ) -> Result<Option<Vec<Pin>>, Stop<'a, Status>>
-    ensures { Reads (names_perhaps (option_map (λ s. s.now) name.entry))
+    ensures { Reads (perhaps_pins (option_map (λ s. s.now) name.entry))
         (λ told pins. HasPerhapsPins told (option_map (λ s. s.now) name.entry) (items_of pins))
         (λ told. RefusesPerhapsPins told (option_map (λ s. s.now) name.entry))
         (S.told shelf.old) (S.told shelf.new) (S.faults shelf.old) (S.faults shelf.new) result }

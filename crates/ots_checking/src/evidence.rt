@@ -1,6 +1,7 @@
 //! What a verdict rests on.
 ghost use Rattle.std.specs.Option.{option_map};
-ghost use Rattle.ots_checking.specs.Verified.{HasPerhapsTable, ReadsEvidence, RefusesPerhapsTable, RunsShort, names_of};
+ghost use Rattle.ots_checking.specs.Verified.{HasPerhapsTable, ReadsEvidence, RefusesPerhapsTable, RunsShort};
+ghost use Rattle.ots_checking.specs.Verified.{perhaps_headers};
 ghost use Rattle.ots_client_endings.specs.Reading.{Reads};
 ghost use Rattle.ots_client_words.specs.Words.{read_header_file, read_verification};
 ghost use Rattle.ots_inputs.specs.Input.{RanOut};
@@ -60,7 +61,7 @@ fn read_perhaps_headers<'a, S: Shelf>(
     file: Option<HeaderFile<'a>>,
     shelf: &mut S,
 ) -> Result<Option<Headers>, Stop<'a, Status>>
-    ensures { Reads (names_of (option_map read_header_file file.entry))
+    ensures { Reads (perhaps_headers (option_map read_header_file file.entry))
         (λ told. HasPerhapsTable told (option_map read_header_file file.entry))
         (λ told. RefusesPerhapsTable told (option_map read_header_file file.entry))
         (S.told shelf.old) (S.told shelf.new) (S.faults shelf.old) (S.faults shelf.new) result }

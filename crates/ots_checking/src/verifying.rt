@@ -1,6 +1,6 @@
 //! The command `verify`.
 ghost use Rattle.std.specs.Prelude.{◌≡◌};
-ghost use Rattle.ots_checking.specs.Verified.{RunsShort, Verifies, names_verified};
+ghost use Rattle.ots_checking.specs.Verified.{RunsShort, Verifies, inputs_verified};
 ghost use Rattle.ots_client_endings.specs.Runs.{Runs, at};
 ghost use Rattle.ots_client_words.specs.Words.{read_verification};
 
@@ -38,7 +38,7 @@ pub fn verify<S: Shelf, K: Sink>(
     out: &mut K,
 ) -> Status
     ensures runs { Runs (λ told. Verifies told (read_verification asked.entry))
-        (names_verified (read_verification asked.entry))
+        (inputs_verified (read_verification asked.entry))
         (at S.told S.faults K.taken K.faults shelf.old out.old)
         (at S.told S.faults K.taken K.faults shelf.new out.new) result }
     ensures bounded { result ≡ Status.OutOfMemory

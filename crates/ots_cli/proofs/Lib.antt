@@ -2,6 +2,7 @@ mod CarriedOnce
 mod Hears
 mod OneAnswer
 mod OneHearing
+mod OneOpening
 mod Ran
 mod ReadsBack
 mod Taken

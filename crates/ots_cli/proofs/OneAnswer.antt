@@ -2,7 +2,7 @@
 use Rattle.std.proofs.Common.{◌≡◌, Option, Some, None, inl, inr, sym, subst, ◌∙◌}
 use Rattle.ots_base.specs.Cause.{Rose}
 use Rattle.ots_checking.proofs.OneAnswer.{checks, samples, verifies}
-use Rattle.ots_cli.specs.Answer.{Answers, names_read}
+use Rattle.ots_cli.specs.Answer.{Answers, inputs_read}
 use Rattle.ots_cli.specs.Asking.{IsOffline}
 use Rattle.ots_cli.proofs.ReadsBack.{offline_plain}
 use Rattle.ots_completing.proofs.OneAnswer.{upgrades}
@@ -13,6 +13,7 @@ use Rattle.ots_client_endings.specs.Outcome.{Excused, UnlessExcused}
 use Rattle.ots_client_endings.specs.Outside.{Outside}
 use Rattle.ots_client_endings.specs.Runs.{Comes, as_defined, not_read, Moment, Runs}
 use Rattle.ots_client_endings.proofs.Outcome.{carried_status, excused, only_prints, over_names, stop_rose}
+use Rattle.ots_client_inputs.specs.Inputs.{names_in}
 use Rattle.ots_client_text.specs.declared.status.Status.{Status}
 use Rattle.ots_client_text.specs.declared.status.Status.TheVariants.{ReadFault}
 use Rattle.ots_client_words.specs.Words.{ClientCommand, info, canon, merge, prune, verify, stamp, upgrade, sample, chain}
@@ -52,11 +53,11 @@ answer_to o names (Some (sample n)) d e f g = one_answer (λ x. x ≡ o) names (
 answer_to o names (Some (chain w)) d e f g = one_answer (λ x. x ≡ o) names (Some (chain w)) d e tt f g
 
 pub exact : (happens : Outside → Type 0) (names : Names) (c : Option ClientCommand) (old new : Moment) (r : Status) (e : Ending) → old.shelf.names ≡ Some names → IsOffline c
-    → Answers happens c (Some names) e → Runs (Answers happens c) (names_read c) old new r → UnlessExcused old new (status_over names e.status e.acts) r
+    → Answers happens c (Some names) e → Runs (Answers happens c) (inputs_read c) old new r → UnlessExcused old new (status_over names e.status e.acts) r
 exact happens names c old new r e told offline is h =
-    here (subst (λ (z : Option Names). Ends (Comes (Answers happens c z) (StopsAt (names_read c) old.shelf.opened new.shelf.opened old.faults new.faults))
+    here (subst (λ (z : Option Names). Ends (Comes (Answers happens c z) (StopsAt (names_in (inputs_read c)) old.shelf.opened new.shelf.opened old.faults new.faults))
     (Rose old.faults.writing new.faults.writing) (Rose old.lost new.lost) z new.shelf.names old.taken new.taken r) told h.ends) where
-      here : Ends (Comes (Answers happens c (Some names)) (StopsAt (names_read c) old.shelf.opened new.shelf.opened old.faults new.faults))
+      here : Ends (Comes (Answers happens c (Some names)) (StopsAt (names_in (inputs_read c)) old.shelf.opened new.shelf.opened old.faults new.faults))
           (Rose old.faults.writing new.faults.writing) (Rose old.lost new.lost) (Some names) new.shelf.names old.taken new.taken r
           → UnlessExcused old new (status_over names e.status e.acts) r
       here (no_memory ran same kept) = inr (subst (Excused old new) (sym ran) tt)
@@ -67,6 +68,6 @@ exact happens names c old new r e told offline is h =
             | inr failed ↦ inr (excused old new r failed)
           ])
       here (carried_out d (not_read name stops at) k) = elim (carried_status _ _ d.status d.acts (Some names) new.shelf.names old.taken new.taken r k) [
-        | inl may ↦ inr (subst (Excused old new) (sym (only_prints d r ReadFault _ at may)) (stop_rose (names_read c) _ _ _ _ name stops))
+        | inl may ↦ inr (subst (Excused old new) (sym (only_prints d r ReadFault _ at may)) (stop_rose (names_in (inputs_read c)) _ _ _ _ name stops))
         | inr failed ↦ inr (excused old new r failed)
       ]

@@ -1,11 +1,11 @@
 -- What follows from how a run ends.
-use Rattle.std.proofs.Common.{◌≡◌, ℕ, List, Option, Some, None, inl, refl, sym, subst, ◌∙◌, arith}
+use Rattle.std.proofs.Common.{◌≡◌, ℕ, List, Option, Some, None, inl, inr, refl, sym, subst, ◌∙◌, arith}
 use Rattle.ots_base.specs.Cause.{Rose}
 use Rattle.ots_checking.specs.Verified.{RunsShort}
 use Rattle.ots_checking.proofs.Chains.{chain_exactly}
 use Rattle.ots_checking.proofs.Sampled.{is_sampled}
 use Rattle.ots_checking.proofs.Yes.{done_exactly}
-use Rattle.ots_cli.specs.Answer.{Answers, names_read}
+use Rattle.ots_cli.specs.Answer.{Answers, inputs_read}
 use Rattle.ots_cli.specs.Ran.{BoundsMemory, Ran}
 use Rattle.ots_cli.proofs.OneAnswer as one
 use Rattle.ots_cli.proofs.ReadsBack as back
@@ -13,7 +13,9 @@ use Rattle.ots_cli.proofs.Taken.{are_taken}
 use Rattle.ots_client_endings.specs.CarriedOut.{no_memory}
 use Rattle.ots_client_endings.specs.Ending.{Ending}
 use Rattle.ots_client_endings.specs.Outside.{DrawsOrFails, Happens, Outside}
-use Rattle.ots_client_endings.specs.Runs.{Moment, Runs}
+use Rattle.ots_client_endings.specs.Runs.{IsBrokenOff, Moment, Runs}
+use Rattle.ots_client_endings.proofs.Turns.{nothing_yet}
+use Rattle.ots_client_inputs.specs.Inputs.{Input}
 use Rattle.ots_client_text.specs.declared.status.Status.{Status}
 use Rattle.ots_client_text.specs.declared.status.Status.TheVariants.{OutOfMemory}
 use Rattle.ots_client_words.specs.Words.{ClientCommand, Verification, verify}
@@ -35,12 +37,13 @@ pub of_nothing : (c : Option ClientCommand) (told : ShelfTold) (r : Status) → 
 of_nothing c told r = λ v is memory_ran_out. inl (0, none_opened told.opened)
 
 -- Memory ran out, nothing was read, and the sink was left.
-pub left_short : {answers : Option Names → Ending → Type 0} {reads : List (List ℕ)} (told : ShelfTold) (faults : ShelfFaults) {taken now : Option (List ℕ)} {lost lost_now : ℕ} {r : Status}
+pub left_short : {answers : Option Names → Ending → Type 0} {inputs : List Input} (told : ShelfTold) (faults : ShelfFaults) {taken now : Option (List ℕ)} {lost lost_now : ℕ} {r : Status}
     → r ≡ OutOfMemory → now ≡ taken → lost_now ≡ lost
-    → Runs answers reads (record { shelf = told; faults = faults; taken = taken; lost = lost }) (record { shelf = told; faults = faults; taken = now; lost = lost_now }) r
-left_short told faults {lost = lost} {lost_now = lost_now} memory_ran_out same kept = record {
+    → Runs answers inputs (record { shelf = told; faults = faults; taken = taken; lost = lost }) (record { shelf = told; faults = faults; taken = now; lost = lost_now }) r
+left_short {inputs = inputs} told faults {lost = lost} {lost_now = lost_now} {r = r} memory_ran_out same kept = record {
   ends = no_memory memory_ran_out refl same;
   opened = (0, none_opened told.opened);
+  in_turn = nothing_yet (IsBrokenOff faults faults r) inputs told.opened (inr (inr memory_ran_out));
   short = λ not. absurd (not memory_ran_out);
   slots = λ k. refl;
   faults = record { opening = omega arith; reading = omega arith; writing = omega arith };
@@ -53,11 +56,11 @@ pub drawn : {D N : Type 0} (told : D → DialerTold) (faults : D → ℕ) (left 
 drawn told faults left draw_faults old new before now o happened none = subst (λ (z : Option (List (List ℕ))). DrawsOrFails left draw_faults z before now) none happened.drawn
 
 -- a run of this command
-pub of_command : (happens : Outside → Type 0) (c d : Option ClientCommand) (old new : Moment) (r : Status) → c ≡ d → Runs (Answers happens c) (names_read c) old new r
-    → Runs (Answers happens d) (names_read d) old new r
-of_command happens c d old new r is h = subst (λ (z : Option ClientCommand). Runs (Answers happens z) (names_read z) old new r) is h
+pub of_command : (happens : Outside → Type 0) (c d : Option ClientCommand) (old new : Moment) (r : Status) → c ≡ d → Runs (Answers happens c) (inputs_read c) old new r
+    → Runs (Answers happens d) (inputs_read d) old new r
+of_command happens c d old new r is h = subst (λ (z : Option ClientCommand). Runs (Answers happens z) (inputs_read z) old new r) is h
 
-pub ran : (happens : Outside → Type 0) (drawing : Type 0) (c : Option ClientCommand) (old new : Moment) (r : Status) → Runs (Answers happens c) (names_read c) old new r
+pub ran : (happens : Outside → Type 0) (drawing : Type 0) (c : Option ClientCommand) (old new : Moment) (r : Status) → Runs (Answers happens c) (inputs_read c) old new r
     → BoundsMemory c old.shelf new.shelf r → ((o : Outside) → happens o → o.nonces ≡ None → drawing) → Ran happens drawing c old new r
 ran happens drawing c old new r h bounded drawn = record {
   runs = h;

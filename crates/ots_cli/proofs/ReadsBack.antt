@@ -6,7 +6,7 @@ use Rattle.ots_base.specs.Cause.{Rose}
 use Rattle.ots_chain.specs.declared.pins.Pin.{Pin}
 use Rattle.ots_checking.specs.Chain.{ChecksChain, is_broken, pin_fails, is_whole, WithPerhapsPins}
 use Rattle.ots_checking.specs.Verified.{PrintsVerdict, VerifiesBy, VerifiesProof, VerifiesTarget, WithPerhapsTable, WithTable, WithTarget}
-use Rattle.ots_cli.specs.Answer.{Answers, names_read}
+use Rattle.ots_cli.specs.Answer.{Answers, inputs_read}
 use Rattle.ots_cli.specs.Asking.{IsOffline}
 use Rattle.ots_cli.specs.ReadsBack.{IsOutput, IsOutputAsked, IsResultOf, ReadsBack}
 use Rattle.ots_client_endings.specs.CarriedOut.{CarriesOut, Ends, carried_out, no_memory}
@@ -19,6 +19,7 @@ use Rattle.ots_client_endings.specs.Writing.{Writes, too_long, is_made}
 use Rattle.ots_client_endings.proofs.Outcome.{EndsWith, IsPlain, MakesOnly, carried_leaves, carried_status, done_making, get_inserted, is_plain, keeps, made_done, never}
 use Rattle.ots_client_inputs.specs.Proof.{RefusesProof, too_big, bad_proof}
 use Rattle.ots_client_inputs.specs.Target.{RefusesTarget}
+use Rattle.ots_client_inputs.specs.Inputs.{names_in}
 use Rattle.ots_client_text.specs.Lines.{complete_text, proof_name, wrote_text}
 use Rattle.ots_client_text.specs.Status.{complete_status, verdict_status}
 use Rattle.ots_client_text.specs.declared.status.Status.{Status}
@@ -215,9 +216,9 @@ module _ (writing lost : Type 0) (names : Names) (new : Option Names) (taken now
       )
 
 pub reads_back : (happens : Outside → Type 0) (names : Names) (c : ClientCommand) (to : List ℕ) → IsOutput c to → (old new : Moment) (r : Status) → old.shelf.names ≡ Some names → IsDoneOrNo r
-    → Runs (Answers happens (Some c)) (names_read (Some c)) old new r → ReadsBack happens names c to new.shelf.names
+    → Runs (Answers happens (Some c)) (inputs_read (Some c)) old new r → ReadsBack happens names c to new.shelf.names
 reads_back happens names c to out old new r told done h =
-    here (subst (λ (z : Option Names). Ends (Comes (Answers happens (Some c) z) (StopsAt (names_read (Some c)) old.shelf.opened new.shelf.opened old.faults new.faults))
+    here (subst (λ (z : Option Names). Ends (Comes (Answers happens (Some c) z) (StopsAt (names_in (inputs_read (Some c))) old.shelf.opened new.shelf.opened old.faults new.faults))
     (Rose old.faults.writing new.faults.writing) (Rose old.lost new.lost) z new.shelf.names old.taken new.taken r) told h.ends) where
       here : {stops_at : List ℕ → Type 0} {writing lost : Type 0} → Ends (Comes (Answers happens (Some c) (Some names)) stops_at) writing lost (Some names) new.shelf.names old.taken new.taken r
           → ReadsBack happens names c to new.shelf.names
@@ -344,9 +345,9 @@ pub offline_plain : (happens : Outside → Type 0) (told : Option Names) (c : Op
 offline_plain happens told c e offline a = is_plain (IsOutputAsked c) (IsStampAsked c) (none_stamped c offline) e.acts (makes_only happens told c e a)
 
 pub leaves_others : (happens : Outside → Type 0) (names : Names) (c : Option ClientCommand) (old new : Moment) (r : Status) → old.shelf.names ≡ Some names
-    → Runs (Answers happens c) (names_read c) old new r → Leaves names (IsOutputAsked c) new.shelf.names
+    → Runs (Answers happens c) (inputs_read c) old new r → Leaves names (IsOutputAsked c) new.shelf.names
 leaves_others happens names c old new r told h =
-    here (subst (λ (z : Option Names). Ends (Comes (Answers happens c z) (StopsAt (names_read c) old.shelf.opened new.shelf.opened old.faults new.faults))
+    here (subst (λ (z : Option Names). Ends (Comes (Answers happens c z) (StopsAt (names_in (inputs_read c)) old.shelf.opened new.shelf.opened old.faults new.faults))
     (Rose old.faults.writing new.faults.writing) (Rose old.lost new.lost) z new.shelf.names old.taken new.taken r) told h.ends) where
       here : {stops_at : List ℕ → Type 0} {writing lost : Type 0} → Ends (Comes (Answers happens c (Some names)) stops_at) writing lost (Some names) new.shelf.names old.taken new.taken r
           → Leaves names (IsOutputAsked c) new.shelf.names

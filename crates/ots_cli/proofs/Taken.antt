@@ -4,7 +4,7 @@ use Rattle.ots_address.specs.Address.{AddressParts}
 use Rattle.ots_chain.specs.declared.pins.Pin.{Pin}
 use Rattle.ots_checking.specs.Chain.{ChecksChain, is_broken, pin_fails, is_whole, WithPerhapsPins, WithPins}
 use Rattle.ots_checking.specs.Verified.{PrintsVerdict, VerifiesBy, VerifiesProof, VerifiesTarget, WithPerhapsTable, WithTable, WithTarget}
-use Rattle.ots_cli.specs.Answer.{Answers, names_read}
+use Rattle.ots_cli.specs.Answer.{Answers, inputs_read}
 use Rattle.ots_cli.specs.Taken.{IsProof, TakesProofs, proofs_read}
 use Rattle.ots_client_endings.specs.Ending.{Ending, makes, printing}
 use Rattle.ots_client_endings.specs.Outcome.{Excused}
@@ -196,8 +196,8 @@ of_excused names proofs old new (BadPins line) h = absurd h
 of_excused names proofs old new (PinFails height) h = absurd h
 
 pub are_taken : (happens : Outside → Type 0) (names : Names) (c : ClientCommand) (old new : Moment) (s : Status) → old.shelf.names ≡ Some names
-    → Runs (Answers happens (Some c)) (names_read (Some c)) old new s → TakesProofs names (proofs_read c) s
-are_taken happens names c old new s told h = elim (outcome (Answers happens (Some c)) (names_read (Some c)) old new s h) [
+    → Runs (Answers happens (Some c)) (inputs_read (Some c)) old new s → TakesProofs names (proofs_read c) s
+are_taken happens names c old new s told h = elim (outcome (Answers happens (Some c)) (inputs_read (Some c)) old new s h) [
   | inr excused ↦ of_excused names (proofs_read c) old new s excused
   | inl (e, a, may) ↦ takes names e s may happens c (subst (λ (z : Option Names). Answers happens (Some c) z e) told a)
 ]

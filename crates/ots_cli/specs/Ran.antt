@@ -3,7 +3,7 @@ use Rattle.std.specs.Prelude.{◌≡◌, ◌⊎◌, ℕ, List, Option, Some}
 use Rattle.ots_checking.specs.Verified.{RunsShort}
 use Rattle.ots_checking.specs.WholeChain.{HasWholeChain}
 use Rattle.ots_checking.specs.Yes.{HasFiles, SaysYes}
-use Rattle.ots_cli.specs.Answer.{Answers, names_read}
+use Rattle.ots_cli.specs.Answer.{Answers, inputs_read}
 use Rattle.ots_cli.specs.Asking.{IsOffline}
 use Rattle.ots_cli.specs.ReadsBack.{IsOutput, IsOutputAsked, ReadsBack}
 use Rattle.ots_cli.specs.Taken.{TakesProofs, proofs_read}
@@ -30,7 +30,7 @@ BoundsMemory c old new r = (v : Verification) → c ≡ Some (verify v) → r �
 pub record Ran (happens : Outside → Type 0) (drawing : Type 0) (c : Option ClientCommand) (old new : Moment)
     (r : Status) : Type 0 where
   -- all that a run does
-  pub runs : Runs (Answers happens c) (names_read c) old new r
+  pub runs : Runs (Answers happens c) (inputs_read c) old new r
   -- where `verify` may run out of memory
   pub bounded : BoundsMemory c old.shelf new.shelf r
   -- Where nobody is asked, the status is that of the answer, a name that is there being refused.

@@ -5,7 +5,9 @@ ghost use Rattle.ots_base.specs.Cause.{Rose};
 ghost use Rattle.ots_cli.specs.Answer.{Answers};
 ghost use Rattle.ots_client_endings.specs.CarriedOut.{CarriesOut};
 ghost use Rattle.ots_client_endings.specs.Ending.{Ending};
+ghost use Rattle.ots_client_endings.specs.InTurn.{OpensInTurn};
 ghost use Rattle.ots_client_endings.specs.Outside.{Outside};
+ghost use Rattle.ots_client_inputs.specs.Inputs.{Input};
 ghost use Rattle.ots_client_text.specs.declared.status.Status.{Status};
 ghost use Rattle.ots_client_text.specs.declared.status.Status.TheVariants.{OutOfMemory};
 ghost use Rattle.ots_client_words.specs.Words.{ClientCommand};
@@ -20,7 +22,8 @@ use ots_upgrade::one_outcome;
 
 /// The words, the bytes under the names, the nonces that were drawn and the outcomes of the conversations that were had
 /// determine how a run ends. And an ending is carried out in one way where nothing of the outside fails: what is under
-/// each name then, what was printed, and the status are determined, want of memory aside.
+/// each name then, what was printed, and the status are determined, want of memory aside. The bytes under the names
+/// also determine which of them are opened, where reading is not broken off.
 pub fn one_answer()
     ensures ending { (o : Outside) (names : Names) (c : Option ClientCommand) (d e : Ending)
         → Answers (λ x. x ≡ o) c (Some names) d → Answers (λ x. x ≡ o) c (Some names) e → d ≡ e }
@@ -29,6 +32,9 @@ pub fn one_answer()
         → CarriesOut ⊥ ⊥ e.status e.acts (Some names) new (Some taken) now q
         → CarriesOut ⊥ ⊥ e.status e.acts (Some names) other (Some taken) later r
         → (new ≡ other) × (now ≡ later) × (q ≡ r) }
+    ensures opened { (names : Names) (inputs : List Input) (old : List (List ℕ)) (new other : Option (List (List ℕ)))
+        → OpensInTurn (Some names) inputs ⊥ (Some old) new → OpensInTurn (Some names) inputs ⊥ (Some old) other
+        → new ≡ other }
 {}
 
 /// Where a dialer tells what was sent and the replies to come, and none of its calls fails, what calendars are asked

@@ -1,6 +1,6 @@
 //! The top call.
 ghost use Rattle.ots_base.specs.Cause.{Rose};
-ghost use Rattle.ots_cli.specs.Answer.{Answers, names_read};
+ghost use Rattle.ots_cli.specs.Answer.{Answers, inputs_read};
 ghost use Rattle.ots_cli.specs.Asking.{Asks, DrawsFor};
 ghost use Rattle.ots_cli.specs.Ran.{BoundsMemory, Ran};
 ghost use Rattle.ots_client_endings.specs.Outside.{Happens};
@@ -23,10 +23,11 @@ use std::alloc::Global;
 /// order of reading does. Each has one line, or the command's text, but want of memory and a sink
 /// that failed.
 ///
-/// It opens the files that the command reads, in order, creates its outputs last, and changes no
-/// other name. `stamp` draws a nonce for each file. `stamp` and `upgrade` ask calendars, each in a
-/// conversation of its own, before they make an output. The other commands leave the dialer as it
-/// is, and all but `stamp` the nonces.
+/// It opens the files that the command reads, in order, each only once all before it are there and
+/// accepted, creates its outputs last, and changes no other name. `stamp` and `upgrade` read their
+/// list of calendars before any file. `stamp` draws a nonce for each file. Both ask calendars, each
+/// in a conversation of its own, before they make an output. The other commands leave the dialer as
+/// it is, and all but `stamp` the nonces.
 pub fn run_client<S: Shelf, K: Sink, D: Dialer, N: Nonces>(
     alloc: Global,
     words: &[String],
@@ -62,7 +63,7 @@ fn run_command<S: Shelf, K: Sink, D: Dialer, N: Nonces>(
 ) -> Status
     ensures runs { Runs (Answers
         (Happens D.told D.faults N.left N.faults dialer.old dialer.new nonces.old nonces.new)
-        (Some (read_as command.entry))) (names_read (Some (read_as command.entry)))
+        (Some (read_as command.entry))) (inputs_read (Some (read_as command.entry)))
         (at S.told S.faults K.taken K.faults shelf.old out.old)
         (at S.told S.faults K.taken K.faults shelf.new out.new) result }
     ensures bounded { BoundsMemory (Some (read_as command.entry)) (S.told shelf.old) (S.told shelf.new) result }

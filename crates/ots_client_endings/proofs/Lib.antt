@@ -5,3 +5,4 @@ pub mod OneInput
 pub mod Outcome
 pub mod Reading
 pub mod Running
+pub mod Turns

@@ -1,5 +1,5 @@
 -- An input is read in one way, a list too, and a proof is written in one.
-use Rattle.std.proofs.Common.{◌≡◌, ℕ, Bool, List, [], Some, None, sym, ap, subst, ◌∙◌, arith}
+use Rattle.std.proofs.Common.{◌≡◌, ℕ, List, [], Some, None, sym, ap, subst, ◌∙◌, arith}
 use Rattle.std.specs.FinMap as map
 use Rattle.ots_address.specs.Address.{AddressParts}
 use Rattle.ots_address.proofs.ListLemmas.{none_bad, one_bad}
@@ -67,7 +67,7 @@ proof_refusal b s t (too_big long f) (bad_proof k fits h g) = absurd (omega arit
 proof_refusal b s t (bad_proof k fits h f) (too_big long g) = absurd (omega arith)
 proof_refusal b s t (bad_proof k fits h f) (bad_proof k' fits' h' g) = f ∙ ap (λ (z : Fault). BadProof z) (one_fault b k k' h h') ∙ sym g
 
-proof_or_not : (b : List ℕ) (p : Detached) (s : Status) → IsFileOf b p → RefusesProof b s → ⊥
+pub proof_or_not : (b : List ℕ) (p : Detached) (s : Status) → IsFileOf b p → RefusesProof b s → ⊥
 proof_or_not b p s is (too_big long f) = let fits = file_size b p is in omega arith
 proof_or_not b p s is (bad_proof k fits h f) = no_fault b p k is h
 

@@ -14,6 +14,7 @@ use Rattle.ots_client_endings.specs.CarriedOut.{CarriesOut, carried_out, no_memo
 use Rattle.ots_client_endings.specs.Ending.{Act, Ending, makes, makes_stamp, printing, prints}
 use Rattle.ots_client_endings.specs.Outcome.{Excused, IsDoneOrNo, Leaves}
 use Rattle.ots_client_endings.specs.Runs.{as_defined, not_read, Moment, Runs}
+use Rattle.ots_client_inputs.specs.Inputs.{Input, names_in}
 use Rattle.ots_inputs.specs.Opened.{StopsAt, not_opened, opened_last}
 
 -- ---- the status
@@ -85,16 +86,16 @@ excused old new r (inl h) = subst (Excused old new) (sym h.1) h.0
 excused old new r (inr is) = subst (Excused old new) (sym is) tt
 
 -- The run ended as one of its answers may, or failed.
-pub outcome : (answers : Option Names → Ending → Type 0) (reads : List (List ℕ)) (old new : Moment) (r : Status)
-    → Runs answers reads old new r → ((e : Ending) × answers old.shelf.names e × MayEnd e r) ⊎ Excused old new r
-outcome answers reads old new r h = elim h.ends [
+pub outcome : (answers : Option Names → Ending → Type 0) (inputs : List Input) (old new : Moment) (r : Status)
+    → Runs answers inputs old new r → ((e : Ending) × answers old.shelf.names e × MayEnd e r) ⊎ Excused old new r
+outcome answers inputs old new r h = elim h.ends [
   | no_memory is same kept ↦ inr (subst (Excused old new) (sym is) tt)
   | carried_out e (as_defined a) k ↦ (elim (carried_status _ _ e.status e.acts _ _ _ _ r k) [
     | inl may ↦ inl (e, a, may)
     | inr failed ↦ inr (excused old new r failed)
   ])
   | carried_out e (not_read name stops is) k ↦ (elim (carried_status _ _ e.status e.acts _ _ _ _ r k) [
-    | inl may ↦ inr (subst (Excused old new) (sym (only_prints e r ReadFault _ is may)) (stop_rose reads _ _ _ _ name stops))
+    | inl may ↦ inr (subst (Excused old new) (sym (only_prints e r ReadFault _ is may)) (stop_rose (names_in inputs) _ _ _ _ name stops))
     | inr failed ↦ inr (excused old new r failed)
   ])
 ]

@@ -1,5 +1,6 @@
 pub mod CarriedOut
 pub mod Ending
+pub mod InTurn
 pub mod Outcome
 pub mod Outside
 pub mod Reading

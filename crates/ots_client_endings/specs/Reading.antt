@@ -1,11 +1,13 @@
 -- What a command goes on with that reads names in order, and what reading them does to a shelf.
-use Rattle.std.specs.Prelude.{◌≡◌, ℕ, Bool, List, [], Option, None, Result, IfOk, IfErr}
+use Rattle.std.specs.Prelude.{◌≡◌, ◌⊎◌, ℕ, Bool, List, [], Option, None, Result, IfOk, IfErr}
 use Rattle.ots_address.specs.Address.{AddressParts}
 use Rattle.ots_address.specs.AddressList.{IsBadAddress, IsListOf}
 use Rattle.ots_detached.specs.File.{IsFileOf}
 use Rattle.ots_outside.specs.Shelf.{Names, ShelfFaults, ShelfTold}
 use Rattle.ots_tree.specs.declared.detached.Detached.{Detached}
 use Rattle.ots_client_endings.specs.Ending.{Ending, refused}
+use Rattle.ots_client_endings.specs.InTurn.{StopsInTurn}
+use Rattle.ots_client_inputs.specs.Inputs.{AreAccepted, Input, names_in}
 use Rattle.ots_client_inputs.specs.Proof.{RefusesProof}
 use Rattle.ots_client_text.specs.declared.status.Status.{Status}
 use Rattle.ots_client_text.specs.declared.status.Status.TheVariants as status
@@ -52,14 +54,20 @@ StopsFor answers stops_at name ReadFault = stops_at name
 StopsFor answers stops_at name (Refused s) = answers (refused name s)
 StopsFor answers stops_at name OutOfMemory = Unit {0}
 
--- Names were read in order. All of them, which gives this; or reading stopped at one, and `answers` says of which
--- refusals that may be.
-pub record Reads {A : Type 0} (reads : List (List ℕ)) (gives : Option Names → A → Type 0)
+-- Reading was broken off: the shelf counted a fault there, or memory ran out.
+abbrev pub BreaksOff : InputError Status → Type 0
+BreaksOff e = (e ≡ ReadFault) ⊎ (e ≡ OutOfMemory)
+
+-- Inputs were read in order. All of them, which gives this, and all are accepted; or reading stopped at one, and
+-- `answers` says of which refusals that may be.
+pub record Reads {A : Type 0} (inputs : List Input) (gives : Option Names → A → Type 0)
     (answers : Option Names → Ending → Type 0)
     (old new : ShelfTold) (before now : ShelfFaults) (r : Result A (Stop Status)) : Type 0 where
   pub given : IfOk r (gives old.names)
-  pub stopped : IfErr r (λ stop. StopsFor (answers old.names) (StopsAt reads old.opened new.opened before now)
-      stop.name.now stop.why)
-  pub opened : IfOk r (λ x. Opens reads old.opened new.opened)
-  pub prefix : OpensPrefix reads old.opened new.opened
+  pub stopped : IfErr r (λ stop. StopsFor (answers old.names)
+      (StopsAt (names_in inputs) old.opened new.opened before now) stop.name.now stop.why)
+  pub opened : IfOk r (λ x. Opens (names_in inputs) old.opened new.opened)
+  pub prefix : OpensPrefix (names_in inputs) old.opened new.opened
+  pub accepted : IfOk r (λ x. AreAccepted old.names inputs)
+  pub in_turn : IfErr r (λ stop. StopsInTurn old.names inputs (BreaksOff stop.why) old.opened new.opened)
   pub kept : KeepsShelf (¬ RanOut r) old new before now

@@ -1,8 +1,10 @@
 -- How a command runs: what it may come to by the names that it reads, and what it does to a shelf and a sink.
-use Rattle.std.specs.Prelude.{◌≡◌, ◌≢◌, ◌≤◌, ℕ, List, Option}
+use Rattle.std.specs.Prelude.{◌≡◌, ◌≢◌, ◌≤◌, ◌⊎◌, ℕ, List, Option}
 use Rattle.ots_base.specs.Cause.{Rose}
 use Rattle.ots_client_endings.specs.CarriedOut.{CarriesOut, Ends}
 use Rattle.ots_client_endings.specs.Ending.{Ending, refused}
+use Rattle.ots_client_endings.specs.InTurn.{OpensInTurn}
+use Rattle.ots_client_inputs.specs.Inputs.{Input, names_in}
 use Rattle.ots_client_text.specs.declared.status.Status.{Status}
 use Rattle.ots_client_text.specs.declared.status.Status.TheVariants as status
 use Rattle.ots_inputs.specs.declared.error.InputError.{InputError}
@@ -33,15 +35,24 @@ pub data Comes (answers : Ending → Type 0) (stops_at : List ℕ → Type 0) (e
   as_defined : answers e → Comes answers stops_at e
   not_read : (name : List ℕ) → stops_at name → e ≡ refused name status.ReadFault → Comes answers stops_at e
 
--- A command ran that reads these names in order, and answers so over what the shelf told under them. Where memory ran
--- out first, nothing was done. All that is told but this stays.
-pub record Runs (answers : Option Names → Ending → Type 0) (reads : List (List ℕ)) (old new : Moment)
+-- Reading was broken off: the shelf counted a fault of opening or of reading, or memory ran out.
+abbrev pub IsBrokenOff : ShelfFaults → ShelfFaults → Status → Type 0
+IsBrokenOff before now r = Rose before.opening now.opening ⊎ Rose before.reading now.reading
+    ⊎ (r ≡ status.OutOfMemory)
+
+-- A command ran that reads these inputs in order, and answers so over what the shelf told under their names. Where
+-- memory ran out first, nothing was done. All that is told but this stays.
+pub record Runs (answers : Option Names → Ending → Type 0) (inputs : List Input) (old new : Moment)
     (r : Status) : Type 0 where
   pub ends : Ends
-      (Comes (answers old.shelf.names) (StopsAt reads old.shelf.opened new.shelf.opened old.faults new.faults))
+      (Comes (answers old.shelf.names)
+      (StopsAt (names_in inputs) old.shelf.opened new.shelf.opened old.faults new.faults))
       (Rose old.faults.writing new.faults.writing) (Rose old.lost new.lost) old.shelf.names new.shelf.names old.taken
       new.taken r
-  pub opened : OpensPrefix reads old.shelf.opened new.shelf.opened
+  pub opened : OpensPrefix (names_in inputs) old.shelf.opened new.shelf.opened
+  -- each is opened only once all before it are accepted
+  pub in_turn : OpensInTurn old.shelf.names inputs (IsBrokenOff old.faults new.faults r) old.shelf.opened
+      new.shelf.opened
   pub short : r ≢ status.OutOfMemory → new.shelf.short ≡ old.shelf.short
   pub slots : (k : ℕ) → new.shelf.slots k ≡ old.shelf.slots k
   pub faults : NeverFalls old.faults new.faults

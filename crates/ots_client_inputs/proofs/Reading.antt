@@ -37,7 +37,7 @@ use Rattle.ots_inputs.specs.File.{MeansInput}
 use Rattle.ots_inputs.specs.Input.{InputAnswer, IsRefusal}
 use Rattle.ots_inputs.specs.Under.{IsUnder}
 use Rattle.ots_inputs.specs.declared.error.InputError.{InputError}
-use Rattle.ots_inputs.specs.declared.error.InputError.TheVariants.{Refused}
+use Rattle.ots_inputs.specs.declared.error.InputError.TheVariants.{NoFile, Refused}
 use Rattle.ots_inputs.specs.declared.file.TooBig.{TooBig}
 use Rattle.ots_client_text.specs.declared.status.Status.TheVariants.{BadProof}
 use Rattle.ots_inputs.proofs.Came.{prefix}
@@ -88,6 +88,26 @@ module _ (told : Option Names) (name : List ℕ) (left after : Option (List ℕ)
       let long = read.tells.1 in
       let longer = f.longer in
       (f.bytes, f.under, (omega arith, refl))
+
+-- what is read was opened
+pub source_there : (e : SourceError) → refused_source e ≡ NoFile → ⊥
+source_there source.ReadFault is = cc
+source_there source.TooBig is = cc
+source_there (source.BadProof fault) is = cc
+
+pub headers_there : (e : HeadersError) → refused_headers e ≡ NoFile → ⊥
+headers_there headers.ReadFault is = cc
+headers_there (headers.BadHeaders n) is = cc
+headers_there headers.OutOfMemory is = cc
+
+pub pins_there : (e : PinsError) → refused_pins e ≡ NoFile → ⊥
+pins_there pins.ReadFault is = cc
+pins_there (pins.BadPins number) is = cc
+pins_there pins.OutOfMemory is = cc
+
+pub target_there : (e : HashError) → refused_target e ≡ NoFile → ⊥
+target_there hashing.ReadFault is = cc
+target_there (hashing.FileTooLong n) is = cc
 
 -- the bytes that were read are those under the name
 found_told : (found left : Option (List ℕ)) (bytes : List ℕ) → IsSome found → left ≡ found → IfTold left (λ b. b ≡ bytes) → found ≡ Some bytes

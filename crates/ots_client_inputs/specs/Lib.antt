@@ -1,4 +1,5 @@
 pub mod Headers
+pub mod Inputs
 pub mod List
 pub mod Pins
 pub mod Proof

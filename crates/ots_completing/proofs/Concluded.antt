@@ -9,6 +9,7 @@ use Rattle.ots_client_endings.specs.Ending.{Ending, makes, prints}
 use Rattle.ots_client_endings.specs.Outside.{Outside}
 use Rattle.ots_client_endings.specs.Reading.{is_bad, is_given, is_list, is_refused}
 use Rattle.ots_client_endings.specs.Runs.{Comes, as_defined, not_read, Moment, Runs}
+use Rattle.ots_client_inputs.specs.Inputs.{names_in}
 use Rattle.ots_client_text.specs.Lines.{complete_text}
 use Rattle.ots_client_text.specs.Refusal.{refusal_text}
 use Rattle.ots_client_text.specs.Status.{complete_status}
@@ -18,7 +19,7 @@ use Rattle.ots_client_words.specs.Words.{Upgrading}
 use Rattle.ots_client_endings.proofs.Ended as ended
 use Rattle.ots_client_endings.proofs.Ended.{Carried}
 use Rattle.ots_completing.specs.Complete.{CanUpgrade, Concludes, IsResult, excused, made, too_long}
-use Rattle.ots_completing.specs.Upgrade.{Upgrades, UpgradesFile, WritesAsked, asked_made, asked_text, asked_too_long}
+use Rattle.ots_completing.specs.Upgrade.{Upgrades, UpgradesFile, WritesAsked, asked_made, asked_text, asked_too_long, inputs_upgraded}
 use Rattle.ots_detached.specs.File.{file_of}
 use Rattle.ots_inputs.specs.Opened.{StopsAt}
 use Rattle.ots_outside.specs.Shelf.{Names}
@@ -53,11 +54,11 @@ module _ (happens : Outside → Type 0) (names : Names) (u : Upgrading) (can : C
     is_upgrade = upgrade;
   }) asked e writes h
 
-  pub concluded : old.shelf.names ≡ Some names → Runs (λ told. Upgrades happens told u) (u.proof ∷ []) old new r → Concludes (IsResult happens (Some names) u) old new r
+  pub concluded : old.shelf.names ≡ Some names → Runs (λ told. Upgrades happens told u) (inputs_upgraded u) old new r → Concludes (IsResult happens (Some names) u) old new r
   concluded told h =
-      here (subst (λ (z : Option Names). Ends (Comes (Upgrades happens z u) (StopsAt (u.proof ∷ []) old.shelf.opened new.shelf.opened old.faults new.faults))
+      here (subst (λ (z : Option Names). Ends (Comes (Upgrades happens z u) (StopsAt (names_in (inputs_upgraded u)) old.shelf.opened new.shelf.opened old.faults new.faults))
       (Rose old.faults.writing new.faults.writing) (Rose old.lost new.lost) z new.shelf.names old.taken new.taken r) told h.ends) where
-        here : Ends (Comes (Upgrades happens (Some names) u) (StopsAt (u.proof ∷ []) old.shelf.opened new.shelf.opened old.faults new.faults))
+        here : Ends (Comes (Upgrades happens (Some names) u) (StopsAt (names_in (inputs_upgraded u)) old.shelf.opened new.shelf.opened old.faults new.faults))
             (Rose old.faults.writing new.faults.writing) (Rose old.lost new.lost) (Some names) new.shelf.names old.taken new.taken r
             → Concludes (IsResult happens (Some names) u) old new r
         here (no_memory ran same kept) = ended.ran_short old new r excused ran

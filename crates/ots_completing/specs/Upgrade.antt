@@ -7,6 +7,7 @@ use Rattle.ots_base.specs.declared.limits.TheConstants.{MAX_PROOF_FILE}
 use Rattle.ots_client_endings.specs.Ending.{Ending, makes, prints}
 use Rattle.ots_client_endings.specs.Outside.{Outside}
 use Rattle.ots_client_endings.specs.Reading.{WithList, WithProof}
+use Rattle.ots_client_inputs.specs.Inputs.{Input, calendars_of, proof_under}
 use Rattle.ots_client_text.specs.Lines.{complete_text}
 use Rattle.ots_client_text.specs.Refusal.{refusal_text}
 use Rattle.ots_client_text.specs.Status.{complete_status}
@@ -21,6 +22,10 @@ use Rattle.ots_pending.specs.Pairs.{ArePairs, PairAt}
 use Rattle.ots_tree.specs.declared.detached.Detached.{Detached}
 use Rattle.ots_upgrade.specs.Upgrading.{AreAskedPairs, outcomes, questions, trees_of}
 use Rattle.ots_upgrade.specs.declared.asking.AskedAt.{AskedAt}
+
+-- what is read, in order
+abbrev pub inputs_upgraded : Upgrading → List Input
+inputs_upgraded u = calendars_of u.calendars ∷ proof_under u.proof ∷ []
 
 -- a line for each pair that a proof asks for
 abbrev pub asked_text : List AskedAt → List ℕ

@@ -1,11 +1,11 @@
 //! The command `upgrade`.
-ghost use Rattle.std.specs.Prelude.{◌≡◌, ◌⊎◌, [], ◌∷◌, Some};
+ghost use Rattle.std.specs.Prelude.{◌≡◌, ◌⊎◌, Some};
 ghost use Rattle.ots_client_endings.specs.Outside.{Hears};
 ghost use Rattle.ots_client_endings.specs.Runs.{Runs, at};
 ghost use Rattle.ots_client_words.specs.Words.{read_upgrading};
 ghost use Rattle.ots_completing.specs.Asking.{AsksUpTo};
 ghost use Rattle.ots_completing.specs.Complete.{CanUpgrade, Concludes, IsResult};
-ghost use Rattle.ots_completing.specs.Upgrade.{Upgrades};
+ghost use Rattle.ots_completing.specs.Upgrade.{Upgrades, inputs_upgraded};
 ghost use Rattle.ots_outside.specs.Shelf.{Names};
 
 use crate::writing::write_upgraded;
@@ -31,7 +31,7 @@ pub fn upgrade<S: Shelf, K: Sink, D: Dialer>(
 ) -> Status
     ensures runs { Runs
         (λ told. Upgrades (Hears D.told D.faults dialer.old dialer.new) told (read_upgrading asked.entry))
-        (asked.entry.proof.now ∷ []) (at S.told S.faults K.taken K.faults shelf.old out.old)
+        (inputs_upgraded (read_upgrading asked.entry)) (at S.told S.faults K.taken K.faults shelf.old out.old)
         (at S.told S.faults K.taken K.faults shelf.new out.new) result }
     ensures asks { (dialer.new ≡ dialer.old)
         ⊎ AsksUpTo D.told D.faults (S.told shelf.old).names (read_upgrading asked.entry) dialer.old dialer.new }

@@ -11,6 +11,7 @@ use Rattle.ots_outside.specs.declared.reading.ReadAllError.{ReadAllError}
 use Rattle.ots_outside.specs.declared.reading.ReadAllError.TheVariants as reading
 use Rattle.ots_inputs.specs.File.{GivesBytes, RefusesBytes, refused_read}
 use Rattle.ots_inputs.specs.Input.{InputAnswer, IsRefusal}
+use Rattle.ots_inputs.specs.declared.error.InputError.TheVariants.{NoFile}
 use Rattle.ots_inputs.proofs.Came.{prefix}
 
 module _ (told : Option Names) (name : List ℕ) (limit : ℕ) (left after : Option (List ℕ))
@@ -29,3 +30,9 @@ module _ (told : Option Names) (name : List ℕ) (limit : ℕ) (left after : Opt
       let long = read.too_big.0 refl in
       let longer = f.longer in
       (f.bytes, f.under, omega arith)
+
+-- what is read was opened
+pub read_there : (e : ReadAllError) → refused_read e ≡ NoFile → ⊥
+read_there reading.ReadFault is = cc
+read_there reading.TooBig is = cc
+read_there reading.OutOfMemory is = cc

@@ -1,5 +1,5 @@
 -- What was read of a name is what is under it.
-use Rattle.std.proofs.Common.{◌≡◌, ◌≤◌, ℕ, List, ◌++◌, length, Option, Some, None, refl, sym, ap, subst, ◌∙◌, arith, append-nil, length-append}
+use Rattle.std.proofs.Common.{◌≡◌, ◌≤◌, ℕ, List, [], ◌∷◌, ◌++◌, length, Option, Some, None, refl, sym, ap, subst, ◌∙◌, arith, append-nil, length-append}
 use Rattle.std.specs.Prelude.{Result, Ok, Err, IsSome, IsErrAnd}
 use Rattle.std.specs.FinMap as map
 use Rattle.std.specs.Option.{option_and_then}
@@ -8,7 +8,9 @@ use Rattle.ots_base.specs.Told.{IfTold}
 use Rattle.ots_outside.specs.Shelf.{Names}
 use Rattle.ots_outside.specs.Streams.{Gives}
 use Rattle.ots_inputs.specs.declared.error.InputError.{InputError}
-use Rattle.ots_inputs.specs.Input.{InputAnswer, IsRefusal}
+use Rattle.ots_inputs.specs.declared.error.InputError.TheVariants.{NoFile, ReadFault, Refused, OutOfMemory}
+use Rattle.ots_inputs.specs.Input.{InputAnswer, IsRefusal, OpensRefused}
+use Rattle.ots_inputs.specs.Opened.{Opens}
 use Rattle.ots_inputs.specs.Under.{IsUnder}
 
 -- The bytes that came begin what is under the name, and are all of it where the end was reached.
@@ -41,3 +43,16 @@ pub error_is : {A R : Type 0} (told : Option Names) (name : List ℕ) (Gives : L
     → IsErrAnd r (λ x. x ≡ e) → IsRefusal told name Refuses e → InputAnswer told name Gives Refuses r
 error_is told name Gives Refuses (Ok x) e is why = absurd is
 error_is told name Gives Refuses (Err x) e is why = subst (IsRefusal told name Refuses) (sym is) why
+
+-- A name was opened, so that it is there.
+pub opened_refused : (A : Type 0) {R : Type 0} (name : List ℕ) (old new : Option (List (List ℕ))) (e : InputError R) → (e ≡ NoFile → ⊥) → Opens (name ∷ []) old new → OpensRefused {A = A} name old new (Err e)
+opened_refused A name old new NoFile there opened = absurd (there refl)
+opened_refused A name old new ReadFault there opened = tt
+opened_refused A name old new (Refused r) there opened = opened
+opened_refused A name old new OutOfMemory there opened = tt
+
+pub error_opened : {A R : Type 0} (name : List ℕ) (old new : Option (List (List ℕ))) (r : Result A (InputError R)) (e : InputError R)
+    → IsErrAnd r (λ x. x ≡ e) → (e ≡ NoFile → ⊥) → Opens (name ∷ []) old new → OpensRefused name old new r
+error_opened name old new (Ok x) e is there opened = absurd is
+error_opened {A} {R} name old new (Err x) e is there opened =
+    subst (λ (z : InputError R). OpensRefused {A = A} name old new (Err z)) (sym is) (opened_refused A name old new e there opened)

@@ -7,7 +7,7 @@ use Rattle.ots_inputs.specs.declared.error.InputError.{InputError}
 use Rattle.ots_inputs.specs.declared.error.InputError.TheVariants.{NoFile, ReadFault, Refused, OutOfMemory}
 use Rattle.ots_inputs.specs.declared.file.TooBig.{TooBig}
 use Rattle.ots_inputs.specs.File.{GivesBytes, MeansInput, RefusesBytes}
-use Rattle.ots_inputs.specs.Input.{InputAnswer, ReadsInput, map_refusal}
+use Rattle.ots_inputs.specs.Input.{InputAnswer, OpensRefused, ReadsInput, map_refusal}
 use Rattle.ots_inputs.specs.Opened.{IsOpenedOrNot}
 use Rattle.ots_inputs.proofs.Opened.{keeps_where}
 
@@ -25,23 +25,28 @@ module _ {A R : Type 0} {Gives : List ℕ → A → Type 0} {Refuses : List ℕ 
   means_given (Ok bytes) x h means = record {
     answer = (h.answer.0, h.answer.1, subst (λ (z : List ℕ). Gives z x) (sym h.answer.2.0) means);
     opened = h.opened;
+    refused = tt;
     kept = keeps_where (λ enough ran. cc) h.kept;
   }
   means_given (Err e) x h means = absurd means
 
   -- or it is said why not
   said : (e : InputError TooBig) (f g : InputError R) → ReadsInput (GivesBytes limit) (RefusesBytes limit) name old new before now (Err e) → g ≡ f → InputAnswer {A = A} old.names name Gives Refuses (Err f)
+      → OpensRefused {A = A} name old.opened new.opened (Err f)
       → (f ≡ ReadFault → e ≡ ReadFault) → (e ≡ OutOfMemory → f ≡ OutOfMemory) → ReadsInput {A = A} Gives Refuses name old new before now (Err g)
-  said e f g h is answer fault ran = subst (λ (z : InputError R). ReadsInput {A = A} Gives Refuses name old new before now (Err z)) (sym is) (record {
+  said e f g h is answer at fault ran = subst (λ (z : InputError R). ReadsInput {A = A} Gives Refuses name old new before now (Err z)) (sym is) (record {
     answer = answer;
     opened = opened_or name old.opened new.opened before now (e ≡ ReadFault) (f ≡ ReadFault) fault h.opened;
+    refused = at;
     kept = keeps_where (λ enough short. enough (let short_is : e ≡ OutOfMemory = cc in let also : f ≡ OutOfMemory = ran short_is in cc)) h.kept;
   })
 
-  after : (bytes : Vec ℕ Global) (e : InputError R) → ReadsInput (GivesBytes limit) (RefusesBytes limit) name old new before now (Ok bytes) → InputAnswer {A = A} old.names name Gives Refuses (Err e) → (e ≡ ReadFault → ⊥) → ReadsInput {A = A} Gives Refuses name old new before now (Err e)
-  after bytes e h answer no_fault = record {
+  after : (bytes : Vec ℕ Global) (e : InputError R) → ReadsInput (GivesBytes limit) (RefusesBytes limit) name old new before now (Ok bytes) → InputAnswer {A = A} old.names name Gives Refuses (Err e)
+      → OpensRefused {A = A} name old.opened new.opened (Err e) → (e ≡ ReadFault → ⊥) → ReadsInput {A = A} Gives Refuses name old new before now (Err e)
+  after bytes e h answer at no_fault = record {
     answer = answer;
     opened = inr (h.opened, λ is. absurd (no_fault is));
+    refused = at;
     kept = keeps_where (λ enough ran. cc) h.kept;
   }
 
@@ -49,16 +54,16 @@ module _ {A R : Type 0} {Gives : List ℕ → A → Type 0} {Refuses : List ℕ 
   means_refused (Ok bytes) NoFile h means = absurd means
   means_refused (Ok bytes) ReadFault h means = absurd means
   means_refused (Ok bytes) (Refused r) h means =
-      after bytes (Refused r) h (h.answer.0, h.answer.1, subst (λ (z : List ℕ). Refuses z r) (sym h.answer.2.0) means) (λ is. cc)
-  means_refused (Ok bytes) OutOfMemory h means = after bytes OutOfMemory h tt (λ is. cc)
-  means_refused (Err NoFile) e h means = said NoFile NoFile e h means h.answer (λ is. absurd cc) (λ is. absurd cc)
-  means_refused (Err ReadFault) e h means = said ReadFault ReadFault e h means tt (λ is. refl) (λ is. absurd cc)
+      after bytes (Refused r) h (h.answer.0, h.answer.1, subst (λ (z : List ℕ). Refuses z r) (sym h.answer.2.0) means) h.opened (λ is. cc)
+  means_refused (Ok bytes) OutOfMemory h means = after bytes OutOfMemory h tt tt (λ is. cc)
+  means_refused (Err NoFile) e h means = said NoFile NoFile e h means h.answer h.refused (λ is. absurd cc) (λ is. absurd cc)
+  means_refused (Err ReadFault) e h means = said ReadFault ReadFault e h means tt tt (λ is. refl) (λ is. absurd cc)
   means_refused (Err (Refused big)) NoFile h means = absurd means
   means_refused (Err (Refused big)) ReadFault h means = absurd means
   means_refused (Err (Refused big)) (Refused r) h means =
-      said (Refused big) (Refused r) (Refused r) h refl (h.answer.0, h.answer.1, means h.answer.0 h.answer.2) (λ is. absurd cc) (λ is. absurd cc)
+      said (Refused big) (Refused r) (Refused r) h refl (h.answer.0, h.answer.1, means h.answer.0 h.answer.2) h.refused (λ is. absurd cc) (λ is. absurd cc)
   means_refused (Err (Refused big)) OutOfMemory h means = absurd means
-  means_refused (Err OutOfMemory) e h means = said OutOfMemory OutOfMemory e h means tt (λ is. absurd cc) (λ is. refl)
+  means_refused (Err OutOfMemory) e h means = said OutOfMemory OutOfMemory e h means tt tt (λ is. absurd cc) (λ is. refl)
 
 -- Why there are no bytes is handed on, and that there are too many of them is this refusal.
 pub handed_on : {A R : Type 0} (Gives : List ℕ → A → Type 0) (Refuses : List ℕ → R → Type 0) {limit : ℕ} (read : Bytes) (e : InputError TooBig) (f : InputError R) (r : R)
@@ -74,18 +79,19 @@ handed_on {A} {R} Gives Refuses {limit} read e f r is same refuses =
     by OutOfMemory = refl
 
 module _ {A R Q : Type 0} {Gives : List ℕ → A → Type 0} {Refuses : List ℕ → R → Type 0} {Declines : List ℕ → Q → Type 0} {name : List ℕ} {old new : ShelfTold} {before now : ShelfFaults} where
-  seen : (e : InputError R) (f : InputError Q) → InputAnswer {A = A} old.names name Gives Declines (Err f) → (f ≡ ReadFault → e ≡ ReadFault) → (e ≡ OutOfMemory → f ≡ OutOfMemory)
+  seen : (e : InputError R) (f : InputError Q) → InputAnswer {A = A} old.names name Gives Declines (Err f) → OpensRefused {A = A} name old.opened new.opened (Err f) → (f ≡ ReadFault → e ≡ ReadFault) → (e ≡ OutOfMemory → f ≡ OutOfMemory)
       → ReadsInput {A = A} Gives Refuses name old new before now (Err e) → ReadsInput {A = A} Gives Declines name old new before now (Err f)
-  seen e f answer fault ran h = record {
+  seen e f answer at fault ran h = record {
     answer = answer;
     opened = opened_or name old.opened new.opened before now (e ≡ ReadFault) (f ≡ ReadFault) fault h.opened;
+    refused = at;
     kept = keeps_where (λ enough short. enough (let short_is : e ≡ OutOfMemory = cc in let also : f ≡ OutOfMemory = ran short_is in cc)) h.kept;
   }
 
   -- A refusal is seen as another.
   pub refused_into : (f : R → Q) (e : InputError R) → ((bytes : List ℕ) (r : R) → Refuses bytes r → Declines bytes (f r))
       → ReadsInput {A = A} Gives Refuses name old new before now (Err e) → ReadsInput {A = A} Gives Declines name old new before now (Err (map_refusal f e))
-  refused_into f NoFile declines h = seen NoFile NoFile h.answer (λ is. absurd cc) (λ is. absurd cc) h
-  refused_into f ReadFault declines h = seen ReadFault ReadFault tt (λ is. refl) (λ is. absurd cc) h
-  refused_into f (Refused r) declines h = seen (Refused r) (Refused (f r)) (h.answer.0, h.answer.1, declines h.answer.0 r h.answer.2) (λ is. absurd cc) (λ is. absurd cc) h
-  refused_into f OutOfMemory declines h = seen OutOfMemory OutOfMemory tt (λ is. absurd cc) (λ is. refl) h
+  refused_into f NoFile declines h = seen NoFile NoFile h.answer h.refused (λ is. absurd cc) (λ is. absurd cc) h
+  refused_into f ReadFault declines h = seen ReadFault ReadFault tt tt (λ is. refl) (λ is. absurd cc) h
+  refused_into f (Refused r) declines h = seen (Refused r) (Refused (f r)) (h.answer.0, h.answer.1, declines h.answer.0 r h.answer.2) h.refused (λ is. absurd cc) (λ is. absurd cc) h
+  refused_into f OutOfMemory declines h = seen OutOfMemory OutOfMemory tt tt (λ is. absurd cc) (λ is. refl) h

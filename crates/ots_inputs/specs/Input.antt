@@ -30,12 +30,22 @@ abbrev pub OpensInput : {A R : Type 0} → List ℕ → Option (List (List ℕ))
 OpensInput name old new before now (Ok x) = Opens (name ∷ []) old new
 OpensInput name old new before now (Err e) = IsOpenedOrNot name old new before now (e ≡ ReadFault)
 
+-- A name that is not there was not opened, and one whose bytes are refused was.
+abbrev pub OpensRefused : {A R : Type 0} → List ℕ → Option (List (List ℕ)) → Option (List (List ℕ))
+    → Result A (InputError R) → Type 0
+OpensRefused name old new (Ok x) = Unit {0}
+OpensRefused name old new (Err NoFile) = Opens [] old new
+OpensRefused name old new (Err ReadFault) = Unit {0}
+OpensRefused name old new (Err (Refused r)) = Opens (name ∷ []) old new
+OpensRefused name old new (Err OutOfMemory) = Unit {0}
+
 -- One name was read.
 pub record ReadsInput {A R : Type 0} (Gives : List ℕ → A → Type 0) (Refuses : List ℕ → R → Type 0) (name : List ℕ)
     (old new : ShelfTold)
     (before now : ShelfFaults) (r : Result A (InputError R)) : Type 0 where
   pub answer : InputAnswer old.names name Gives Refuses r
   pub opened : OpensInput name old.opened new.opened before now r
+  pub refused : OpensRefused name old.opened new.opened r
   pub kept : KeepsShelf (¬ IsErrOf r OutOfMemory) old new before now
 
 -- The same, where the name is told with a refusal.

@@ -1,6 +1,7 @@
 //! The command `info`.
 ghost use Rattle.std.specs.Prelude.{[], ◌∷◌};
 ghost use Rattle.ots_client_endings.specs.Runs.{Runs, at};
+ghost use Rattle.ots_client_inputs.specs.Inputs.{proof_under};
 ghost use Rattle.ots_rewriting.specs.Info.{TellsProof};
 
 use ots_client_endings::{print, refuse_stop};
@@ -29,7 +30,7 @@ impl PrintedText for Listing<'_> {
 
 /// Prints the proof that is under a name.
 pub fn info<S: Shelf, K: Sink>(alloc: Global, name: &str, shelf: &mut S, out: &mut K) -> Status
-    ensures runs { Runs (λ told. TellsProof told name.now) (name.now ∷ [])
+    ensures runs { Runs (λ told. TellsProof told name.now) (proof_under name.now ∷ [])
         (at S.told S.faults K.taken K.faults shelf.old out.old)
         (at S.told S.faults K.taken K.faults shelf.new out.new) result }
     ensures same { K.same out.old out.new }

@@ -1,6 +1,7 @@
 //! The command `merge`.
 ghost use Rattle.std.specs.Prelude.{◌≡◌, [], ◌∷◌};
 ghost use Rattle.ots_client_endings.specs.Runs.{Runs, at};
+ghost use Rattle.ots_client_inputs.specs.Inputs.{proof_under};
 ghost use Rattle.ots_client_text.specs.declared.status.Status.TheVariants.{Differs};
 ghost use Rattle.ots_rewriting.specs.Merged.{Joins};
 
@@ -22,7 +23,8 @@ pub fn merge<S: Shelf, K: Sink>(
     shelf: &mut S,
     out: &mut K,
 ) -> Status
-    ensures runs { Runs (λ told. Joins told first.now second.now to.now) (first.now ∷ second.now ∷ [])
+    ensures runs { Runs (λ told. Joins told first.now second.now to.now)
+        (proof_under first.now ∷ proof_under second.now ∷ [])
         (at S.told S.faults K.taken K.faults shelf.old out.old)
         (at S.told S.faults K.taken K.faults shelf.new out.new) result }
     ensures same { K.same out.old out.new }

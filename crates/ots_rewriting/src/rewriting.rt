@@ -1,6 +1,7 @@
 //! The commands `canon` and `prune`.
 ghost use Rattle.std.specs.Prelude.{[], ◌∷◌, IfOk};
 ghost use Rattle.ots_client_endings.specs.Runs.{Runs, at};
+ghost use Rattle.ots_client_inputs.specs.Inputs.{proof_under};
 ghost use Rattle.ots_rewriting.specs.Rewritten.{IsRewritten, IsTreeOf, Rewrites};
 
 use ots_base::OutOfMemory;
@@ -30,7 +31,7 @@ pub fn rewrite<S: Shelf, K: Sink>(
     shelf: &mut S,
     out: &mut K,
 ) -> Status
-    ensures runs { Runs (λ told. Rewrites way told from.now to.now) (from.now ∷ [])
+    ensures runs { Runs (λ told. Rewrites way told from.now to.now) (proof_under from.now ∷ [])
         (at S.told S.faults K.taken K.faults shelf.old out.old)
         (at S.told S.faults K.taken K.faults shelf.new out.new) result }
     ensures same { K.same out.old out.new }

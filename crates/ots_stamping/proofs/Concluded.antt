@@ -10,6 +10,7 @@ use Rattle.ots_client_endings.specs.Ending.{Ending, prints}
 use Rattle.ots_client_endings.specs.Outside.{Outside}
 use Rattle.ots_client_endings.specs.Reading.{is_bad, is_list}
 use Rattle.ots_client_endings.specs.Runs.{Comes, as_defined, not_read, Moment, Runs}
+use Rattle.ots_client_inputs.specs.Inputs.{names_in}
 use Rattle.ots_client_inputs.specs.Target.{IsHashOf}
 use Rattle.ots_client_text.specs.Lines.{proof_name, wrote_text}
 use Rattle.ots_client_text.specs.Refusal.{refusal_text}
@@ -27,7 +28,7 @@ use Rattle.ots_client_endings.proofs.Ended.{Carried}
 use Rattle.ots_stamping.specs.Complete as ends
 use Rattle.ots_stamping.specs.Complete.{AreSubmitted, CanStamp, Concludes, excused}
 use Rattle.ots_stamping.specs.Hashing.{AreHashed, are_hashed, one_refused}
-use Rattle.ots_stamping.specs.Stamp.{StampsFiles, StampsFilesAs, calendars_text, no_nonce, stamp_acts, stamped, too_few}
+use Rattle.ots_stamping.specs.Stamp.{StampsFiles, StampsFilesAs, calendars_text, inputs_stamped, no_nonce, stamp_acts, stamped, too_few}
 use Rattle.ots_upgrade.specs.Stamped.{good_trees}
 use Rattle.ots_upgrade.specs.declared.target.Target.{Target}
 
@@ -80,12 +81,12 @@ module _ (happens : Outside → Type 0) (names : Names) (s : Stamping) (drawing 
         (λ mid. all_made o targets sub enough s.files 0 names mid can.absent can.distinct)
         (subst (λ (z : Ending). Carried old new r z.status z.acts (Some names) old.taken) f h)
 
-    pub concluded : old.shelf.names ≡ Some names → Runs (λ told. StampsFilesAs happens told s) s.files old new r
+    pub concluded : old.shelf.names ≡ Some names → Runs (λ told. StampsFilesAs happens told s) (inputs_stamped s) old new r
         → Concludes (AreSubmitted happens (Some names) s) s.least drawing old new r
     concluded told h =
-        here (subst (λ (z : Option Names). Ends (Comes (StampsFilesAs happens z s) (StopsAt s.files old.shelf.opened new.shelf.opened old.faults new.faults))
+        here (subst (λ (z : Option Names). Ends (Comes (StampsFilesAs happens z s) (StopsAt (names_in (inputs_stamped s)) old.shelf.opened new.shelf.opened old.faults new.faults))
         (Rose old.faults.writing new.faults.writing) (Rose old.lost new.lost) z new.shelf.names old.taken new.taken r) told h.ends) where
-          here : Ends (Comes (StampsFilesAs happens (Some names) s) (StopsAt s.files old.shelf.opened new.shelf.opened old.faults new.faults))
+          here : Ends (Comes (StampsFilesAs happens (Some names) s) (StopsAt (names_in (inputs_stamped s)) old.shelf.opened new.shelf.opened old.faults new.faults))
               (Rose old.faults.writing new.faults.writing) (Rose old.lost new.lost) (Some names) new.shelf.names old.taken new.taken r
               → Concludes (AreSubmitted happens (Some names) s) s.least drawing old new r
           here (no_memory ran same kept) = ended.ran_short old new r excused ran

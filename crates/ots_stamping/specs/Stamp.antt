@@ -8,6 +8,7 @@ use Rattle.ots_address.specs.Address.{AddressParts}
 use Rattle.ots_client_endings.specs.Ending.{Act, Ending, makes_stamp, prints, refused}
 use Rattle.ots_client_endings.specs.Outside.{Outside}
 use Rattle.ots_client_endings.specs.Reading.{WithList}
+use Rattle.ots_client_inputs.specs.Inputs.{Input, calendars_of, target_under}
 use Rattle.ots_client_text.specs.Lines.{proof_name, wrote_text}
 use Rattle.ots_client_text.specs.Refusal.{refusal_text}
 use Rattle.ots_client_text.specs.declared.status.Status.TheVariants.{Done, NonceFault, TooFew}
@@ -22,6 +23,10 @@ use Rattle.ots_upgrade.specs.Stamping.{to_stamp}
 use Rattle.ots_upgrade.specs.Ways.{IsDepth}
 use Rattle.ots_upgrade.specs.declared.outcome.Outcome.{Outcome}
 use Rattle.ots_upgrade.specs.declared.target.Target.{Target}
+
+-- what is read, in order
+abbrev pub inputs_stamped : Stamping → List Input
+inputs_stamped s = calendars_of s.calendars ∷ map target_under s.files
 
 -- ---- what is asked
 

@@ -1,13 +1,14 @@
 //! The files that are stamped are hashed, after the list of calendars is read.
-ghost use Rattle.std.specs.Prelude.{◌≡◌, length, IfOk};
+ghost use Rattle.std.specs.Prelude.{◌≡◌, length, map, IfOk};
 ghost use Rattle.std.specs.List.{All};
 ghost use Rattle.ots_arguments.specs.Values.{texts};
 ghost use Rattle.ots_client_endings.specs.Outside.{Outside};
 ghost use Rattle.ots_client_endings.specs.Reading.{Reads};
+ghost use Rattle.ots_client_inputs.specs.Inputs.{target_under};
 ghost use Rattle.ots_client_words.specs.Words.{read_stamping};
 ghost use Rattle.ots_stamping.specs.Answered.{IsSubmissionOf};
 ghost use Rattle.ots_stamping.specs.Hashing.{AreHashed, RefusesOne};
-ghost use Rattle.ots_stamping.specs.Stamp.{StampsFiles};
+ghost use Rattle.ots_stamping.specs.Stamp.{StampsFiles, inputs_stamped};
 
 use crate::submission::Submission;
 use ots_client_inputs::{hash_target, read_list};
@@ -24,7 +25,7 @@ pub fn read_submission<'a, S: Shelf>(
     stamping: Stamping<'a>,
     shelf: &mut S,
 ) -> Result<Submission<'a>, Stop<'a, Status>>
-    ensures { (o : Outside) → Reads (texts stamping.entry.files.items)
+    ensures { (o : Outside) → Reads (inputs_stamped (read_stamping stamping.entry))
         (λ told. IsSubmissionOf told (read_stamping stamping.entry))
         (λ told. StampsFiles o told (read_stamping stamping.entry)) (S.told shelf.old) (S.told shelf.new)
         (S.faults shelf.old) (S.faults shelf.new) result }
@@ -49,7 +50,7 @@ fn hash_targets<'a, S: Shelf>(
     names: &[&'a str],
     shelf: &mut S,
 ) -> Result<Vec<Digest>, Stop<'a, Status>>
-    ensures reads { Reads (texts names.entry.now)
+    ensures reads { Reads (map target_under (texts names.entry.now))
         (λ told digests. AreHashed told (texts names.entry.now) digests.items)
         (λ told. RefusesOne told (texts names.entry.now))
         (S.told shelf.old) (S.told shelf.new) (S.faults shelf.old) (S.faults shelf.new) result }

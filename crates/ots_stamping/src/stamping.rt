@@ -8,7 +8,7 @@ ghost use Rattle.ots_client_words.specs.Words.{read_stamping};
 ghost use Rattle.ots_outside.specs.Shelf.{Names};
 ghost use Rattle.ots_stamping.specs.Asking.{StampsUpTo};
 ghost use Rattle.ots_stamping.specs.Complete.{AreSubmitted, CanStamp, Concludes};
-ghost use Rattle.ots_stamping.specs.Stamp.{StampsFilesAs};
+ghost use Rattle.ots_stamping.specs.Stamp.{StampsFilesAs, inputs_stamped};
 
 use crate::drawing::{DrawError, draw_targets};
 use crate::hashing::read_submission;
@@ -34,7 +34,7 @@ pub fn stamp<S: Shelf, K: Sink, D: Dialer, N: Nonces>(
 ) -> Status
     ensures runs { Runs (λ told. StampsFilesAs
         (Happens D.told D.faults N.left N.faults dialer.old dialer.new nonces.old nonces.new) told
-        (read_stamping asked.entry)) (texts asked.entry.files.items)
+        (read_stamping asked.entry)) (inputs_stamped (read_stamping asked.entry))
         (at S.told S.faults K.taken K.faults shelf.old out.old)
         (at S.told S.faults K.taken K.faults shelf.new out.new) result }
     ensures asks { (dialer.new ≡ dialer.old) ⊎ StampsUpTo D.told D.faults N.left (S.told shelf.old).names

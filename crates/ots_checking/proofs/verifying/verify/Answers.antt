@@ -1,10 +1,11 @@
 use Rattle.std.proofs.Common.{◌∙◌, ap}
-use Rattle.ots_checking.specs.Verified.{TellsVerdict, Verifies, names_verified}
+use Rattle.ots_checking.specs.Verified.{TellsVerdict, Verifies, inputs_verified}
 use Rattle.ots_checking.specs.declared.evidence.Evidence.{Evidence}
 use Rattle.ots_checking.proofs.Short.{only_tells, stop_short, tells_verdict, told_enough}
 use Rattle.ots_client_endings.proofs.Running.{read_finished, stop_told, told_finishes}
 use Rattle.ots_client_endings.specs.Ending.{printing}
 use Rattle.ots_client_text.specs.Lines.{verdict_text}
+use Rattle.ots_client_inputs.specs.Inputs.{names_in}
 use Rattle.ots_client_words.specs.Words.{read_verification}
 use Rattle.ots_inputs.specs.Opened.{StopsAt}
 use Rattle.ots_checking.proofs.verifying.verify.Goals as goal
@@ -28,6 +29,6 @@ returns-in-Ok-clause-bounded g c = λ ran.
 pub returns-in-Err-clause-bounded : goal.returns-in-Err-clause-bounded
 returns-in-Err-clause-bounded g c = λ ran.
     c.in-Err.ensures.bounded (stop_short (Verifies _ (read_verification c.args.asked))
-    (StopsAt (names_verified (read_verification c.args.asked)) (g.S.Shelf.told c.args.shelf.now).opened (g.S.Shelf.told c.read_evidence.new.shelf).opened
+    (StopsAt (names_in (inputs_verified (read_verification c.args.asked))) (g.S.Shelf.told c.args.shelf.now).opened (g.S.Shelf.told c.read_evidence.new.shelf).opened
     (g.S.Shelf.faults c.args.shelf.now) (g.S.Shelf.faults c.read_evidence.new.shelf)) c.in-Err.stop.name.now c.in-Err.stop.why _ _ _ (only_tells _ (read_verification c.args.asked))
     c.in-Err.ensures.reads.stopped (c.refuse_stop.ensures.told (g.S.Shelf.told c.read_evidence.new.shelf) (g.S.Shelf.faults c.read_evidence.new.shelf)) ran)

@@ -1,10 +1,11 @@
 use Rattle.std.proofs.Common.{◌≡◌, List, inr, refl, sym, subst, rules}
 use Rattle.ots_address.specs.Address.{AddressParts}
 use Rattle.ots_address.specs.AddressList.{IsListOf}
-use Rattle.ots_client_endings.proofs.Reading.{list_refused, named, named_stop, stop_into}
+use Rattle.ots_client_endings.proofs.Reading.{after_list, list_refused, named, named_stop, stop_into}
 use Rattle.ots_client_endings.proofs.Running.{read_finished, read_short, stop_told}
 use Rattle.ots_client_endings.specs.Outside.{Hears, alone}
 use Rattle.ots_client_endings.specs.Reading.{WithProof, is_list, is_refused}
+use Rattle.ots_client_inputs.proofs.Inputs.{a_proof}
 use Rattle.ots_client_words.specs.Words.{read_upgrading}
 use Rattle.ots_completing.proofs.Asked.{asks_all, asks_some, comes, unheard}
 use Rattle.ots_completing.proofs.Concluded.{concluded}
@@ -23,7 +24,7 @@ returns-in-Err-read_proof-clause-runs g c =
     let u = read_upgrading c.args.asked in
     stop_told {A = Unit {0}} {gives = λ told x. Unit {0}} (stop_into
     (λ e h. unheard g.D.Dialer.told g.D.Dialer.faults _ u c.args.dialer.now e (is_list _ c.in-Ok.ensures (is_refused h)))
-    (named_stop {stop = c.in-Err-read_proof.stop} c.in-Err-read_proof.ensures)) (c.refuse_stop-in-Err-read_proof.ensures.told _ _)
+    (after_list c.in-Ok.ensures (named_stop (a_proof _) {stop = c.in-Err-read_proof.stop} c.in-Err-read_proof.ensures))) (c.refuse_stop-in-Err-read_proof.ensures.told _ _)
 
 pub returns-in-Ok-upgrade_within-clause-runs : goal.returns-in-Ok-upgrade_within-clause-runs
 returns-in-Ok-upgrade_within-clause-runs g c =
@@ -31,12 +32,12 @@ returns-in-Ok-upgrade_within-clause-runs g c =
     let same : c.deref.result.now ≡ c.in-Ok.calendars.items = search rules in
     let h = c.in-Ok-upgrade_within.ensures.upgraded in
     read_finished (λ told. Upgrades (Hears g.D.Dialer.told g.D.Dialer.faults c.args.dialer.now c.upgrade_within.new.dialer) told u) _
-    (WritesAsked c.in-Ok-upgrade_within.upgraded.asked u.to h.upgraded.proof) (named c.in-Ok-read_proof.ensures)
+    (WritesAsked c.in-Ok-upgrade_within.upgraded.asked u.to h.upgraded.proof) (after_list c.in-Ok.ensures (named (a_proof _) c.in-Ok-read_proof.ensures))
     (λ e is. comes g.D.Dialer.told g.D.Dialer.faults (subst (λ (z : List AddressParts). IsListOf u.calendars z) (sym same) c.in-Ok.ensures) c.in-Ok-read_proof.ensures.answer h e is)
     (c.write_upgraded.ensures.finishes h.upgraded.proof h.told_within)
 
 pub returns-clause-runs : goal.returns-clause-runs
-returns-clause-runs g c = read_short (named c.in-Ok-read_proof.ensures) refl
+returns-clause-runs g c = read_short (after_list c.in-Ok.ensures (named (a_proof _) c.in-Ok-read_proof.ensures)) refl
 
 pub returns-in-Ok-upgrade_within-clause-asks : goal.returns-in-Ok-upgrade_within-clause-asks
 returns-in-Ok-upgrade_within-clause-asks g c =

@@ -10,7 +10,7 @@ use Rattle.ots_client_words.specs.Words.{read_stamping}
 use Rattle.ots_stamping.proofs.Concluded.{concluded}
 use Rattle.ots_stamping.proofs.Submitted.{draws_for, fault_drawn, not_drawn, stamps_as, submits_as, unheard}
 use Rattle.ots_stamping.specs.Answered.{AnswersTo}
-use Rattle.ots_stamping.specs.Stamp.{StampsFilesAs}
+use Rattle.ots_stamping.specs.Stamp.{StampsFilesAs, inputs_stamped}
 use Rattle.ots_stamping.proofs.stamping.stamp.Goals as goal
 
 pub returns-in-Err-clause-runs : goal.returns-in-Err-clause-runs
@@ -44,7 +44,7 @@ pub returns-in-Err-submit-clause-runs : goal.returns-in-Err-submit-clause-runs
 returns-in-Err-submit-clause-runs g c =
     let s = read_stamping c.args.asked in
     subst (λ (z : Moment). Runs (λ told. StampsFilesAs (Happens g.D.Dialer.told g.D.Dialer.faults g.N.Nonces.left g.N.Nonces.faults c.args.dialer.now c.submit.new.dialer c.args.nonces.now c.draw_targets.new.nonces) told s)
-    s.files (at g.S.Shelf.told g.S.Shelf.faults g.K.Sink.taken g.K.Sink.faults c.args.shelf.now c.args.out.now) z OutOfMemory) (sym c.in-Err-submit.ensures.short) (read_short (c.in-Ok.ensures alone) refl)
+    (inputs_stamped s) (at g.S.Shelf.told g.S.Shelf.faults g.K.Sink.taken g.K.Sink.faults c.args.shelf.now c.args.out.now) z OutOfMemory) (sym c.in-Err-submit.ensures.short) (read_short (c.in-Ok.ensures alone) refl)
 
 pub returns-in-Ok-submit-clause-asks : goal.returns-in-Ok-submit-clause-asks
 returns-in-Ok-submit-clause-asks g c =
