@@ -5,16 +5,18 @@
 
 Nobody is asked, since no address of the list has their URI: many pairs of a URI and a message, many places of
 one pair, and many URIs at one message of 4096 bytes, of six characters and, so that most of them fit, of three;
-each at a quarter of its size and whole. Then a calendar that this script serves answers one message with a tree
-of almost 10,000 bytes, and the proof has that message at 64, 1,024, 16,384 and 65,536 places: at 64 the result is a
+each at a quarter, a half and the whole of 4 MiB. Then a calendar that this script serves answers one message with a tree
+of almost 10,000 bytes, and the proof has that message at 64, 256, 1,024, 16,384 and 65,536 places: at 64 and 256 the result is a
 proof file, and at the others it is too big for one. Last, 100 and 400 messages of which each stands at 26 places, one
-below the other, and an answer that has the same branch at 26 places of that kind: what is put in coincides, and fits. PROGRAM is build/ots where none is given.
+below the other, and an answer that has the same branch at 26 places of that kind: what is put in coincides, and fits. PROGRAM is build/ots where none is given. It needs /usr/bin/time: a child of this
+script would have this script's own peak of memory.
 """
 
 import http.server
 import itertools
 import os
 import string
+import subprocess
 import sys
 import tempfile
 import threading
@@ -96,38 +98,36 @@ def run(name, proof, folder, calendar='http://127.0.0.1:9', expected=1):
     old, new = os.path.join(folder, 'old'), os.path.join(folder, 'new')
     with open(old, 'wb') as file:
         file.write(proof)
-    child = os.fork()
-    if child == 0:
-        nowhere = os.open(os.devnull, os.O_RDWR)
-        os.dup2(nowhere, 0)
-        os.dup2(nowhere, 1)
-        os.execv(PROGRAM, [PROGRAM, 'upgrade', '--calendars', calendar, old, new])
-    _, status, used = os.wait4(child, 0)
-    ended = os.waitstatus_to_exitcode(status)
+    told = os.path.join(folder, 'told')
+    words = ['/usr/bin/time', '-q', '-f', '%U %S %M', '-o', told]
+    ended = subprocess.run(words + [PROGRAM, 'upgrade', '--calendars', calendar, old, new], stdin=subprocess.DEVNULL,
+                           stdout=subprocess.DEVNULL).returncode
     if ended != expected:
         sys.exit(f'{name}: status {ended}')
     if os.path.exists(new):
         os.remove(new)
-    print(f'{name}: {len(proof)} bytes, {used.ru_utime + used.ru_stime:.2f} s, {used.ru_maxrss // 1024} MB')
+    with open(told) as file:
+        user, system, peak = map(float, file.read().split())
+    print(f'{name}: {len(proof)} bytes, {user + system:.2f} s, {peak / 1024:.0f} MB')
 
 
 def main():
     if not os.access(PROGRAM, os.X_OK):
         sys.exit(f'{PROGRAM} is not there: ./run ots builds it')
     with tempfile.TemporaryDirectory() as folder:
-        for count in (25000, 100000):
+        for count in (25000, 50000, 100000):
             run(f'{count} pairs', pairs(count), folder)
-        for count in (85000, 340000):
+        for count in (85000, 170000, 340000):
             run(f'{count} places of one pair', places(count), folder)
-        for count in (56000, 224000):
+        for count in (56000, 112000, 224000):
             run(f'{count} URIs at one message of 4096 bytes', uris(count), folder)
-        for count in (69750, 279000):
+        for count in (69750, 139500, 279000):
             run(f'{count} URIs of three characters at it', short_uris(count), folder)
         server = http.server.HTTPServer(('127.0.0.1', 0), Calendar)
         server.body = answer()
         threading.Thread(target=server.serve_forever, daemon=True).start()
         calendar = f'http://127.0.0.1:{server.server_port}'
-        for letters, expected in ((7, 1), (11, 8), (15, 8), (17, 8)):
+        for letters, expected in ((7, 1), (9, 1), (11, 8), (15, 8), (17, 8)):
             proof = PREFIX + one_message(letters, calendar.encode())
             run(f'an answer of {len(answer())} bytes at {2 ** (letters - 1)} places', proof, folder, calendar, expected)
         server.body = below_each_other(b'\x08' * 150 + end(b'u'))
