@@ -13,7 +13,8 @@ those cases run whose lines have one of them.
 
 It runs build/ots, build/otsd, build/otsmirror and build/otsgate (`./run NAME` builds each), or those of another folder,
 speaks to 127.0.0.1 alone, and is run by hand, on Linux. Closed streams, failing syncs, failing accepts and clients that
-mean ill are tried by closed_output.sh, failing_sync.sh, failing_accept.py and hostile.py.
+mean ill, and a system without random bytes, are tried by closed_output.sh, failing_sync.sh, failing_accept.py,
+hostile.py and failing_random.py.
 """
 
 import argparse
