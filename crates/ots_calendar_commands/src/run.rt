@@ -1,6 +1,7 @@
 //! The top call.
-ghost use Rattle.std.specs.Prelude.{◌≡◌, []};
+ghost use Rattle.std.specs.Prelude.{◌≡◌, ◌⊎◌, []};
 ghost use Rattle.ots_base.specs.Told.{IfTold};
+ghost use Rattle.ots_calendar_serve.specs.Serve.{Acknowledges};
 ghost use Rattle.ots_calendar_words.specs.Words.{asked};
 ghost use Rattle.ots_calendar_commands.specs.Meaning.{words_status};
 ghost use Rattle.ots_calendar_commands.specs.Run.{CompletesAs, RanAs, Stays, Survives};
@@ -24,7 +25,8 @@ use std::thread::Threads;
 ///
 /// The first word names the journal, which is the disk that is handed in. A command that is refused
 /// before the journal is opened calls no disk. Where no call of the outside fails, the status is the
-/// defined one, or memory ran out; of `serve` this is said where it returns.
+/// defined one, or memory ran out; of `serve` this is said where it returns. Where `serve` is done, every
+/// image that the disk may show after a crash holds each commitment that was acknowledged.
 #[expect(clippy::too_many_arguments)]
 pub fn run_calendar<
     D: Disk + Send,
@@ -57,6 +59,8 @@ pub fn run_calendar<
     ensures stays { Stays (asked words.now) (⟦<(D, S, K, A, C, N) as Run>⟧.told
         (disk, shelf.old, out.old, accepter, clock, nonces) (result.1, shelf.new, out.new))
         (result.1.disk ≡ disk) (result.1.accepter ≡ accepter) (result.1.nonces ≡ nonces) }
+    ensures acknowledged { (result.1.accepter ≡ accepter) ⊎ (result.0 ≡ DaemonStatus.Done
+        → Acknowledges A.Link.told A.Link.faults (A.returned result.1.accepter) (D.images result.1.disk)) }
     ensures same { K.same out.old out.new }
 {
     match read_words(alloc, words) {

@@ -18,10 +18,13 @@ use Rattle.ots_connection.specs.declared.service.Service.{Service}
 use Rattle.ots_store.specs.Order.{records_of}
 use Rattle.ots_store.specs.Records.{IsRecord, Record, entry_of, record_of}
 use Rattle.ots_store.specs.Store.{InRecords, StoreStands, StoreTold}
+use Rattle.ots_outside.specs.Link.{LinkTold}
+use Rattle.ots_shared.proofs.Begins.{starts_self}
 use Rattle.ots_shared.specs.Records.{StartsWith}
+use Rattle.ots_workers.specs.Returned.{AllWithin}
 use Rattle.ots_calendar_text.specs.Lines.{listening_line}
 use Rattle.ots_calendar_text.specs.declared.status.DaemonStatus.{DaemonStatus}
-use Rattle.ots_calendar_text.specs.declared.status.DaemonStatus.TheVariants.{WriteFault, AcceptFault}
+use Rattle.ots_calendar_text.specs.declared.status.DaemonStatus.TheVariants.{Done, WriteFault, AcceptFault, OutOfMemory}
 use Rattle.ots_calendar_endings.specs.With.{WithInput, is_given, no_file, refuses, is_uri, no_uri}
 use Rattle.ots_calendar_serve.specs.Serve.{HasService, WithService}
 use Rattle.ots_calendar_endings.specs.RunEnd.{Comes, as_defined, no_memory, RunEnd, Ends, declined, nowhere, refused, status_of}
@@ -29,7 +32,7 @@ use Rattle.ots_opening.specs.Images.{StandsAfter}
 use Rattle.ots_calendar_endings.specs.Printed.{PrintsLast}
 use Rattle.ots_workers.specs.declared.serving.ServeEnd.{ServeEnd as Served}
 use Rattle.ots_workers.specs.declared.serving.ServeEnd.TheVariants as ended
-use Rattle.ots_calendar_serve.specs.Serve.{EndsServing, is_done, accept_failed, no_memory as out_of_memory, serving_status, Listens, ServeAnswers, not_listening, not_printed, served, Tells, ended_text}
+use Rattle.ots_calendar_serve.specs.Serve.{Acknowledges, EndsServing, is_done, accept_failed, no_memory as out_of_memory, serving_status, Listens, ServeAnswers, not_listening, not_printed, served, Tells, ended_text}
 use Rattle.ots_calendar_serve.specs.ServeReading.{ReadsService, no_service}
 use Rattle.ots_calendar_endings.proofs.Inputs.{comes_map, input_comes, reads_given, reads_nothing, reads_refused}
 use Rattle.ots_inputs.specs.Under.{HasUnder}
@@ -109,7 +112,33 @@ store_keeps bytes images old new stood stands grown c image = by (stands.journal
     by (inl h) = (prefix.0, subst (λ (z : List Entry). Stands c z) prefix.1 h)
     by (inr h) = (prefix.0 ++ new.journal.flight, subst (λ (z : List Entry). Stands c z) (ap (λ (z : List Entry). z ++ new.journal.flight) prefix.1 ∙ append_assoc old.journal.entries prefix.0 new.journal.flight) h)
 
+-- what was acknowledged is in every image
+pub acknowledges : {D L : Type 0} (bytes : D → Option (List ℕ)) (images : D → List ℕ → Type 0) (store : StoreTold D) → StoreStands bytes images store → (disk : D) → disk ≡ store.journal.disk
+    → (told : L → Option LinkTold) (faults : L → ℕ) (links : Option (List L)) → AllWithin store.records told faults links → Acknowledges told faults links (images disk)
+acknowledges bytes images store stands disk same told faults links answered = record {
+  entries = store.journal.entries;
+  answered = subst (λ (z : List Record). AllWithin z told faults links) stands.records answered;
+  kept = λ c image. store_keeps bytes images store store stands stands (starts_self store.records) c (subst (λ d. images d c) same image);
+}
+
 -- ---- what is printed
+
+-- a text was printed, where the run ends as done
+pub printed_done : (printing : Type 0) (s : DaemonStatus) (text : List ℕ) (a b : Option (List ℕ)) (r : DaemonStatus) → PrintsLast printing s text a b r → r ≡ Done → s ≡ Done
+printed_done printing s text a b r (inl (whole, is)) done = sym is ∙ done
+printed_done printing s text a b r (inr (fault, prefix, is)) done = let not : WriteFault ≡ Done = sym is ∙ done in cc
+
+-- where it could not listen, it is not done
+pub unheard_not_done : (port : ℕ) (failed printing : Type 0) (a b : Option (List ℕ)) (r : DaemonStatus) → Listens port failed printing a b (Err r) → r ≡ Done → ⊥
+unheard_not_done port failed printing a b r (inl (fault, prefix, is)) done = let not : WriteFault ≡ Done = sym is ∙ done in cc
+unheard_not_done port failed printing a b r (inr (fault, printed)) done =
+    let not : AcceptFault ≡ Done = printed_done printing AcceptFault _ a b r printed done in cc
+
+-- serving itself was done then
+pub done_ended : (e : Served) → serving_status e ≡ Done → e ≡ ended.Done
+done_ended ended.Done is = refl
+done_ended ended.AcceptFault is = absurd (let not : AcceptFault ≡ Done = is in cc)
+done_ended ended.OutOfMemory is = absurd (let not : OutOfMemory ≡ Done = is in cc)
 
 -- one text after another
 pub prints_after : (later printing : Type 0) (s : DaemonStatus) (first second : List ℕ) (a b c : Option (List ℕ)) (r : DaemonStatus) → (later → printing) → Takes a b first → PrintsLast later s second b c r

@@ -1,6 +1,10 @@
 -- The command `serve`.
 use Rattle.std.specs.Prelude.{◌≡◌, ◌⊎◌, ℕ, List, [], ◌++◌, Option, Some, None, Result, Ok, Err, ◌∷◌}
+use Rattle.ots_opening.specs.Images.{StandsAfter}
+use Rattle.ots_outside.specs.Link.{LinkTold}
 use Rattle.ots_outside.specs.Streams.{Takes, TakesPrefix}
+use Rattle.ots_store.specs.Order.{records_of}
+use Rattle.ots_workers.specs.Returned.{AllWithin}
 use Rattle.ots_journal.specs.declared.entry.Entry.{Entry}
 use Rattle.ots_calendar_text.specs.Lines.{listening_line, served_line}
 use Rattle.ots_calendar_text.specs.Refusal.{refusal_text}
@@ -80,6 +84,14 @@ ServesAs links printing asked = ServeAnswers links.over links.answered links.fai
 abbrev pub TellsAs : LinksTold → Option ℕ → Type 0 → Option (List ℕ) → Option (List ℕ) → DaemonStatus → Type 0
 TellsAs links most printing taken now r =
     Tells (links.over most) links.answered links.failed printing links.accepted taken now r
+
+-- Each link was answered by records with which those of every image of the disk begin: so each commitment that was
+-- acknowledged is in all of them.
+pub record Acknowledges {L : Type 0} (told : L → Option LinkTold) (faults : L → ℕ) (links : Option (List L))
+    (images : List ℕ → Type 0) : Type 0 where
+  pub entries : List Entry
+  pub answered : AllWithin (records_of entries) told faults links
+  pub kept : (c : List ℕ) → images c → StandsAfter entries c
 
 -- the address and the key file
 abbrev pub WithService : Option Names → ServingAsked → (List ℕ → List ℕ → RunEnd → Type 0) → RunEnd → Type 0

@@ -10,7 +10,7 @@ ghost use Rattle.ots_calendar_endings.specs.With.{WithBook};
 ghost use Rattle.ots_calendar_endings.specs.Found.{HasSomeBook};
 ghost use Rattle.ots_calendar_endings.specs.Moments.{EachStands, KeepsFound};
 ghost use Rattle.ots_opening.specs.Images.{StandsAfter};
-ghost use Rattle.ots_calendar_serve.specs.Serve.{HasService, MayServe, serve_meaning};
+ghost use Rattle.ots_calendar_serve.specs.Serve.{Acknowledges, HasService, MayServe, serve_meaning};
 ghost use Rattle.ots_calendar_serve.specs.Serve.{Listens, ServesAs, TellsAs, serving_status};
 ghost use Rattle.ots_outputs.specs.Printed.{SinkStays};
 
@@ -72,6 +72,8 @@ pub fn serve<
         (read_serving asked.entry) }
     ensures nonce_faults { (N.faults nonces ≤ N.faults result.1.nonces) ⊎ MayServe
         (S.told shelf.old).names (D.bytes disk) (read_serving asked.entry) }
+    ensures acknowledged { (result.1.accepter ≡ accepter) ⊎ (result.0 ≡ DaemonStatus.Done
+        → Acknowledges A.Link.told A.Link.faults (A.returned result.1.accepter) (D.images result.1.disk)) }
     ensures same { K.same out.old out.new }
 {
     match read_service(alloc, asked, shelf) {
@@ -122,6 +124,8 @@ fn serve_on<
         (HasSomeBook (D.bytes disk) × KeepsFound (D.bytes disk) (D.images result.1.disk)) }
     ensures stays { ((result.1.accepter ≡ accepter) × (result.1.nonces ≡ nonces) ×
         (D.faults disk ≤ D.faults result.1.disk)) ⊎ HasSomeBook (D.bytes disk) }
+    ensures acknowledged { (result.1.accepter ≡ accepter) ⊎ (result.0 ≡ DaemonStatus.Done
+        → Acknowledges A.Link.told A.Link.faults (A.returned result.1.accepter) (D.images result.1.disk)) }
     ensures sink { SinkStays K.faults K.same out.old out.new }
 {
     match open_book(alloc, disk) {
@@ -171,6 +175,8 @@ fn serve_book<
         (⟦<(D, K) as Outside>⟧.told (result.1.disk, out.new)) result.0 }
     ensures keeps { (c : List ℕ) → D.images result.1.disk c → StandsAfter book.store.journal.entries
         c }
+    ensures acknowledged { result.0 ≡ DaemonStatus.Done → Acknowledges A.Link.told A.Link.faults
+        (A.returned result.1.accepter) (D.images result.1.disk) }
     ensures sink { SinkStays K.faults K.same out.old out.new }
 {
     let mut accepter = accepter;
@@ -227,10 +233,13 @@ fn serve_front<
     out: &mut K,
     front: Front<A, C, N>,
 ) -> (DaemonStatus, Returned<D, A, N>)
+    requires { NoneReturned (A.returned front.accepter) }
     ensures tells { TellsAs (⟦<A as Links>⟧.told result.1.accepter) asked.entry.accept
         (Rose (K.faults out.old) (K.faults out.new)) (K.taken out.old) (K.taken out.new) result.0 }
     ensures keeps { (c : List ℕ) → D.images result.1.disk c → StandsAfter book.store.journal.entries
         c }
+    ensures acknowledged { result.0 ≡ DaemonStatus.Done → Acknowledges A.Link.told A.Link.faults
+        (A.returned result.1.accepter) (D.images result.1.disk) }
     ensures sink { SinkStays K.faults K.same out.old out.new }
 {
     book.stands();

@@ -26,9 +26,9 @@ pub rose_from : (a b c : ℕ) → b ≡ a → Rose b c → Rose a c
 rose_from a b c is h = subst (λ (z : ℕ). Rose z c) is h
 
 -- the headers by which a verifier was begun
-pub checked_by : (v : Pieces) (bitcoin : Table) (litecoin other : Option Table) (bytes : List ℕ) (p : Detached) (c : Checked) → v ≡ record { bitcoin = bitcoin; litecoin = other; bytes = bytes }
-    → other ≡ litecoin → IsCheckOf p v.bitcoin v.litecoin c → IsCheckOf p bitcoin litecoin c
-checked_by v bitcoin litecoin other bytes p c is same check = subst (λ (z : Option Table). IsCheckOf p bitcoin z c) same (rw is at check)
+pub checked_by : (v : Pieces) (bitcoin : Table) (litecoin other : Option Table) (bytes : List ℕ) (reserved : ℕ) (p : Detached) (c : Checked)
+    → v ≡ record { bitcoin = bitcoin; litecoin = other; bytes = bytes; reserved = reserved } → other ≡ litecoin → IsCheckOf p v.bitcoin v.litecoin c → IsCheckOf p bitcoin litecoin c
+checked_by v bitcoin litecoin other bytes reserved p c is same check = subst (λ (z : Option Table). IsCheckOf p bitcoin z c) same (rw is at check)
 
 -- the hash of the proof
 pub hashed_by : (told : Option Names) (name : List ℕ) (h k : HashOp) (digest : List ℕ) → h ≡ k → HasUnder told name (λ bytes. IsHashOf h bytes digest) → HasUnder told name (λ bytes. IsHashOf k bytes digest)

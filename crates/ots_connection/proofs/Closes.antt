@@ -1,5 +1,5 @@
 -- What closing a round comes to, by each of its answers.
-use Rattle.std.proofs.Common.{◌≡◌, inl, inr, ℕ, ◌+◌, ◌<◌, ◌≤◌, Bool, true, false, List, [], ◌∷◌, ◌++◌, length, refl, sym, ap, subst, ◌∙◌, arith, length-append}
+use Rattle.std.proofs.Common.{◌≡◌, inl, inr, ℕ, ◌+◌, ◌<◌, ◌≤◌, Bool, true, false, List, [], ◌∷◌, ◌++◌, length, refl, ap, subst, arith, length-append}
 use Rattle.std.specs.Int.{w32, to_be_bytes}
 use Rattle.std.specs.Prelude.{Option, None, Some, IfSome, Result, Ok, Err}
 use Rattle.ots_calendar.specs.Book.{BookTold}
@@ -17,21 +17,16 @@ use Rattle.sha2.proofs.Facts256.{length-sha256}
 use Rattle.std.proofs.lemmas.List.{length-map, length-take-le}
 use Rattle.ots_store.specs.Records.{CommitRecord, entry_of, record_of}
 use Rattle.ots_store.specs.Store.{Adds, with_room}
-use Rattle.ots_base.specs.declared.out_of_memory.OutOfMemory.{OutOfMemory as NoMemory}
-use Rattle.ots_shared.specs.declared.row.Row.{Row}
-use Rattle.ots_store.specs.Records.{Record}
 use Rattle.ots_store.specs.Order.{commits_of, records_of}
-use Rattle.ots_round.specs.declared.ticket.Receipt.{Receipt}
 use Rattle.ots_shared.specs.Rows.{row}
 use Rattle.ots_tickets.specs.Tickets.{IsSettled, NoneIs, OneIs, Waits, settles}
-use Rattle.ots_connection.specs.declared.due.Due.{Due}
 use Rattle.ots_journal.specs.declared.entry.Entry.{Entry}
 use Rattle.ots_tickets.proofs.Places.{settles_long}
 use native.Mathlib.Decide.{dec_le}
 use mathlib.Core.Logic.{dite}
 use Rattle.ots_connection.proofs.Withdrawn.{closed_bears}
 use Rattle.ots_connection.specs.Closing.{AllBear, Closed, kept}
-use Rattle.ots_connection.specs.Stamping.{IsFull, IsStored, Settles, stamped, disk, full, no_memory}
+use Rattle.ots_connection.specs.Stamping.{IsFull, IsStored}
 
 -- something waits, so it is not nothing
 some_index : (added : Result ℕ AppendError) → Ok None ≡ round_answer added → ⊥
@@ -109,34 +104,6 @@ closes_it faults key second limit old mid new t one none closed more empty fits 
       none_waits = omega arith;
       within = rw same fits;
     }))
-
--- a row of which as much is the same, and of which no more waited as the book was found
-pub record SameWith (row later : Row) : Type 0 where
-  pub records : (later.records_found ≡ row.records_found) × (later.records_left ≡ row.records_left)
-  pub faults : (later.faults_found ≡ row.faults_found) × (later.faults_left ≡ row.faults_left)
-  pub gate : later.gate_left ≡ row.gate_left
-  pub found : later.waiting_found ≤ row.waiting_found
-  pub left : later.waiting_left ≡ row.waiting_left
-
-module _ (leaf nonce key uri : List ℕ) (second limit : ℕ) (seen : List Record) (row later : Row) (same : SameWith row later) where
-  stored_by : (receipt : Receipt) → IsStored leaf nonce key second limit seen row receipt → IsStored leaf nonce key second limit seen later receipt
-  stored_by receipt (inl none) = inl ((same.records).1 ∙ none ∙ sym (same.records).0)
-  stored_by receipt (inr closes) = inr (record {
-    more = (let a = closes.more in let b = same.records in omega arith);
-    tickets = closes.tickets;
-    there = closes.there;
-    all = (let a = closes.all in let b = same.found in omega arith);
-    commitment = closes.commitment;
-    last = closes.last;
-    none_waits = same.left ∙ closes.none_waits;
-    within = (let a = closes.within in let b = same.gate in omega arith);
-  })
-
-  pub settles_by : (due : Result Due NoMemory) → Settles leaf nonce key uri second limit seen row due → Settles leaf nonce key uri second limit seen later due
-  settles_by due (stamped tree receipt stamps stored is) = stamped tree receipt stamps (stored_by receipt stored) is
-  settles_by due (disk rose is) = disk (let e = same.faults in omega arith) is
-  settles_by due (full over is) = full (subst (IsFull limit) (sym same.gate) over) is
-  settles_by due (no_memory why is) = no_memory why is
 
 -- it fits where it was stored
 fits_of : {D : Type 0} (bytes : D → Option (List ℕ)) (clock : D → ℕ) (since : D → ℕ → List ℕ → Type 0) (old new : JournalTold D) (group : List Entry) (i : ℕ) → Adds bytes clock since old new group (is_index i) → new.gate < old.limit

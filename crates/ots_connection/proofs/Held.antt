@@ -1,5 +1,5 @@
 -- Holds of a call, one after the other.
-use Rattle.std.proofs.Common.{◌≡◌, ℕ, ◌+◌, ◌-◌, ◌^◌, false, List, [], ◌∷◌, ◌++◌, refl, sym, ap, subst, ◌∙◌, arith}
+use Rattle.std.proofs.Common.{◌≡◌, ℕ, ◌+◌, ◌-◌, ◌^◌, ◌≤◌, length, false, List, [], ◌∷◌, ◌++◌, refl, sym, ap, subst, ◌∙◌, arith}
 use Rattle.std.specs.Prelude.{min, Result, Ok, Err}
 use Rattle.ots_calendar.specs.Book.{BookTold}
 use Rattle.ots_shared.specs.Records.{StartsWith}
@@ -17,16 +17,16 @@ use Rattle.ots_connection.specs.Holds.{Holds, PutsOne, with_rows, with_count}
 pub no_hold : (p : PassTold) → p.holding ≡ false → Holds p p []
 no_hold p free = record { seat = refl; free = free; seen = starts_self p.seen; told = refl; holds = refl; made = refl; few = omega arith; put_one = tt }
 
-pub and_then : (old mid new : PassTold) (a b : Row) → Holds old mid (a ∷ []) → Holds mid new (b ∷ []) → Holds old new (a ∷ b ∷ [])
-and_then old mid new a b one two = record {
-  seat = two.seat ∙ one.seat;
-  free = two.free;
-  seen = starts_trans _ _ _ one.seen two.seen;
-  told = two.told ∙ one.told;
-  holds = two.holds ∙ ap (λ (rows : List Row). with_rows rows (b ∷ [])) one.holds;
-  made = two.made ∙ ap (λ (made : ℕ). with_count made (b ∷ [])) one.made;
+pub and_then : (old mid new : PassTold) (a : Row) (rows : List Row) → length rows ≤ 2 → Holds old mid (a ∷ []) → Holds mid new rows → Holds old new (a ∷ rows)
+and_then old mid new a rows few one others = record {
+  seat = others.seat ∙ one.seat;
+  free = others.free;
+  seen = starts_trans _ _ _ one.seen others.seen;
+  told = others.told ∙ one.told;
+  holds = others.holds ∙ ap (λ (holds : List Row). with_rows holds rows) one.holds;
+  made = others.made ∙ ap (λ (made : ℕ). with_count made rows) one.made;
   few = omega arith;
-  put_one = (one.put_one.0, two.put_one);
+  put_one = (one.put_one.0, others.put_one);
 }
 
 -- one hold: the pass took the book out, and gave it back
@@ -47,6 +47,6 @@ module _ {D : Type 0} (faults : D → ℕ) (old mid new : PassTold) (held : Held
   }
 
 pub puts_one : (row : Row) (result : Result Ticket PutError) → Puts row result → PutsOne row
-puts_one row (Ok ticket) puts = let e = puts.0 in omega arith
-puts_one row (Err Busy) puts = let e = puts.0 in omega arith
-puts_one row (Err OutOfMemory) puts = let e = puts.0 in omega arith
+puts_one row (Ok ticket) puts = let e = puts.one in omega arith
+puts_one row (Err Busy) puts = let e = (puts.0).waiting in omega arith
+puts_one row (Err OutOfMemory) puts = let e = (puts.0).waiting in omega arith

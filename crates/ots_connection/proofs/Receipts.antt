@@ -1,5 +1,5 @@
 -- Where the commitment of a receipt stands.
-use Rattle.std.proofs.Common.{◌≡◌, inl, inr, ℕ, List, refl, ap, subst}
+use Rattle.std.proofs.Common.{◌≡◌, ℕ, List, refl, ap, subst}
 use Rattle.std.specs.Prelude.{Option, None, Some, Result, Ok, Err}
 use Rattle.ots_base.specs.declared.out_of_memory.OutOfMemory.{OutOfMemory as NoMemory}
 use Rattle.ots_calendar.specs.Answer.{answer}
@@ -21,7 +21,7 @@ use Rattle.ots_http.specs.ReplyText.{refusal}
 use Rattle.ots_connection.specs.Replies.{in_words, answered, paged, stamp}
 use Rattle.ots_connection.specs.Sending.{whole, cut}
 use Rattle.ots_connection.specs.Stamping as stamping
-use Rattle.ots_connection.specs.Stamping.{SourcesTold, Settles, Comes, ComesOf}
+use Rattle.ots_connection.specs.Stamping.{SourcesTold, Settles, PutsNone, PutsAndSettles, Comes, ComesOf}
 use Rattle.ots_connection.specs.declared.due.Due.{Due}
 use Rattle.ots_connection.specs.declared.served.Served.{Served}
 use Rattle.ots_connection.specs.declared.served.Served.TheVariants as served
@@ -45,16 +45,23 @@ module _ (receipt : Receipt) (d : Due) (is : served.Stamped receipt ≡ d.served
         let same : d.served ≡ served.Stamped other = (let f : d ≡ stamp tree other = cc in ap (λ (x : Due). x.served) f) in
         let one : other ≡ receipt = cc in
         subst (λ (r : Receipt). StandsAt seen r.index r.commitment) one (stamps.gives).stands
-    settled nonce second row (stamping.disk rose e) = absurd (not_words Disk (Ok d) refl e)
-    settled nonce second row (stamping.full full e) = absurd (not_words JournalFull (Ok d) refl e)
-    settled nonce second row (stamping.no_memory why e) = absurd cc
+    settled nonce second row (stamping.disk rose one e) = absurd (not_words Disk (Ok d) refl e)
+    settled nonce second row (stamping.full full one e) = absurd (not_words JournalFull (Ok d) refl e)
+    settled nonce second row (stamping.no_memory gone why e) = absurd cc
+
+    put_none : (row : Row) → PutsNone row (Ok d) → StandsAt seen receipt.index receipt.commitment
+    put_none row (stamping.busy nothing busy) = absurd (not_words Busy (Ok d) refl busy.1)
+    put_none row (stamping.no_memory nothing few why e) = absurd cc
+
+    put_settled : (nonce : List ℕ) (second : ℕ) (row : Row) → PutsAndSettles leaf nonce key uri second limit seen row (Ok d) → StandsAt seen receipt.index receipt.commitment
+    put_settled nonce second row (stamping.none none) = put_none row none
+    put_settled nonce second row (stamping.put few fewer settles) = settled nonce second _ settles
 
     come : (nonce : List ℕ) (second : ℕ) (rows : List Row) → Comes leaf nonce key uri second limit seen rows (Ok d) → StandsAt seen receipt.index receipt.commitment
     come nonce second rows (stamping.late late none e) = absurd (not_words Clock (Ok d) refl e)
-    come nonce second rows (stamping.busy row early one left busy) = absurd (not_words Busy (Ok d) refl busy.1)
-    come nonce second rows (stamping.no_memory row early one left few why e) = absurd cc
-    come nonce second rows (stamping.put row next early two left few fewer (inl settles)) = settled nonce second next settles
-    come nonce second rows (stamping.put row next early two left few fewer (inr busy)) = absurd (not_words Busy (Ok d) refl busy.1)
+    come nonce second rows (stamping.none row early one none) = put_none row none
+    come nonce second rows (stamping.put row next early two puts fewer settles) = settled nonce second next settles
+    come nonce second rows (stamping.again row next last early three puts nothing settles) = put_settled nonce second last settles
 
     comes_of : (nonce : Option (List ℕ)) (second : ℕ) (rows : List Row) → ComesOf nonce leaf key uri second limit seen rows (Ok d) → StandsAt seen receipt.index receipt.commitment
     comes_of (Some nonce) second rows comes = come nonce second rows comes

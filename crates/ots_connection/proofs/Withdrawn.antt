@@ -1,5 +1,5 @@
 -- A ticket among others: given where its round is closed, and gone where it is withdrawn.
-use Rattle.std.proofs.Common.{◌≡◌, ◌≢◌, inl, inr, ℕ, suc, ◌<◌, ◌≤◌, Bool, true, false, List, [], ◌∷◌, ◌++◌, length, refl, sym, ap, subst, arith, length-append}
+use Rattle.std.proofs.Common.{◌≡◌, ◌≢◌, inl, inr, ℕ, suc, ◌+◌, ◌<◌, ◌≤◌, Bool, true, false, List, [], ◌∷◌, ◌++◌, length, refl, sym, ap, subst, arith, length-append}
 use Rattle.std.specs.List.{AllByRecursion}
 use Rattle.ots_round.specs.Round.{leaves, round_commitment}
 use Rattle.ots_round.specs.declared.ticket.Ticket.{Ticket}
@@ -85,6 +85,11 @@ taken_fewer t uri old new answer (inl g) = let e = ap length g.waiting in omega 
 taken_fewer t uri old new answer (inr (inl g)) = let e = ap (λ (x : TicketsTold). length x.waiting) g.2 in omega arith
 taken_fewer t uri old new answer (inr (inr g)) = let e = ap (λ (x : TicketsTold). length x.waiting) g.2 in omega arith
 
+pub taken_none : (t : Ticket) (uri : List ℕ) (old new : TicketsTold) (tree : List Token) (receipt : Receipt) → Takes t uri old new (taken.Settled tree receipt) → length new.waiting ≡ length old.waiting
+taken_none t uri old new tree receipt (inl g) = ap length g.waiting
+taken_none t uri old new tree receipt (inr (inl g)) = let e = g.3 in absurd cc
+taken_none t uri old new tree receipt (inr (inr g)) = let e = g.3 in absurd cc
+
 pub withdrawn_fewer : (t : Ticket) (old new : TicketsTold) (answer : Bool) → Withdraws t old new answer → length new.waiting ≤ length old.waiting
 withdrawn_fewer t old new true (inl w) = let e = ap length w.waiting in omega arith
 withdrawn_fewer t old new true (inr w) =
@@ -95,7 +100,7 @@ withdrawn_fewer t old new false w = let e = ap (λ (x : TicketsTold). length x.w
 
 -- one fewer, where it waited
 pub withdrawn_one : (t : Ticket) (old new : TicketsTold) (answer : Bool) → OneIs (Waits t) old.waiting → NoneIs (IsSettled t) old.settled
-    → Withdraws t old new answer → length new.waiting < length old.waiting
+    → Withdraws t old new answer → length new.waiting + 1 ≡ length old.waiting
 withdrawn_one t old new true one none (inl w) =
     absurd (none_is (IsSettled t) old.settled (record { before = (w.takes).before; one = w.one; after = (w.takes).after; whole = (w.takes).whole; is = (w.takes).is }) none)
 withdrawn_one t old new true one none (inr w) =
@@ -105,11 +110,15 @@ withdrawn_one t old new true one none (inr w) =
 withdrawn_one t old new false one none w = absurd (none_is (Waits t) old.waiting one w.1)
 
 -- a round was not closed, and the ticket is withdrawn
+pub refused_one : (t : Ticket) (old mid new : TicketsTold) (answer : Bool) → (mid.waiting ≡ old.waiting) × (mid.settled ≡ old.settled) → OneIs (Waits t) old.waiting → NoneIs (IsSettled t) old.settled
+    → Withdraws t mid new answer → length new.waiting + 1 ≡ length old.waiting
+refused_one t old mid new answer same one none w =
+    let one_fewer = withdrawn_one t mid new answer (subst (OneIs (Waits t)) (sym same.0) one) (subst (NoneIs (IsSettled t)) (sym same.1) none) w in
+    omega (arith, one_fewer, ap length same.0)
+
 pub refused_fewer : (t : Ticket) (old mid new : TicketsTold) (answer : Bool) → (mid.waiting ≡ old.waiting) × (mid.settled ≡ old.settled) → OneIs (Waits t) old.waiting → NoneIs (IsSettled t) old.settled
     → Withdraws t mid new answer → length new.waiting < length old.waiting
-refused_fewer t old mid new answer same one none w =
-    let fewer = withdrawn_one t mid new answer (subst (OneIs (Waits t)) (sym same.0) one) (subst (NoneIs (IsSettled t)) (sym same.1) none) w in
-    omega (arith, ap length same.0)
+refused_fewer t old mid new answer same one none w = omega (arith, refused_one t old mid new answer same one none w)
 
 -- nobody knows the ticket, and nothing changes
 pub taken_unknown : (t : Ticket) (uri : List ℕ) (old new : TicketsTold) → Takes t uri old new taken.Unknown → new ≡ old

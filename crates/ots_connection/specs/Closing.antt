@@ -1,10 +1,9 @@
 -- What a book is left with where the round of a ticket is closed. It serves the code alone.
-use Rattle.std.specs.Prelude.{◌≡◌, ◌⊎◌, ◌≤◌, ℕ, ◌+◌, List, ◌++◌, length, Result, Ok}
+use Rattle.std.specs.Prelude.{◌≡◌, ◌⊎◌, ◌≤◌, ℕ, ◌+◌, List, ◌++◌, length, Option, Some, Result, Ok}
 use Rattle.ots_base.specs.declared.out_of_memory.OutOfMemory.{OutOfMemory}
 use Rattle.ots_calendar.specs.Book.{BookTold}
 use Rattle.std.specs.List.{AllByRecursion}
 use Rattle.ots_http.specs.declared.word.Word.{Word}
-use Rattle.ots_http.specs.declared.word.Word.TheVariants.{Busy}
 use Rattle.ots_shared.specs.Records.{StartsWith}
 use Rattle.ots_store.specs.Order.{commits_of}
 use Rattle.ots_round.specs.declared.ticket.Receipt.{Receipt}
@@ -38,11 +37,7 @@ pub record Closed {D : Type 0} (key : List ℕ) (second : ℕ) (old new : BookTo
   pub settled : new.tickets.settled ≡ old.tickets.settled ++ settles key second index old.tickets.waiting
   pub last : index + 1 ≡ length (commits_of new.store.records)
 
--- What is due is never words.
-abbrev pub IsNoWord : Result Due OutOfMemory → Type 0
-IsNoWord due = (word : Word) → due ≡ Ok (in_words word) → ⊥
-
--- A ticket is refused in words only where its round is not closed, and as busy only where it doesn't wait either.
-pub record Owes (ticket : Ticket) (tickets : TicketsTold) (due : Result Due OutOfMemory) : Type 0 where
-  pub settled : (word : Word) → due ≡ Ok (in_words word) → NoneIs (IsSettled ticket) tickets.settled
-  pub waits : due ≡ Ok (in_words Busy) → NoneIs (Waits ticket) tickets.waiting
+-- A ticket is refused in words only where it waits, and so its round is not closed.
+abbrev pub Owes : Ticket → TicketsTold → Option (Result Due OutOfMemory) → Type 0
+Owes ticket tickets due = (word : Word) → due ≡ Some (Ok (in_words word)) → OneIs (Waits ticket) tickets.waiting
+    × NoneIs (IsSettled ticket) tickets.settled

@@ -20,6 +20,12 @@ with_count made (row ∷ rows) = with_count (min (made + 1) (2 ^ 64 - 1)) rows
 abbrev pub PutsOne : Row → Type 0
 PutsOne row = row.waiting_left ≤ row.waiting_found + 1
 
+-- The hold changed no record, no more calls of the disk have failed, and the gate is at its place.
+pub record KeepsStore (row : Row) : Type 0 where
+  pub records : row.records_left ≡ row.records_found
+  pub gate : row.gate_left ≡ row.gate_found
+  pub faults : row.faults_left ≡ row.faults_found
+
 -- The hold changed nothing: no record, no call that the disk has failed, the gate at its place, as many tickets.
 pub record ChangesNothing (row : Row) : Type 0 where
   pub records : row.records_left ≡ row.records_found

@@ -18,6 +18,7 @@ use Rattle.ots_tickets.specs.Tickets.{OneIs}
 use Rattle.ots_tickets.specs.declared.tickets.TheConstants.{MAX_WAITING}
 use Rattle.ots_tree.specs.declared.token.Token.{Token}
 use Rattle.ots_connection.specs.declared.due.Due.{Due}
+use Rattle.ots_connection.specs.Holds.{ChangesNothing, KeepsStore}
 use Rattle.ots_connection.specs.Replies.{in_words, stamp}
 
 -- ---- what is drawn
@@ -36,7 +37,25 @@ abbrev pub Draws : Option (List ℕ) → SourcesTold → SourcesTold → Type 0
 Draws (Some nonce) old new = (length nonce ≡ 16) × bytes.Gives old.left new.left nonce
 Draws None old new = (new.left ≡ old.left) × (new.second ≡ old.second) × Rose old.faults new.faults
 
--- ---- what the second hold does
+-- ---- what a hold that puts a ticket does
+
+-- The hold put a ticket: one more waits, and nothing else changed.
+pub record PutsTicket (row : Row) : Type 0 where
+  pub store : KeepsStore row
+  pub room : row.waiting_found < MAX_WAITING
+  pub one : row.waiting_left ≡ row.waiting_found + 1
+
+-- As many tickets waited as may.
+abbrev pub IsBusy : Row → Result Due OutOfMemory → Type 0
+IsBusy row due = (row.waiting_found ≡ MAX_WAITING) × (due ≡ Ok (in_words Busy))
+
+-- The hold was to put a ticket and put none: as many waited as may, or else memory ran out. It changed nothing.
+pub data PutsNone (row : Row) (due : Result Due OutOfMemory) : Type 0 where
+  busy : ChangesNothing row → IsBusy row due → PutsNone row due
+  no_memory : ChangesNothing row → row.waiting_found < MAX_WAITING → (why : OutOfMemory) → due ≡ Err why
+      → PutsNone row due
+
+-- ---- what the hold that settles it does
 
 -- A digest was timestamped: the tree is that of one path, which puts the nonce after the digest, hashes that, leads to
 -- the receipt's commitment, and ends in a pending attestation of this URI. The commitment stands at the receipt's
@@ -73,43 +92,76 @@ pub record ClosesRound (leaf nonce key : List ℕ) (second limit : ℕ) (seen : 
   -- the closed gate is the last byte of the file
   pub within : row.gate_left < limit
 
--- The hold stored nothing, since another caller had closed the round, or it closed the round.
+-- The hold changed nothing, since another caller had closed the round, or it closed the round.
 abbrev pub IsStored : List ℕ → List ℕ → List ℕ → ℕ → ℕ → List Record → Row → Receipt → Type 0
-IsStored leaf nonce key second limit seen row receipt = (row.records_left ≡ row.records_found)
+IsStored leaf nonce key second limit seen row receipt = ChangesNothing row
     ⊎ ClosesRound leaf nonce key second limit seen row receipt
 
--- What comes of a ticket whose round is closed, in this hold or before it, where the hold leaves these records and this
--- row.
+-- The round is not closed, and the ticket is withdrawn: one fewer waits.
+abbrev pub IsWithdrawn : Row → Type 0
+IsWithdrawn row = row.waiting_left + 1 ≡ row.waiting_found
+
+-- Memory ran out, and the ticket neither waits nor is settled any more, as far as a row tells.
+pub data IsGone (row : Row) : Type 0 where
+  -- it did not wait: another caller had closed its round
+  settled : ChangesNothing row → IsGone row
+  withdrawn : IsWithdrawn row → IsGone row
+  -- this hold closed its round
+  closed : row.records_found < row.records_left → row.waiting_left ≡ 0 → IsGone row
+
+-- What comes of a ticket, where the hold leaves these records and this row: it is taken, where its round is closed in
+-- this hold or was before it, or else withdrawn.
 pub data Settles (leaf nonce key uri : List ℕ) (second limit : ℕ) (seen : List Record) (row : Row)
     (due : Result Due OutOfMemory) : Type 0 where
   stamped : (tree : List Token) (receipt : Receipt) → Stamps seen leaf nonce uri tree receipt
       → IsStored leaf nonce key second limit seen row receipt → due ≡ Ok (stamp tree receipt)
       → Settles leaf nonce key uri second limit seen row due
-  disk : Rose row.faults_found row.faults_left → due ≡ Ok (in_words Disk)
+  disk : Rose row.faults_found row.faults_left → IsWithdrawn row → due ≡ Ok (in_words Disk)
       → Settles leaf nonce key uri second limit seen row due
-  full : IsFull limit row.gate_left → due ≡ Ok (in_words JournalFull)
+  full : IsFull limit row.gate_left → IsWithdrawn row → due ≡ Ok (in_words JournalFull)
       → Settles leaf nonce key uri second limit seen row due
-  no_memory : (why : OutOfMemory) → due ≡ Err why → Settles leaf nonce key uri second limit seen row due
+  no_memory : IsGone row → (why : OutOfMemory) → due ≡ Err why → Settles leaf nonce key uri second limit seen row due
 
--- A hold that was to put a ticket found as many waiting as may.
-abbrev pub IsBusy : Row → Result Due OutOfMemory → Type 0
-IsBusy row due = (row.waiting_found ≡ MAX_WAITING) × (due ≡ Ok (in_words Busy))
+-- ---- what a hold that puts a ticket and settles it does
+
+-- The row, as if one ticket more had waited as the book was found.
+abbrev pub with_one : Row → Row
+with_one row = record {
+  records_found = row.records_found;
+  records_left = row.records_left;
+  gate_found = row.gate_found;
+  gate_left = row.gate_left;
+  faults_found = row.faults_found;
+  faults_left = row.faults_left;
+  waiting_found = row.waiting_found + 1;
+  waiting_left = row.waiting_left;
+}
+
+-- The ticket waits beside those that waited, and is settled; no more wait as the hold left the book than as it found
+-- it.
+pub data PutsAndSettles (leaf nonce key uri : List ℕ) (second limit : ℕ) (seen : List Record) (row : Row)
+    (due : Result Due OutOfMemory) : Type 0 where
+  none : PutsNone row due → PutsAndSettles leaf nonce key uri second limit seen row due
+  put : row.waiting_found < MAX_WAITING → row.waiting_left ≤ row.waiting_found
+      → Settles leaf nonce key uri second limit seen (with_one row) due
+      → PutsAndSettles leaf nonce key uri second limit seen row due
 
 -- ---- the whole call
 
 -- What comes of a digest whose nonce was drawn at this second, with the rows of the call's holds. The first hold puts a
--- ticket. The second puts it once more where another caller has given it up.
+-- ticket, and the second settles it. Where the second finds that another caller has given the ticket up, it changes
+-- nothing, and a third puts it once more and settles it. So busy comes exactly where a hold that puts, the first or the
+-- third, found as many waiting as may.
 pub data Comes (leaf nonce key uri : List ℕ) (second limit : ℕ) (seen : List Record) (rows : List Row)
     (due : Result Due OutOfMemory) : Type 0 where
   late : 2 ^ 32 ≤ second → rows ≡ [] → due ≡ Ok (in_words Clock) → Comes leaf nonce key uri second limit seen rows due
-  busy : (row : Row) → second < 2 ^ 32 → rows ≡ row ∷ [] → row.waiting_left ≡ row.waiting_found → IsBusy row due
+  none : (row : Row) → second < 2 ^ 32 → rows ≡ row ∷ [] → PutsNone row due
       → Comes leaf nonce key uri second limit seen rows due
-  no_memory : (row : Row) → second < 2 ^ 32 → rows ≡ row ∷ [] → row.waiting_left ≡ row.waiting_found
-      → row.waiting_found < MAX_WAITING → (why : OutOfMemory) → due ≡ Err why
+  put : (row next : Row) → second < 2 ^ 32 → rows ≡ row ∷ next ∷ [] → PutsTicket row
+      → next.waiting_left ≤ next.waiting_found → Settles leaf nonce key uri second limit seen next due
       → Comes leaf nonce key uri second limit seen rows due
-  put : (row next : Row) → second < 2 ^ 32 → rows ≡ row ∷ next ∷ [] → row.waiting_left ≡ row.waiting_found + 1
-      → row.waiting_found < MAX_WAITING
-      → next.waiting_left ≤ next.waiting_found → Settles leaf nonce key uri second limit seen next due ⊎ IsBusy next due
+  again : (row next last : Row) → second < 2 ^ 32 → rows ≡ row ∷ next ∷ last ∷ [] → PutsTicket row
+      → ChangesNothing next → PutsAndSettles leaf nonce key uri second limit seen last due
       → Comes leaf nonce key uri second limit seen rows due
 
 -- By the nonce that was drawn, if one was.

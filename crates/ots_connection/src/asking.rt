@@ -31,9 +31,11 @@ pub(crate) fn answer_of<D: Disk, R: Wait>(
     ensures due { IfOk result (λ due. due ≡ answered (answer pass.new.seen wanted)) }
     ensures reply { IfOk result (λ due. IsReply due.reply) }
 {
+    let turn = shared.turn_to_ask(rt);
     let mut held = shared.hold(rt, pass);
     let prepared = prepare(held.book(), wanted);
     shared.release(pass, held);
+    drop(turn);
     Ok(due_of(prepared?.answer()?))
 }
 
@@ -74,9 +76,11 @@ pub(crate) fn page_at<D: Disk, R: Wait>(
     ensures due { IfOk result (λ due. due ≡ paged (page_of pass.new.seen number)) }
     ensures reply { IfOk result (λ due. IsReply due.reply) }
 {
+    let turn = shared.turn_to_ask(rt);
     let mut held = shared.hold(rt, pass);
     let due = copy_page(held.book(), number);
     shared.release(pass, held);
+    drop(turn);
     due
 }
 

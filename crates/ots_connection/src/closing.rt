@@ -1,67 +1,65 @@
 //! The round of a ticket, closed while the book is held.
-ghost use Rattle.std.specs.Prelude.{◌≡◌, ◌⊎◌, ◌<◌, ◌≤◌, ℕ, List, Err, Ok, IfOk, OnOk, OnErr, length};
+ghost use Rattle.std.specs.Prelude.{◌≡◌, ◌<◌, ◌≤◌, ℕ, List, Err, IfOk, IfSome, MatchOption, OnOk, OnErr, length};
 ghost use Rattle.ots_base.specs.Cause.{Rose};
 ghost use Rattle.ots_http.specs.ReplyText.{IsReply};
 ghost use Rattle.ots_shared.specs.Rows.{row};
 ghost use Rattle.ots_shared.specs.declared.row.Row.{Row};
 ghost use Rattle.ots_tickets.specs.Tickets.{IsSettled, NoneIs, OneIs, Waits};
-ghost use Rattle.ots_http.specs.declared.word.Word.TheVariants.{Busy};
-ghost use Rattle.ots_connection.specs.Closing.{AllBear, Closed, Goes, IsKept, IsNoWord, Owes, kept};
-ghost use Rattle.ots_connection.specs.Replies.{in_words};
-ghost use Rattle.ots_connection.specs.Stamping.{IsBusy, IsFull, IsStored, Settles};
+ghost use Rattle.ots_connection.specs.Closing.{AllBear, Closed, Goes, IsKept, Owes, kept};
+ghost use Rattle.ots_connection.specs.Stamping.{IsFull, IsGone, IsStored, PutsAndSettles, Settles};
 
 use crate::Service;
 use crate::due::{Due, in_words, stamp};
 use crate::putting::put;
 use ots_attest::Uri;
 use ots_base::OutOfMemory;
-use ots_calendar::{Book, PutError, Taken, Ticket, calls_grow};
+use ots_calendar::{Book, Leaf, PutError, Taken, Ticket, calls_grow};
 use ots_disk::Disk;
 use ots_http::Word;
 use ots_journal::AppendError;
 
-/// Takes a ticket whose round is closed, or closes the round over all that wait where it waits. Where
-/// another caller has given it up, it is put once more. It waits no more then.
+/// Takes a ticket whose round is closed, or closes the round over all that wait where it waits. Either way the ticket is
+/// gone then. There is no answer where another caller has given it up.
 pub(crate) fn settle<D: Disk>(
     book: &mut Book<D>,
     service: &Service,
     second: u32,
     ticket: &Ticket,
-) -> Result<Due, OutOfMemory>
+) -> Option<Result<Due, OutOfMemory>>
     ensures goes { Goes book.old book.new }
     ensures gone { IsKept ticket.now book.old.tickets → kept book.new.tickets < kept book.old.tickets }
     ensures owes { Owes ticket.now book.old.tickets result }
-    ensures settles { Settles ticket.now.leaf ticket.now.nonce service.now.key service.now.uri second
-        book.old.store.journal.limit book.new.store.records (row D.faults book.old book.new) result
-        ⊎ IsBusy (row D.faults book.old book.new) result }
-    ensures reply { IfOk result (λ due. IsReply due.reply) }
+    ensures settles { MatchOption result (book.new ≡ book.old) (Settles ticket.now.leaf ticket.now.nonce
+        service.now.key service.now.uri second book.old.store.journal.limit book.new.store.records
+        (row D.faults book.old book.new)) }
+    ensures reply { IfSome result (λ due. IfOk due (λ due. IsReply due.reply)) }
 {
     match book.take(ticket, &service.uri) {
-        Ok(Taken::Settled(tree, receipt)) => Ok(stamp(tree, receipt)),
-        Ok(Taken::Waiting) => close_round(book, service, second, ticket),
-        Ok(Taken::Unknown) => put_again(book, service, second, ticket),
+        Ok(Taken::Settled(tree, receipt)) => Some(Ok(stamp(tree, receipt))),
+        Ok(Taken::Waiting) => Some(close_round(book, service, second, ticket)),
+        Ok(Taken::Unknown) => None,
         Err(OutOfMemory) => {
             book.withdraw(ticket);
-            Err(OutOfMemory)
+            Some(Err(OutOfMemory))
         }
     }
 }
 
-/// Puts the digest of a ticket that is not there once more, and closes the round.
-fn put_again<D: Disk>(
+/// Puts a digest, and closes the round.
+pub(crate) fn put_and_close<D: Disk>(
     book: &mut Book<D>,
     service: &Service,
     second: u32,
-    ticket: &Ticket,
+    leaf: Leaf,
+    nonce: [u8; 16],
 ) -> Result<Due, OutOfMemory>
     ensures goes { Goes book.old book.new }
-    ensures settles { Settles ticket.now.leaf ticket.now.nonce service.now.key service.now.uri second
-        book.old.store.journal.limit book.new.store.records (row D.faults book.old book.new) result
-        ⊎ IsBusy (row D.faults book.old book.new) result }
+    ensures settles { PutsAndSettles leaf nonce service.now.key service.now.uri second book.old.store.journal.limit
+        book.new.store.records (row D.faults book.old book.new) result }
     ensures reply { IfOk result (λ due. IsReply due.reply) }
 {
-    match put(book, ticket.leaf, ticket.nonce) {
-        Ok(again) => close_round(book, service, second, &again),
+    match put(book, leaf, nonce) {
+        Ok(ticket) => close_round(book, service, second, &ticket),
         Err(PutError::Busy) => Ok(in_words(503, Word::Busy)),
         Err(PutError::OutOfMemory) => Err(OutOfMemory),
     }
@@ -80,7 +78,6 @@ fn close_round<D: Disk>(
     ensures goes { Goes book.old book.new }
     ensures fewer { length book.new.tickets.waiting < length book.old.tickets.waiting }
     ensures gone { kept book.new.tickets < kept book.old.tickets }
-    ensures not_busy { result ≡ Ok (in_words Busy) → ⊥ }
     ensures settles { Settles ticket.now.leaf ticket.now.nonce service.now.key service.now.uri second
         book.old.store.journal.limit book.new.store.records (row D.faults book.old book.new) result }
     ensures reply { IfOk result (λ due. IsReply due.reply) }
@@ -128,10 +125,9 @@ fn take_settled<D: Disk>(book: &mut Book<D>, uri: &Uri, ticket: &Ticket) -> Resu
     ensures store { book.new.store ≡ book.old.store }
     ensures waiting { length book.new.tickets.waiting ≤ length book.old.tickets.waiting }
     ensures gone { kept book.new.tickets < kept book.old.tickets }
-    ensures no_word { IsNoWord result }
     ensures settles { (key : List ℕ) (second limit : ℕ) (row : Row) → AllBear ticket.now
         (IsStored ticket.now.leaf ticket.now.nonce key second limit book.new.store.records row) book.old.tickets.settled
-        → Settles ticket.now.leaf ticket.now.nonce key uri.now second limit book.new.store.records row result }
+        → IsGone row → Settles ticket.now.leaf ticket.now.nonce key uri.now second limit book.new.store.records row result }
     ensures reply { IfOk result (λ due. IsReply due.reply) }
 {
     match book.take(ticket, uri) {

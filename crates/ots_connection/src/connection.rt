@@ -4,7 +4,7 @@ ghost use Rattle.ots_http.specs.ReplyText.{IsReply};
 ghost use Rattle.ots_outside.specs.Link.{IsFresh};
 ghost use Rattle.ots_shared.specs.Records.{StartsWith, StandsAt};
 ghost use Rattle.ots_shared.specs.Told.{IsPassOf};
-ghost use Rattle.ots_connection.specs.Answered.{IsAnswered, is_answer};
+ghost use Rattle.ots_connection.specs.Answered.{IsAnsweredWithin, is_answer};
 ghost use Rattle.ots_connection.specs.Connection.{Handles, IfStamped, Serves};
 
 use crate::asking::{answer_of, page_at};
@@ -26,8 +26,9 @@ use std::sync::Wait;
 ///
 /// For a digest it draws a nonce and reads the clock, puts the digest in one hold of the book, and in a
 /// second takes its tree, where another caller has closed the round, or closes it first for all that
-/// wait. Where it gives no tree, its ticket is withdrawn. For a commitment it holds the book once, and
-/// so for a page of records, which is written when the book is free again.
+/// wait. Where another caller has given its ticket up, it puts it once more in a third hold. Where it
+/// gives no tree, its ticket is withdrawn. For a commitment it holds the book once, and so for a page
+/// of records, which is written when the book is free again.
 #[expect(clippy::too_many_arguments)]
 pub fn serve_connection<L: Link, D: Disk, C: Clock, N: Nonces, R: Wait>(
     rt: &R,
@@ -56,7 +57,7 @@ pub fn serve_connection<L: Link, D: Disk, C: Clock, N: Nonces, R: Wait>(
         result }
     ensures stamped { IfStamped result (λ receipt. StandsAt pass.new.seen receipt.index receipt.commitment) }
     ensures answered { IsFresh (L.told link.old) (L.faults link.old) → is_answer result ≡ true
-        → IsAnswered (L.told link.new) (L.faults link.new) }
+        → IsAnsweredWithin pass.new.seen (L.told link.new) (L.faults link.new) }
     ensures own { IsPassOf shared.now pass.new }
     ensures seat { (pass.new.seat ≡ pass.old.seat) × (pass.new.holding ≡ false) }
     ensures seen { StartsWith pass.new.seen pass.old.seen }
@@ -95,7 +96,7 @@ fn serve<L: Link, D: Disk, C: Clock, N: Nonces, R: Wait>(
         result }
     ensures stamped { IfStamped result (λ receipt. StandsAt pass.new.seen receipt.index receipt.commitment) }
     ensures answered { IsFresh (L.told link.old) (L.faults link.old) → is_answer result ≡ true
-        → IsAnswered (L.told link.new) (L.faults link.new) }
+        → IsAnsweredWithin pass.new.seen (L.told link.new) (L.faults link.new) }
     ensures own { IsPassOf shared.now pass.new }
     ensures seat { (pass.new.seat ≡ pass.old.seat) × (pass.new.holding ≡ false) }
     ensures seen { StartsWith pass.new.seen pass.old.seen }

@@ -8,10 +8,11 @@ use Rattle.ots_tree.specs.Walk.{Position, open_at, none_open, next}
 use Rattle.ots_tree.specs.Front.{Open, start, opened}
 use Rattle.ots_reader.specs.declared.arrived.Arrived.{Arrived}
 use Rattle.ots_reader.specs.declared.front.Front.{Front}
-use Rattle.ots_reader.specs.Arrived.{tokens_of}
+use Rattle.ots_reader.specs.Arrived.{tokens_of, reserved_by, IsHeld}
 use Rattle.ots_reader.specs.Front.{IsStanding}
 use Rattle.ots_reader.specs.OneAnswer.{IsShape}
 use Rattle.ots_reader.specs.Tokens.{Tokens, begun}
+use Rattle.ots_reader.specs.declared.token_reader.TheConstants.{TOKEN_READER_BYTES}
 
 abbrev of_one : Shape → List Shape → Open
 of_one s others = record { nodes = s ∷ others; forked = false }
@@ -61,9 +62,14 @@ placed f shape v h came is leads room =
       nodes = rw room h.nodes;
     }
 
+-- what is held takes the memory that was taken at first
+pub all_reserved : (a : Arrived) → IsHeld a → reserved_by a ≡ TOKEN_READER_BYTES
+all_reserved a h = rw (h.bytes, h.stands.nodes) refl
+
 -- the bytes that have arrived, before the first
-pub placed_begun : (a b : Arrived) (shape : Shape) → tokens_of a ≡ begun a.front.below → b.front.below ≡ shape → b.front.came.tokens ≡ [] → (tokens_of b).kept ≡ (tokens_of a).kept
-    → tokens_of b ≡ begun shape
-placed_begun a b shape none below came kept =
+pub placed_begun : (a b : Arrived) (shape : Shape) → tokens_of a ≡ begun a.front.below → IsHeld b → b.front.below ≡ shape → b.front.came.tokens ≡ []
+    → (tokens_of b).kept ≡ (tokens_of a).kept → tokens_of b ≡ begun shape
+placed_begun a b shape none held below came kept =
     let empty : (tokens_of b).kept ≡ [] = kept ∙ ap (λ (z : Tokens). z.kept) none in
-    λ i. record { shape = below i; came = came i; kept = empty i }
+    let room = all_reserved b held in
+    λ i. record { shape = below i; came = came i; kept = empty i; reserved = room i }

@@ -20,10 +20,10 @@ pub record IsGrown (old piece kept : List ℕ) (end : ℕ) : Type 0 where
   pub within : end ≤ length piece
 
 -- the token goes on, and there is as much room as there was
-pub record Joins (old piece kept : List ℕ) (end least room : ℕ) : Type 0 where
+pub record Joins (old piece kept : List ℕ) (end before room : ℕ) : Type 0 where
   pub cut : IsCut kept
   pub grown : IsGrown old piece kept end
-  pub roomy : least ≤ room
+  pub roomy : room ≡ before
 
 pub grown_more : (old piece kept longer : List ℕ) (end count : ℕ) → IsGrown old piece kept end → count ≤ length piece - end
     → longer ≡ kept ++ take (end + count - end) (drop end piece) → IsGrown old piece longer (end + count)

@@ -1,5 +1,5 @@
 -- Reading the next token of a tree.
-use Rattle.std.proofs.Common.{◌≡◌, ℕ, ◌+◌, ◌<◌, ◌≤◌, Bool, true, false, List, [], ◌∷◌, ◌++◌, length, take, drop, Some, refl, sym, ap, subst, ◌∙◌, arith, append_assoc, length-append}
+use Rattle.std.proofs.Common.{◌≡◌, ℕ, ◌+◌, ◌<◌, Bool, true, false, List, [], ◌∷◌, ◌++◌, length, take, drop, Some, refl, sym, ap, subst, ◌∙◌, arith, append_assoc, length-append}
 use Rattle.std.specs.Prelude.{◌≢◌, not, if◌then◌else◌}
 use Rattle.std.proofs.lemmas.List.{append-nil, drop_at, take_at, drop-drop, take-append-drop, length-take-le}
 use Rattle.std.proofs.Math.Seq.{take-append-add}
@@ -22,11 +22,12 @@ use Rattle.ots_reader.specs.TokenFault.{token_fault}
 use Rattle.ots_reader.specs.TokenRead.{IsTokenAt}
 use Rattle.ots_reader.specs.TreeFault.{place_fault, HasTreeFault}
 use Rattle.ots_reader.specs.Cut.{IsCut, IsSettled, IsSpelling, IsJoinedAt}
-use Rattle.ots_reader.specs.Arrived.{tokens_of, IsHeld}
+use Rattle.ots_reader.specs.Arrived.{tokens_of, reserved_by, IsHeld}
 use Rattle.ots_reader.specs.Front.{IsStanding}
 use Rattle.ots_reader.specs.Progress.{ends_at}
 use Rattle.ots_reader.specs.OneAnswer.{IsShape}
 use Rattle.ots_reader.specs.Tokens.{Tokens, begun, with_token, with_bytes, so_far, IsReading, Stands, Brings, Stops}
+use Rattle.ots_reader.proofs.Placed.{all_reserved}
 use Rattle.ots_reader.proofs.Places.{IsMessage, opened_messages}
 use Rattle.ots_reader.proofs.Walk.{IsWalk, walk_read, fits_more, opens_more, spelled_more, token_stops, place_stops}
 
@@ -174,7 +175,7 @@ pub record IsAfter (f g : Front) (x : Token) (spelling : List ℕ) (more : Bool)
   pub tokens : g.came.tokens ≡ f.came.tokens ++ x ∷ []
   pub place : g.place ≡ f.place + length spelling
   pub whole : g.whole ≡ not more
-  pub room : f.walk.room ≤ g.walk.room
+  pub room : g.walk.room ≡ f.walk.room
   pub moves : next_at f.walk.last f.walk.others f.walk.forked x ≡ Some (if more then open_at g.walk else none_open)
 
 if_not : (more : Bool) (a b : Open) → (if more then a else b) ≡ (if not more then b else a)
@@ -187,14 +188,12 @@ stands_after f g x spelling more h still s b =
     let k = f.below.depth in
     let opens : opened (start n k) f.came.tokens ≡ Some (open_at f.walk) = rw still at h.opens in
     let after = opens_more (start n k) f.came.tokens x (open_at f.walk) _ opens b.moves in
-    let room = b.room in
-    let nodes = h.nodes in
     record {
       shape = rw b.below h.shape;
       fits = rw b.tokens (fits_more f.came.tokens x h.fits s.fits);
       opens = rw (b.below, b.tokens, b.whole) (after ∙ ap Some (if_not more (open_at g.walk) none_open));
       place = rw b.tokens (omega (arith, b.place, h.place, ap length s.is, ap length (spelled_more f.came.tokens x), length-append (spelled f.came.tokens) (spell x)));
-      nodes = omega arith;
+      nodes = b.room ∙ h.nodes;
     }
 
 -- ---- reading the next token
@@ -219,16 +218,16 @@ not_placed a piece x used f h r away j (place, fault) =
     stops_at (tokens_of a) piece a.front.place f place
     (turn_faults (tokens_of a) a.front.walk a.front.place piece x used f.reason (held_at a h r).1 (rw (kept_now a away) j) fault)
 
--- what is held then
-pub with_new : (a b : Arrived) (x : Token) → b.front.below ≡ a.front.below → b.front.came.tokens ≡ a.front.came.tokens ++ x ∷ [] → (tokens_of b).kept ≡ []
-    → tokens_of b ≡ with_token (tokens_of a) x
-with_new a b x below came kept = λ i. record { shape = below i; came = came i; kept = kept i }
+-- no memory was taken meanwhile
+pub same_reserved : (a b : Arrived) → IsHeld a → IsHeld b → reserved_by b ≡ reserved_by a
+same_reserved a b held holds = all_reserved b holds ∙ sym (all_reserved a held)
 
-pub with_more : (a b : Arrived) (piece : List ℕ) → a.spent ≡ false → b.spent ≡ false → b.front.below ≡ a.front.below → b.front.came.tokens ≡ a.front.came.tokens
-    → b.kept.items ≡ a.kept.items ++ piece → tokens_of b ≡ with_bytes (tokens_of a) piece
-with_more a b piece away new below came kept =
-    let same : (tokens_of b).kept ≡ (tokens_of a).kept ++ piece = rw (kept_now a away, kept_now b new) kept in
-    λ i. record { shape = below i; came = came i; kept = same i }
+-- what is held then
+pub with_new : (a b : Arrived) (x : Token) → IsHeld a → IsHeld b → b.front.below ≡ a.front.below → b.front.came.tokens ≡ a.front.came.tokens ++ x ∷ [] → (tokens_of b).kept ≡ []
+    → tokens_of b ≡ with_token (tokens_of a) x
+with_new a b x held holds below came kept =
+    let room = same_reserved a b held holds in
+    λ i. record { shape = below i; came = came i; kept = kept i; reserved = room i }
 
 pub still_reading : (a : Arrived) (piece : List ℕ) → IsReading (tokens_of a) → a.spent ≡ false → IsCut (a.kept.items ++ piece) → IsReading (with_bytes (tokens_of a) piece)
 still_reading a piece r away cut =

@@ -1,5 +1,5 @@
 -- The bytes that have arrived, as a reader holds them. These words serve its code.
-use Rattle.std.specs.Prelude.{◌≡◌, ℕ, ◌≤◌, List, [], Bool, true, false, Option, Result, vec_capacity, ⊤}
+use Rattle.std.specs.Prelude.{◌≡◌, ℕ, ◌+◌, ◌*◌, List, [], Bool, true, false, Option, Result, vec_capacity, ⊤}
 use Rattle.std.specs.Borrow.{follows_so, Fml, MutBor}
 use mathlib.Core.Option.{none}
 use Rattle.ots_reader.specs.declared.arrived.Arrived.{Arrived}
@@ -15,13 +15,22 @@ abbrev pub kept_by : Bool → List ℕ → List ℕ
 kept_by true bytes = []
 kept_by false bytes = bytes
 
-abbrev pub tokens_of : Arrived → Tokens
-tokens_of a = record { shape = a.front.below; came = a.front.came.tokens; kept = kept_by a.spent a.kept.items }
+-- how many bytes of memory are taken: a shape is eight bytes
+abbrev pub reserved_by : Arrived → ℕ
+reserved_by a = vec_capacity a.kept + 8 * a.front.walk.room
 
--- There is room for whatever comes.
+abbrev pub tokens_of : Arrived → Tokens
+tokens_of a = record {
+  shape = a.front.below;
+  came = a.front.came.tokens;
+  kept = kept_by a.spent a.kept.items;
+  reserved = reserved_by a;
+}
+
+-- There is room for whatever comes, and no more.
 pub record IsHeld (a : Arrived) : Type 0 where
   pub stands : IsStanding a.front
-  pub bytes : MAX_KEPT ≤ vec_capacity a.kept
+  pub bytes : vec_capacity a.kept ≡ MAX_KEPT
 
 -- None of the kept bytes are those of the last token.
 pub record IsAway (old new : Arrived) : Type 0 where

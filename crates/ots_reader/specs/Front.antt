@@ -1,5 +1,5 @@
 -- The tokens that have come, as a reader holds them. These words serve its code.
-use Rattle.std.specs.Prelude.{◌≡◌, ◌≤◌, [], ◌∷◌, ◌++◌, length, Bool, Some, Result, Ok, Err, if◌then◌else◌}
+use Rattle.std.specs.Prelude.{◌≡◌, [], ◌∷◌, ◌++◌, length, Bool, Some, Result, Ok, Err, if◌then◌else◌}
 use Rattle.std.specs.List.{AllByRecursion}
 use Rattle.ots_tree.specs.declared.token.Token.{Token}
 use Rattle.ots_tree.specs.Wire.{spelled, IsToken}
@@ -11,14 +11,14 @@ use Rattle.ots_reader.specs.declared.fault.Fault.{Fault}
 use Rattle.ots_reader.specs.OneAnswer.{IsShape}
 use Rattle.ots_reader.specs.TreeFault.{place_fault}
 
--- The walk stands after the tokens, and there is room for whatever comes.
+-- The walk stands after the tokens, and there is room for whatever comes, and no more.
 pub record IsStanding (f : Front) : Type 0 where
   pub shape : IsShape f.below.length f.below.depth
   pub fits : AllByRecursion IsToken f.came.tokens
   pub opens : opened (start f.below.length f.below.depth) f.came.tokens
       ≡ Some (if f.whole then none_open else open_at f.walk)
   pub place : f.place ≡ length (spelled f.came.tokens)
-  pub nodes : MAX_OTHERS ≤ f.walk.room
+  pub nodes : f.walk.room ≡ MAX_OTHERS
 
 -- What becomes of one more token, and whether it is the tree's last one.
 abbrev pub ComesTo : Front → Token → Result Bool Fault → Front → Type 0

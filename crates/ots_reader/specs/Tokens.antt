@@ -9,28 +9,31 @@ use Rattle.ots_tree.specs.Front.{Open, start, opened}
 use Rattle.ots_reader.specs.declared.fault.Fault.{Fault}
 use Rattle.ots_reader.specs.declared.fault.Reason.TheVariants.{Truncated}
 use Rattle.ots_reader.specs.declared.next.Next.{Next}
+use Rattle.ots_reader.specs.declared.token_reader.TheConstants.{TOKEN_READER_BYTES}
 use Rattle.ots_reader.specs.Cut.{IsCut, IsJoinedAt}
 use Rattle.ots_reader.specs.OneAnswer.{IsShape}
 use Rattle.ots_reader.specs.TreeFault.{IsFront, HasTreeFault}
 use Rattle.ots_reader.specs.Progress.{EndsIn}
 
--- what the tree stands below, the tokens that have come, and the first bytes of the next one
+-- what the tree stands below, the tokens that have come, the first bytes of the next one, and how many bytes of memory
+-- are taken
 pub record Tokens : Type 0 where
   pub shape : Shape
   pub came : List Token
   pub kept : List ℕ
+  pub reserved : ℕ
 
 -- before the first byte
 abbrev pub begun : Shape → Tokens
-begun shape = record { shape = shape; came = []; kept = [] }
+begun shape = record { shape = shape; came = []; kept = []; reserved = TOKEN_READER_BYTES }
 
 -- after one more token
 abbrev pub with_token : Tokens → Token → Tokens
-with_token r x = record { shape = r.shape; came = r.came ++ x ∷ []; kept = [] }
+with_token r x = record { shape = r.shape; came = r.came ++ x ∷ []; kept = []; reserved = r.reserved }
 
 -- after more bytes of the next token
 abbrev pub with_bytes : Tokens → List ℕ → Tokens
-with_bytes r piece = record { shape = r.shape; came = r.came; kept = r.kept ++ piece }
+with_bytes r piece = record { shape = r.shape; came = r.came; kept = r.kept ++ piece; reserved = r.reserved }
 
 -- all bytes so far
 abbrev pub so_far : Tokens → List ℕ
@@ -72,7 +75,7 @@ Nexts old piece (Err f) = Stops old piece f
 abbrev pub Leaves : Tokens → List ℕ → Result (Option Next) Fault → Tokens → Type 0
 Leaves old piece (Ok (Some next)) new = new ≡ with_token old (token_of next.token)
 Leaves old piece (Ok None) new = new ≡ with_bytes old piece
-Leaves old piece (Err f) new = new.shape ≡ old.shape
+Leaves old piece (Err f) new = (new.shape ≡ old.shape) × (new.reserved ≡ old.reserved)
 
 abbrev pub is_none : List Shape → Bool
 is_none [] = true

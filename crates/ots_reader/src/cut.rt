@@ -26,7 +26,7 @@ pub(crate) fn read_on(kept: &mut Vec<u8>, piece: &[u8]) -> Result<Option<usize>,
     requires cut { IsCut kept.old.items }
     requires room { MAX_KEPT ≤ vec_capacity kept.old }
     ensures read { ReadsOn kept.old.items piece.now kept.new.items result }
-    ensures room { vec_capacity kept.old ≤ vec_capacity kept.new }
+    ensures room { vec_capacity kept.new ≡ vec_capacity kept.old }
 {
     let start = kept.len();
     let mut end = 0;
@@ -46,9 +46,13 @@ pub(crate) fn read_on(kept: &mut Vec<u8>, piece: &[u8]) -> Result<Option<usize>,
 pub(crate) fn keep(kept: &mut Vec<u8>, bytes: &[u8])
     requires { length kept.old.items + length bytes.now ≤ vec_capacity kept.old }
     ensures items { kept.new.items ≡ kept.old.items ++ bytes.now }
-    ensures room { vec_capacity kept.old ≤ vec_capacity kept.new }
+    ensures room { vec_capacity kept.new ≡ vec_capacity kept.old }
 {
-    kept.extend_from_slice(bytes).unwrap();
+    let mut count = 0;
+    while count < bytes.len() {
+        kept.push_reserved(bytes[count]);
+        count += 1;
+    }
 }
 
 /// How many of the bytes spell the token at their start, where it is whole.

@@ -25,8 +25,8 @@ pub const TOKEN_READER_BYTES: usize = MAX_KEPT + 8 * MAX_OTHERS;
 /// them, and for the 256 nodes that may be open besides the last one. However the bytes are cut, the
 /// time is that of reading each of them a few times.
 ///
-/// Contracts see what the tree is read below, the tokens that have come, and the first bytes of the next
-/// one.
+/// Contracts see what the tree is read below, the tokens that have come, the first bytes of the next
+/// one, and how many bytes of memory it has taken.
 #[derive(Drop)]
 pub struct TokenReader {
     arrived: Arrived,
@@ -87,6 +87,14 @@ impl TokenReader {
         ensures* rests { sem 𝓛 (Rests self.entry (Leaves self.old piece.now result)) }
     {
         read_next(&mut self.arrived, piece)
+    }
+
+    /// How many bytes of memory it has taken: `TOKEN_READER_BYTES`, from `begin` on.
+    pub fn reserved(&self) -> usize
+        ensures is { result ≡ self.now.reserved }
+        ensures always { result ≡ TOKEN_READER_BYTES }
+    {
+        self.arrived.kept.capacity() + 8 * self.arrived.front.walk.room()
     }
 
     /// How many bytes the tokens take that have come.

@@ -17,7 +17,7 @@ pub(crate) fn take_turn(walk: &mut Walk<Shape>, token: TokenRef<'_>) -> Result<b
     requires greatest { walk.old.last.length ≤ MAX_MESSAGE }
     requires room { walk.old.forked ≡ false → length walk.old.others < walk.old.room }
     ensures moves { Moves walk.old walk.new (token_of token.entry) result }
-    ensures room { walk.old.room ≤ walk.new.room }
+    ensures room { walk.new.room ≡ walk.old.room }
 {
     match token {
         TokenRef::Attestation(_) => Ok(walk.close()),

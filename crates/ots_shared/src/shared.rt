@@ -18,7 +18,7 @@ use ots_disk::Disk;
 use std::alloc::Global;
 use std::marker::Model;
 use std::snapshot::Snapshot;
-use std::sync::Wait;
+use std::sync::{Mutex, MutexGuard, Wait};
 
 /// A book among callers.
 ///
@@ -26,6 +26,7 @@ use std::sync::Wait;
 pub struct Shared<D: Disk> {
     table: Board<D>,
     bells: Bells,
+    askers: Mutex<()>,
 }
 
 impl<D: Disk> Model for Shared<D> {
@@ -80,8 +81,12 @@ impl<D: Disk> Shared<D> {
         slots.push_reserved(Some(book));
         match Table::new(alloc, &[0, 0, records], slots, &terms) {
             Ok((table, place)) => {
-                let bells = Bells::new();
-                Ok((Shared { table, bells }, Pass::of(place, Rows::none(), 0)))
+                let shared = Shared {
+                    table,
+                    bells: Bells::new(),
+                    askers: Mutex::new(()),
+                };
+                Ok((shared, Pass::of(place, Rows::none(), 0)))
             }
             Err(Refused { mut slots }) => {
                 let Some(Some(book)) = slots.pop() else {
@@ -132,6 +137,38 @@ impl<D: Disk> Shared<D> {
         glue(&self.table.shared, &mut place, second.rise());
         pass.sit(place);
         pass
+    }
+
+    /// Lets each of two passes see what the other has seen: both have seen the longer of their lists then, and were
+    /// told the greater of their counts. It waits for nobody.
+    pub fn share_seen(&self, first: &mut Pass, second: &mut Pass)
+        requires own { IsPassOf self.now first.old × IsPassOf self.now second.old }
+        requires free { (first.old.holding ≡ false) × (second.old.holding ≡ false) }
+        requires one { second.old.seat.share ≡ 1 }
+        ensures seat { (first.new.seat ≡ first.old.seat) × (second.new.seat ≡ second.old.seat) }
+        ensures free { (first.new.holding ≡ false) × (second.new.holding ≡ false) }
+        ensures seen { StartsWith first.new.seen first.old.seen × StartsWith first.new.seen second.old.seen
+            × (second.new.seen ≡ first.new.seen) }
+        ensures longer { (first.new.seen ≡ first.old.seen) ⊎ (first.new.seen ≡ second.old.seen) }
+        ensures told { (first.new.told ≡ max first.old.told second.old.told) × (second.new.told ≡ first.new.told) }
+        ensures first { (first.new.holds ≡ first.old.holds) × (first.new.made ≡ first.old.made) }
+        ensures second { (second.new.holds ≡ second.old.holds) × (second.new.made ≡ second.old.made) }
+    {
+        let mut place: Place<D> = first.rise();
+        glue(&self.table.shared, &mut place, second.rise());
+        let other = self.table.shared.split_seat::<Cut>(&mut place);
+        first.sit(place);
+        second.sit(other);
+    }
+
+    /// Waits for a turn among the callers that only ask. Whoever holds the book for a few microseconds takes one before
+    /// `hold`, and lets go of it after `release`.
+    ///
+    /// Numbers are served in order, so a caller that sleeps has to be woken before any behind it goes on, and where many
+    /// ask at once each of them would sleep. With turns at most one of those that ask has a number, and whoever
+    /// runs first takes the next turn. It says nothing of the book: `hold` alone hands it out.
+    pub fn turn_to_ask<R: Wait>(&self, rt: &R) -> MutexGuard<'_, ()> {
+        self.askers.lock(rt)
     }
 
     /// Waits for this caller's turn, and hands out the book. It begins with the records that the
@@ -215,7 +252,11 @@ impl<D: Disk> Shared<D> {
         ensures told { pass.told ≤ length result.store.records }
         ensures limit { result.store.journal.limit ≡ self.limit }
     {
-        let Shared { table, bells: _ } = self;
+        let Shared {
+            table,
+            bells: _,
+            askers: _,
+        } = self;
         let mut pass = pass;
         take_back(table, pass.rise())
     }

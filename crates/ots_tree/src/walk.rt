@@ -90,6 +90,13 @@ impl<T: Drop> Walk<T> {
         self.others.len()
     }
 
+    /// How many other nodes there is room for, before more memory is taken.
+    pub fn room(&self) -> usize
+        ensures { result ≡ self.now.room }
+    {
+        self.others.capacity()
+    }
+
     /// A fork, which keeps the last node open for another item. The copy is of what is carried there.
     /// It takes no memory while there is room for one more of the other open nodes, and without memory
     /// the walk stays as it is.
@@ -100,8 +107,13 @@ impl<T: Drop> Walk<T> {
         ensures stays { IfErr result (λ _. open_at self.new ≡ open_at self.old) }
         ensures room { length self.old.others < self.old.room → IsOk result }
         ensures kept_room { self.old.room ≤ self.new.room }
+        ensures same_room { length self.old.others < self.old.room → self.new.room ≡ self.old.room }
     {
-        self.others.push(copy)?;
+        if self.others.len() < self.others.capacity() {
+            self.others.push_reserved(copy);
+        } else {
+            self.others.push(copy)?;
+        }
         self.forked = true;
         Ok(())
     }
@@ -150,6 +162,7 @@ impl<T: Copy> Walk<T> {
         ensures stays { IfErr result (λ _. open_at self.new ≡ open_at self.old) }
         ensures room { length self.old.others < self.old.room → IsOk result }
         ensures kept_room { self.old.room ≤ self.new.room }
+        ensures same_room { length self.old.others < self.old.room → self.new.room ≡ self.old.room }
     {
         self.keep(self.last)
     }

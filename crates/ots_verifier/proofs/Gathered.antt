@@ -25,7 +25,7 @@ header_alone : (g : List ℕ) (h : FileHeader) → IsHeader g h.hash h.digest �
 header_alone g h i = ap (take (33 + length h.digest)) i.prefix ∙ take_at (header h.hash h.digest) (drop (33 + length h.digest) g) (33 + length h.digest) (header_length h.hash h.digest)
 
 pub entered : (bitcoin : Table) (litecoin : Option Table) (g : List ℕ) (h : FileHeader) (f : Following) (start : ℕ) → IsHeader g h.hash h.digest → start ≡ 33 + length h.digest
-    → Follows bitcoin litecoin h.digest f.reader f.messages f.best → f.reader.kept ≡ [] → f.reader.came ≡ [] → Stands bitcoin litecoin (take (33 + length h.digest) g) start (Tree h) f
+    → Follows bitcoin litecoin h.digest f.reader f.messages.position f.best → f.reader.kept ≡ [] → f.reader.came ≡ [] → Stands bitcoin litecoin (take (33 + length h.digest) g) start (Tree h) f
 entered bitcoin litecoin g h f start i is follows kept came =
     let n = 33 + length h.digest in
     let long : length (take n g) ≡ n = length-take-le n g (header_fits g h.hash h.digest i) in

@@ -45,7 +45,7 @@ stands w n ns forked e =
     record { last = cc; others = cc; forked_is = ap (λ (z : Open ℕ). z.forked) e }
 
 pub held : (rows : List (List ℕ)) (w : Position ℕ) (n : ℕ) (ns : List ℕ) (forked : Bool) → open_at w ≡ record { nodes = n ∷ ns; forked = forked }
-    → length rows ≡ 256 → n ≤ 4096 → AllByRecursion (λ m. m ≤ 4096) ns → IsRoom forked (length ns) → 256 ≤ w.room → AreHeld rows w
+    → length rows ≡ 256 → n ≤ 4096 → AllByRecursion (λ m. m ≤ 4096) ns → IsRoom forked (length ns) → w.room ≡ 256 → AreHeld rows w
 held rows w n ns forked e count last others places kept =
     let s = stands w n ns forked e in
     record { count = count; last = rw s.last last; others = rw s.others others; places = rw (s.others, s.forked_is) places; kept = kept }
@@ -102,19 +102,18 @@ few_left : (forked : Bool) (n : ℕ) → IsRoom forked (suc n) → n < 256
 few_left false n h = omega arith
 few_left true n h = let few = h.1 in omega arith
 
-closed_on : (rows : List (List ℕ)) (w v : Position ℕ) (ns : List ℕ) → w.others ≡ ns → AreHeld rows w → w.room ≤ v.room
+closed_on : (rows : List (List ℕ)) (w v : Position ℕ) (ns : List ℕ) → w.others ≡ ns → AreHeld rows w → v.room ≡ w.room
     → (let one : Open ℕ = record { nodes = w.others; forked = false } in one) ≡ open_at v → AreHeld rows v
 closed_on rows w v [] are h room e =
     let none : (let one : List ℕ = [] in one) ≡ v.last ∷ v.others = sym are ∙ ap (λ (z : Open ℕ). z.nodes) e in
     absurd cc
 closed_on rows w v (n ∷ ns) are h room e =
-    let kept = h.kept in
     let others = rw are at h.others in
-    held rows v n ns false (sym e ∙ ap (λ z. record { nodes = z; forked = false }) are) h.count others.0 others.1 (few_left w.forked (length ns) (rw are at h.places)) (omega arith)
+    held rows v n ns false (sym e ∙ ap (λ z. record { nodes = z; forked = false }) are) h.count others.0 others.1 (few_left w.forked (length ns) (rw are at h.places)) (room ∙ h.kept)
 
 -- after an attestation: the message of another open node, or at the end that of the node that closed
-pub held_closed : (rows : List (List ℕ)) (w v : Position ℕ) (going : Bool) → AreHeld rows w → w.room ≤ v.room
+pub held_closed : (rows : List (List ℕ)) (w v : Position ℕ) (going : Bool) → AreHeld rows w → v.room ≡ w.room
     → (let one : Option (Open ℕ) = Some (record { nodes = w.others; forked = false }) in one) ≡ Some (if going then open_at v else none_open)
     → (going ≡ false → open_at v ≡ begun w.last) → AreHeld rows v
-held_closed rows w v false h room e end = let kept = h.kept in held rows v w.last [] false (end refl) h.count h.last tt (omega arith) (omega arith)
+held_closed rows w v false h room e end = held rows v w.last [] false (end refl) h.count h.last tt (omega arith) (room ∙ h.kept)
 held_closed rows w v true h room e end = closed_on rows w v w.others refl h room (some_open (record { nodes = w.others; forked = false }) (open_at v) e)

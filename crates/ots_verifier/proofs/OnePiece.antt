@@ -64,7 +64,7 @@ refused_more b more f r = record {
 -- ---- the tree goes on
 
 pub open_more : (bitcoin : Table) (litecoin : Option Table) (b piece : List ℕ) (h : FileHeader) (old new : Following) → IsOpen bitcoin litecoin b h old
-    → FollowsTo bitcoin litecoin h.digest old.reader piece new.reader new.messages new.best → IsOpen bitcoin litecoin (b ++ piece) h new
+    → FollowsTo bitcoin litecoin h.digest old.reader piece new.reader new.messages.position new.best → IsOpen bitcoin litecoin (b ++ piece) h new
 open_more bitcoin litecoin b piece h old new i f = record {
   header = header_more b piece h.hash h.digest i.header;
   rest = after_more b piece h.hash h.digest i.header ∙ ap (λ (z : List ℕ). z ++ piece) i.rest ∙ sym f.read.fed;

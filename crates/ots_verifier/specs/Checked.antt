@@ -32,8 +32,9 @@ pub record IsExactCheck (bitcoin : Table) (litecoin : Option Table) (bytes : Lis
   pub refuses : (f : Fault) → length bytes ≤ MAX_PROOF_FILE → HasFault bytes f → answer ≡ Err (BadProof f)
   pub too_big : MAX_PROOF_FILE < length bytes → answer ≡ Err TooBig
 
--- a verifier: by which headers, and the bytes so far
+-- a verifier: by which headers, the bytes so far, and how many bytes of memory are taken
 pub record Pieces : Type 0 where
   pub bitcoin : Table
   pub litecoin : Option Table
   pub bytes : List ℕ
+  pub reserved : ℕ

@@ -1,5 +1,5 @@
 -- How the messages of the open nodes, and the least confirmed heights, follow the tokens of a tree.
-use Rattle.std.specs.Prelude.{◌≡◌, ◌≢◌, ℕ, ◌<◌, List, ◌++◌, length, Bool, false, Option, Some, IsSome, Result, Ok, Err}
+use Rattle.std.specs.Prelude.{◌≡◌, ◌≢◌, ℕ, ◌+◌, ◌<◌, List, ◌++◌, length, Bool, false, Option, Some, IsSome, Result, Ok, Err}
 use Rattle.ots_ops.specs.Apply.{apply}
 use Rattle.ots_tree.specs.declared.token.Token.{Token}
 use Rattle.ots_tree.specs.declared.token.Token.TheVariants as token
@@ -36,6 +36,10 @@ pub record Follows (bitcoin : Table) (litecoin : Option Table) (digest : List �
   pub reading : IsReading r
   pub opens : opened apply (begun digest) r.came ≡ Some (open_at m)
   pub is_best : best ≡ best_in bitcoin litecoin digest r.came
+
+-- how many bytes of memory are taken
+abbrev pub reserved_by : Following → ℕ
+reserved_by f = f.reader.reserved + f.messages.reserved
 
 -- no byte has come of the tree
 pub record IsFresh (f : Following) : Type 0 where

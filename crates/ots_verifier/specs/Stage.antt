@@ -26,7 +26,7 @@ pub record IsOpen (bitcoin : Table) (litecoin : Option Table) (bytes : List ℕ)
     (f : Following) : Type 0 where
   pub header : IsHeader bytes h.hash h.digest
   pub rest : after h bytes ≡ so_far f.reader
-  pub follows : Follows bitcoin litecoin h.digest f.reader f.messages f.best
+  pub follows : Follows bitcoin litecoin h.digest f.reader f.messages.position f.best
 
 -- The tree is whole, and nothing is after it.
 pub record IsWhole (bitcoin : Table) (litecoin : Option Table) (bytes : List ℕ) (h : FileHeader)

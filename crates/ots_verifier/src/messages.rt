@@ -1,5 +1,6 @@
 //! The messages of the open nodes of a tree.
-ghost use Rattle.std.specs.Prelude.{◌≡◌, ◌<◌, ◌≤◌, true, false, [], Some, IfOk, IsSome, length, if◌then◌else◌};
+ghost use Rattle.std.specs.Prelude.{◌≡◌, ◌<◌, ◌≤◌, true, false, [], Some, IfOk, IsSome, length, vec_capacity};
+ghost use Rattle.std.specs.Prelude.{if◌then◌else◌};
 ghost use Rattle.ots_ops.specs.Apply.{apply};
 ghost use Rattle.ots_ops.specs.OpRef.{op_of};
 ghost use Rattle.ots_attest.specs.declared.attestation.Attestation.{Attestation};
@@ -20,10 +21,14 @@ use std::marker::Model;
 /// many, but that one which a fork has just kept open stands twice and shares its row.
 pub(crate) const ROWS: usize = 256;
 
-/// The message of each open node of a tree, in memory that is taken when it begins: 1,049,088 bytes.
+/// How many bytes of memory the messages take, all of it when they begin: 256 rows of 4096 bytes, with two
+/// bytes for the length of each message.
+pub(crate) const MESSAGES_BYTES: usize = ROWS * (MAX_MESSAGE + 2);
+
+/// The message of each open node of a tree, in memory that is taken when it begins.
 ///
 /// Contracts see what a walk over the tokens of the tree carries: `last`, at which the next token
-/// stands, and `others`, the last one first.
+/// stands, and `others`, the last one first. They see how many bytes of memory are taken, too.
 #[derive(Drop)]
 pub(crate) struct Messages {
     /// At the start of the rows the messages of the other nodes lie, the first node's in the first row,
@@ -35,21 +40,22 @@ pub(crate) struct Messages {
 }
 
 impl Model for Messages {
-    ghost use Rattle.std.specs.Prelude.{ℕ, List};
-    ghost use Rattle.ots_tree.specs.Walk.{Position};
-    ghost use Rattle.ots_verifier.specs.Messages.{position, AreHeld};
+    ghost use Rattle.std.specs.Prelude.{◌≡◌, vec_capacity};
+    ghost use Rattle.ots_verifier.specs.Messages.{kept_in, AreHeld, Kept};
+    ghost use Rattle.ots_verifier.specs.declared.messages.TheConstants.{ROWS};
 
-    ghost Value = { Position (List ℕ) };
+    ghost Value = { Kept };
 
-    ghost view = { λ m. position m.rows.items m.lengths };
+    ghost view = { λ m. kept_in (vec_capacity m.rows) m.rows.items m.lengths };
 
-    ghost invariant = { λ m. AreHeld m.rows.items m.lengths };
+    ghost invariant = { λ m. AreHeld m.rows.items m.lengths × (vec_capacity m.rows ≡ ROWS) };
 }
 
 impl Messages {
     /// The rows, with no byte at the root.
     pub fn begin(alloc: Global) -> Result<Messages, OutOfMemory>
-        ensures { IfOk result (λ messages. open_at messages ≡ begun []) }
+        ensures begun { IfOk result (λ messages. open_at messages.position ≡ begun []) }
+        ensures reserved { IfOk result (λ messages. messages.reserved ≡ MESSAGES_BYTES) }
     {
         Ok(Messages {
             rows: empty_rows(alloc)?,
@@ -60,7 +66,8 @@ impl Messages {
     /// Begins anew, with the message of the root. It takes no memory.
     pub fn start(&mut self, message: &[u8])
         requires { length message.now ≤ MAX_MESSAGE }
-        ensures { open_at self.new ≡ begun message.now }
+        ensures begun { open_at self.new.position ≡ begun message.now }
+        ensures reserved { self.new.reserved ≡ self.old.reserved }
     {
         put_message(&mut self.rows, 0, message);
         self.lengths.restart(message.len() as u16);
@@ -68,7 +75,7 @@ impl Messages {
 
     /// The message of the node at which the next token stands.
     pub fn last(&self) -> &[u8]
-        ensures { result.now ≡ self.now.last }
+        ensures { result.now ≡ self.now.position.last }
     {
         let row = last_row(self.lengths.others(), self.lengths.is_forked());
         &self.rows[row][..self.lengths.last() as usize]
@@ -76,8 +83,9 @@ impl Messages {
 
     /// One more token. Whether a node is open after it. It takes no memory.
     pub fn follow(&mut self, token: TokenRef<'_>) -> bool
-        requires { MayCome (token_of token) self.old }
-        ensures { IsStep apply (token_of token.entry) self.old self.new result }
+        requires { MayCome (token_of token) self.old.position }
+        ensures step { IsStep apply (token_of token.entry) self.old.position self.new.position result }
+        ensures reserved { self.new.reserved ≡ self.old.reserved }
     {
         match token {
             TokenRef::Fork => self.fork(),
@@ -89,9 +97,10 @@ impl Messages {
 
     /// A fork, which keeps the last node open for another item.
     fn fork(&mut self)
-        requires free { self.old.forked ≡ false }
-        requires room { length self.old.others < ROWS }
-        ensures { next apply token.Fork (open_at self.old) ≡ Some (open_at self.new) }
+        requires free { self.old.position.forked ≡ false }
+        requires room { length self.old.position.others < ROWS }
+        ensures forks { next apply token.Fork (open_at self.old.position) ≡ Some (open_at self.new.position) }
+        ensures reserved { self.new.reserved ≡ self.old.reserved }
     {
         self.lengths.fork().unwrap();
     }
@@ -99,9 +108,11 @@ impl Messages {
     /// An operation, which has a result there, and leads to the node of it.
     #[tactic(auto, using(crate::proofs::InRows::rows_of_others))]
     fn lead(&mut self, op: OpRef<'_>)
-        requires room { length self.old.others < ROWS }
-        requires has_result { IsSome (apply (op_of op) self.old.last) }
-        ensures { next apply (token.Op (op_of op.entry)) (open_at self.old) ≡ Some (open_at self.new) }
+        requires room { length self.old.position.others < ROWS }
+        requires has_result { IsSome (apply (op_of op) self.old.position.last) }
+        ensures leads { next apply (token.Op (op_of op.entry)) (open_at self.old.position)
+            ≡ Some (open_at self.new.position) }
+        ensures reserved { self.new.reserved ≡ self.old.reserved }
     {
         let row = self.lengths.others();
         part(&mut self.rows, row, self.lengths.is_forked());
@@ -111,20 +122,30 @@ impl Messages {
 
     /// An attestation, which closes the last node. Whether another node is open.
     fn close(&mut self) -> bool
-        ensures { (a : Attestation) → next apply (token.Attestation a) (open_at self.old)
-            ≡ Some (if result then open_at self.new else none_open) }
+        ensures closes { (a : Attestation) → next apply (token.Attestation a) (open_at self.old.position)
+            ≡ Some (if result then open_at self.new.position else none_open) }
+        ensures reserved { self.new.reserved ≡ self.old.reserved }
     {
         self.lengths.close()
+    }
+
+    /// How many bytes of memory they have taken: `MESSAGES_BYTES`, from `begin` on.
+    pub fn reserved(&self) -> usize
+        ensures is { result ≡ self.now.reserved }
+        ensures always { result ≡ MESSAGES_BYTES }
+    {
+        MAX_MESSAGE * self.rows.capacity() + 2 * self.lengths.room()
     }
 }
 
 /// Rows of zeros.
 fn empty_rows(alloc: Global) -> Result<Vec<Row>, OutOfMemory>
-    ensures { IfOk result (λ rows. length rows.items ≡ ROWS) }
+    ensures count { IfOk result (λ rows. length rows.items ≡ ROWS) }
+    ensures room { IfOk result (λ rows. vec_capacity rows ≡ ROWS) }
 {
     let mut rows = Vec::with_capacity(alloc, ROWS)?;
     for _ in 0..ROWS {
-        rows.push([0; MAX_MESSAGE])?;
+        rows.push_reserved([0; MAX_MESSAGE]);
     }
     Ok(rows)
 }

@@ -3,11 +3,11 @@ ghost use Rattle.std.specs.Prelude.{◌≡◌, ◌+◌, ◌<◌, ◌≤◌, ◌+
 ghost use Rattle.std.specs.Option.{option_copied};
 ghost use Rattle.ots_headers.specs.HeaderTable.{Table};
 ghost use Rattle.ots_detached.specs.File.{IsHeader};
-ghost use Rattle.ots_verifier.specs.Following.{Follows, IsFresh};
+ghost use Rattle.ots_verifier.specs.Following.{Follows, IsFresh, reserved_by};
 ghost use Rattle.ots_verifier.specs.Progress.{HasCome, IsGathering};
 ghost use Rattle.ots_verifier.specs.Stage.{IsAt, Stands};
 
-use crate::following::Following;
+use crate::following::{FOLLOWING_BYTES, Following};
 use crate::stage::{Stage, read_after};
 use ots_base::{MAX_PROOF_FILE, OutOfMemory};
 use ots_detached::{FileHeader, read_header};
@@ -35,7 +35,8 @@ pub(crate) struct Progress {
 impl Progress {
     /// No byte yet. It takes the memory for all that comes.
     pub fn begin(alloc: Global) -> Result<Progress, OutOfMemory>
-        ensures { IfOk result (λ p. (bitcoin : Table) (litecoin : Option Table) → HasCome bitcoin litecoin [] p) }
+        ensures none { IfOk result (λ p. (bitcoin : Table) (litecoin : Option Table) → HasCome bitcoin litecoin [] p) }
+        ensures reserved { IfOk result (λ p. reserved_by p.following ≡ FOLLOWING_BYTES) }
     {
         Ok(Progress {
             following: Following::begin(alloc)?,
@@ -65,8 +66,9 @@ pub(crate) fn advance(
     litecoin: Option<&Headers>,
 )
     requires { (bytes : List ℕ) × HasCome bitcoin.now (option_copied litecoin) bytes progress.old }
-    ensures { (bytes : List ℕ) → HasCome bitcoin.now (option_copied litecoin.entry) bytes progress.old
+    ensures come { (bytes : List ℕ) → HasCome bitcoin.now (option_copied litecoin.entry) bytes progress.old
         → HasCome bitcoin.now (option_copied litecoin.entry) (bytes ++ piece.now) progress.new }
+    ensures reserved { reserved_by progress.new.following ≡ reserved_by progress.old.following }
 {
     if piece.len() > MAX_PROOF_FILE - progress.count {
         progress.state = State::TooBig;
@@ -95,8 +97,9 @@ fn gather(progress: &mut Progress, piece: &[u8], bitcoin: &Headers, litecoin: Op
     requires gathering { (bytes : List ℕ) × IsGathering bytes progress.old }
     requires in_header { progress.old.state ≡ State.Header }
     requires size { progress.old.count + length piece.now ≤ MAX_PROOF_FILE }
-    ensures { (bytes : List ℕ) → IsGathering bytes progress.old
+    ensures come { (bytes : List ℕ) → IsGathering bytes progress.old
         → HasCome bitcoin.now (option_copied litecoin.entry) (bytes ++ piece.now) progress.new }
+    ensures reserved { reserved_by progress.new.following ≡ reserved_by progress.old.following }
 {
     if progress.count >= MAX_HEADER {
         progress.count += piece.len();
@@ -146,7 +149,8 @@ fn enter(
     requires fresh { IsFresh following.old }
     requires header { IsHeader gathered.now header.hash header.digest }
     requires size { length gathered.now + length rest.now ≤ MAX_PROOF_FILE }
-    ensures { IsAt bitcoin.now (option_copied litecoin.entry) (gathered.now ++ rest.now) result following.new }
+    ensures at { IsAt bitcoin.now (option_copied litecoin.entry) (gathered.now ++ rest.now) result following.new }
+    ensures reserved { reserved_by following.new ≡ reserved_by following.old }
 {
     let start = 33 + header.digest.bytes().len();
     begin_tree(following, &header.digest);
@@ -165,9 +169,11 @@ fn enter(
 fn begin_tree(following: &mut Following, digest: &Digest)
     requires { IsFresh following.old }
     ensures follows { (bitcoin : Table) (litecoin : Option Table)
-        → Follows bitcoin litecoin digest.now following.new.reader following.new.messages following.new.best }
+        → Follows bitcoin litecoin digest.now following.new.reader following.new.messages.position
+        following.new.best }
     ensures none { following.new.reader.kept ≡ [] }
     ensures no_tokens { following.new.reader.came ≡ [] }
+    ensures reserved { reserved_by following.new ≡ reserved_by following.old }
 {
     let bytes = digest.bytes();
     following.reader.place_below(Shape {

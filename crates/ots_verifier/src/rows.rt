@@ -1,5 +1,6 @@
 //! Rows of bytes, at the start of which messages lie.
-ghost use Rattle.std.specs.Prelude.{◌≡◌, ◌<◌, ◌≤◌, true, [], Some, length, take, slice_index_or, IsSome};
+ghost use Rattle.std.specs.Prelude.{◌≡◌, ◌<◌, ◌≤◌, true, [], Some, length, take, slice_index_or, vec_capacity};
+ghost use Rattle.std.specs.Prelude.{IsSome};
 ghost use Rattle.ots_ops.specs.Apply.{apply};
 ghost use Rattle.ots_ops.specs.OpRef.{op_of};
 ghost use Rattle.ots_verifier.specs.Rows.{IsPut, row_of};
@@ -14,7 +15,8 @@ pub(crate) type Row = [u8; MAX_MESSAGE];
 pub(crate) fn part(rows: &mut Vec<Row>, row: usize, shared: bool)
     requires within { row < length rows.old.items }
     requires before { shared ≡ true → 1 ≤ row }
-    ensures { IsPut rows.old.items rows.new.items row (slice_index_or rows.old.items (row_of shared row) []) }
+    ensures put { IsPut rows.old.items rows.new.items row (slice_index_or rows.old.items (row_of shared row) []) }
+    ensures room { vec_capacity rows.new ≡ vec_capacity rows.old }
 {
     if shared {
         rows[row] = rows[row - 1];
@@ -31,6 +33,7 @@ pub(crate) fn put_result(rows: &mut Vec<Row>, row: usize, count: usize, op: OpRe
     ensures fits { result ≤ MAX_MESSAGE }
     ensures value { apply (op_of op.entry) (take count (slice_index_or rows.old.items row []))
         ≡ Some (take result (slice_index_or rows.new.items row [])) }
+    ensures room { vec_capacity rows.new ≡ vec_capacity rows.old }
 {
     put_applied(&mut rows[row], count, op)
 }
@@ -54,6 +57,7 @@ pub(crate) fn put_message(rows: &mut Vec<Row>, row: usize, message: &[u8])
     requires fits { length message.now ≤ MAX_MESSAGE }
     ensures put { IsPut rows.old.items rows.new.items row (slice_index_or rows.new.items row []) }
     ensures message { take (length message.now) (slice_index_or rows.new.items row []) ≡ message.now }
+    ensures room { vec_capacity rows.new ≡ vec_capacity rows.old }
 {
     put_prefix(&mut rows[row], message);
 }

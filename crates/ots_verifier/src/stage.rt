@@ -3,6 +3,7 @@ ghost use Rattle.std.specs.Prelude.{◌≡◌, ◌+◌, ◌^◌, ◌<◌, ◌≤
 ghost use Rattle.std.specs.Option.{option_copied};
 ghost use Rattle.ots_detached.specs.FileFault.{at, moved};
 ghost use Rattle.ots_reader.specs.declared.fault.Reason.TheVariants.{TrailingBytes};
+ghost use Rattle.ots_verifier.specs.Following.{reserved_by};
 ghost use Rattle.ots_verifier.specs.Stage.{IsAt, IsOpen, Stands};
 
 use crate::following::{Following, follow_piece};
@@ -33,8 +34,9 @@ pub(crate) fn read_after(
 ) -> Stage
     requires stands { (bytes : List ℕ) × Stands bitcoin.now (option_copied litecoin) bytes count stage following.old }
     requires size { count + length piece.now ≤ MAX_PROOF_FILE }
-    ensures { (bytes : List ℕ) → Stands bitcoin.now (option_copied litecoin.entry) bytes count stage following.old
+    ensures at { (bytes : List ℕ) → Stands bitcoin.now (option_copied litecoin.entry) bytes count stage following.old
         → IsAt bitcoin.now (option_copied litecoin.entry) (bytes ++ piece.now) result following.new }
+    ensures reserved { reserved_by following.new ≡ reserved_by following.old }
 {
     match stage {
         Stage::Tree(header) => read_tree(header, following, count, piece, bitcoin, litecoin),
@@ -61,9 +63,10 @@ fn read_tree(
     requires stands { (bytes : List ℕ) × IsOpen bitcoin.now (option_copied litecoin) bytes header following.old
         × (count ≡ length bytes) }
     requires size { count + length piece.now ≤ MAX_PROOF_FILE }
-    ensures { (bytes : List ℕ) → IsOpen bitcoin.now (option_copied litecoin.entry) bytes header following.old
+    ensures at { (bytes : List ℕ) → IsOpen bitcoin.now (option_copied litecoin.entry) bytes header following.old
         → count ≡ length bytes
         → IsAt bitcoin.now (option_copied litecoin.entry) (bytes ++ piece.now) result following.new }
+    ensures reserved { reserved_by following.new ≡ reserved_by following.old }
 {
     match follow_piece(following, piece, bitcoin, litecoin) {
         Ok(Fed::More) => Stage::Tree(header),

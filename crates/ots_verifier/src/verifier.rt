@@ -4,26 +4,25 @@ ghost use Rattle.std.specs.Option.{option_copied};
 ghost use Rattle.ots_verifier.specs.Checked.{Checks, IsExactCheck};
 
 use crate::checked::{CheckError, Checked};
-use crate::messages::ROWS;
+use crate::following::FOLLOWING_BYTES;
 use crate::outcome::found;
 use crate::progress::{MAX_HEADER, Progress, advance};
-use ots_base::{GhostBytes, MAX_MESSAGE, OutOfMemory};
+use ots_base::{GhostBytes, OutOfMemory};
 use ots_headers::Headers;
-use ots_reader::TOKEN_READER_BYTES;
 use std::alloc::Global;
 use std::marker::Model;
 
 /// How many bytes the buffers of a verifier have, all of them taken when it is begun: 256 rows of 4096
 /// bytes for the messages of open nodes, with two bytes for the length of each; a reader of tokens; and the
 /// 65 bytes of the longest header.
-pub const VERIFIER_BYTES: usize = ROWS * (MAX_MESSAGE + 2) + TOKEN_READER_BYTES + MAX_HEADER;
+pub const VERIFIER_BYTES: usize = FOLLOWING_BYTES + MAX_HEADER;
 
 /// A proof file that comes in pieces, and what it confirms by given headers.
 ///
 /// It keeps no tree: of the bytes those of one token, and the message of each open node, of which at most
 /// 256 are open. No call but `begin` takes memory. Each operation of the tree is applied once, as it comes.
 ///
-/// Contracts see the headers, and the bytes so far.
+/// Contracts see the headers, the bytes so far, and how many bytes of memory are taken.
 #[derive(Drop)]
 pub struct Verifier<'a> {
     bitcoin: &'a Headers,
@@ -34,15 +33,25 @@ pub struct Verifier<'a> {
 }
 
 impl<'a> Model for Verifier<'a> {
+    ghost use Rattle.std.specs.Prelude.{◌≡◌, ◌+◌};
     ghost use Rattle.std.specs.Option.{option_copied};
     ghost use Rattle.ots_verifier.specs.Checked.{Pieces};
+    ghost use Rattle.ots_verifier.specs.Following.{reserved_by};
     ghost use Rattle.ots_verifier.specs.Progress.{HasCome};
+    ghost use Rattle.ots_verifier.specs.declared.following.TheConstants.{FOLLOWING_BYTES};
+    ghost use Rattle.ots_verifier.specs.declared.progress.TheConstants.{MAX_HEADER};
 
     ghost Value = { Pieces };
 
-    ghost view = { λ v. record { bitcoin = v.bitcoin.now; litecoin = option_copied v.litecoin; bytes = v.fed.bytes } };
+    ghost view = { λ v. record {
+      bitcoin = v.bitcoin.now;
+      litecoin = option_copied v.litecoin;
+      bytes = v.fed.bytes;
+      reserved = reserved_by v.progress.following + MAX_HEADER;
+    } };
 
-    ghost invariant = { λ v. HasCome v.bitcoin.now (option_copied v.litecoin) v.fed.bytes v.progress };
+    ghost invariant = { λ v. HasCome v.bitcoin.now (option_copied v.litecoin) v.fed.bytes v.progress
+        × (reserved_by v.progress.following ≡ FOLLOWING_BYTES) };
 }
 
 impl<'a> Verifier<'a> {
@@ -57,6 +66,7 @@ impl<'a> Verifier<'a> {
           bitcoin = bitcoin.entry.now;
           litecoin = option_copied litecoin.entry;
           bytes = [];
+          reserved = VERIFIER_BYTES;
         }) }
     {
         Ok(Verifier {
@@ -72,6 +82,7 @@ impl<'a> Verifier<'a> {
         ensures bitcoin { self.new.bitcoin ≡ self.old.bitcoin }
         ensures litecoin { self.new.litecoin ≡ self.old.litecoin }
         ensures bytes { self.new.bytes ≡ self.old.bytes ++ piece.now }
+        ensures reserved { self.new.reserved ≡ self.old.reserved }
     {
         advance(&mut self.progress, piece, self.bitcoin, self.litecoin);
         self.fed = self.fed.and(piece);
@@ -91,9 +102,10 @@ impl<'a> Verifier<'a> {
     /// How many bytes of memory its buffers have: the same from `begin` on, for every file, and at most
     /// 1,060,000.
     pub fn reserved(&self) -> u64
-        ensures is { result ≡ VERIFIER_BYTES }
+        ensures is { result ≡ self.now.reserved }
+        ensures always { result ≡ VERIFIER_BYTES }
         ensures at_most { result ≤ 1060000 }
     {
-        VERIFIER_BYTES as u64
+        (self.progress.following.reserved() + MAX_HEADER) as u64
     }
 }

@@ -1,10 +1,10 @@
-//! Workers over one front and one book.
+//! Workers over one desk and one book.
 ghost use Rattle.std.specs.Prelude.{◌≡◌, ◌<◌, false};
 ghost use Rattle.std.specs.Thread.{IsSync};
 ghost use Rattle.ots_shared.specs.Records.{StartsWith};
 ghost use Rattle.ots_shared.specs.Told.{IsPassOf};
 
-use crate::front::Front;
+use crate::desk::{Desk, Server};
 use crate::worker::work;
 use ots_connection::Service;
 use ots_disk::Disk;
@@ -18,6 +18,7 @@ use std::thread::{Threads, join};
 /// here.
 #[expect(clippy::too_many_arguments)]
 pub(crate) fn crew<
+    S: Server + Send + Sync,
     D: Disk + Send,
     A: Accepter + Send,
     C: Clock + Send,
@@ -26,14 +27,15 @@ pub(crate) fn crew<
 >(
     rt: &R,
     alloc: Global,
-    desk: &Mutex<Front<A, C, N>>,
+    desk: &Mutex<Desk<S, A, C, N>>,
     shared: &Shared<D>,
     service: &Service,
     pass: Pass,
     most: Option<u64>,
     more: u32,
 ) -> Pass
-    requires own { IsPassOf shared.now pass }
+    requires book { shared.now ≡ S.book }
+    requires own { IsPassOf S.book pass }
     requires free { pass.holding ≡ false }
     requires enough { more < pass.seat.share }
     ensures seat { (result.seat ≡ pass.seat) × (result.holding ≡ false) }
@@ -47,11 +49,12 @@ pub(crate) fn crew<
     let (one, rest) = join(
         rt,
         || -> Pass
-            requires { IsPassOf shared.now one × (one.holding ≡ false) }
+            requires { (shared.now ≡ S.book) × IsPassOf S.book one × (one.holding ≡ false) }
             ensures { (result.seat ≡ one.seat) × (result.holding ≡ false) × StartsWith result.seen one.seen }
         { work(rt, alloc, desk, shared, service, one, most) },
         || -> Pass
-            requires { IsSync R.row × IsPassOf shared.now rest × (rest.holding ≡ false) × (fewer < rest.seat.share) }
+            requires { IsSync R.row × (shared.now ≡ S.book) × IsPassOf S.book rest × (rest.holding ≡ false)
+                × (fewer < rest.seat.share) }
             ensures { (result.seat ≡ rest.seat) × (result.holding ≡ false) × StartsWith result.seen rest.seen }
         { crew(rt, alloc, desk, shared, service, rest, most, fewer) },
     );

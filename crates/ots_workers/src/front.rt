@@ -89,6 +89,8 @@ impl<A: Accepter, C: Clock, N: Nonces> Front<A, C, N> {
     pub(crate) fn next(&mut self, most: Option<u64>) -> Option<Turn<A::Link>>
         ensures fresh { IfSome result (λ turn. IsFresh (A.Link.told turn.link) (A.Link.faults turn.link)) }
         ensures within { IfSome most (λ n. A.accepted self.old.accepter ≤ n → A.accepted self.new.accepter ≤ n) }
+        ensures returned { A.returned self.new.accepter ≡ A.returned self.old.accepter }
+        ensures short { self.new.short ≡ self.old.short }
         ensures over { IfNone result (IsOver self.new.failed (A.coming self.new.accepter) most
             (A.accepted self.new.accepter)) }
     {

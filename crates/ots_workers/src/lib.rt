@@ -14,6 +14,7 @@
 #![tactic(auto)]
 
 mod crew;
+mod desk;
 mod front;
 mod limits;
 mod serving;

@@ -1,19 +1,22 @@
 //! Serving with several workers.
-ghost use Rattle.std.specs.Prelude.{◌≡◌, ◌≢◌, ◌<◌, ◌≤◌, ◌⊎◌, true, false};
+ghost use Rattle.std.specs.Prelude.{◌≡◌, ◌≢◌, ◌+◌, ◌<◌, ◌≤◌, ◌⊎◌, true, false};
 ghost use Rattle.ots_shared.specs.Records.{StartsWith};
+ghost use Rattle.ots_shared.specs.Told.{IsPassOf};
 ghost use Rattle.ots_workers.specs.Over.{IsDone, IsOver};
-ghost use Rattle.ots_workers.specs.Returned.{AllAnswered};
+ghost use Rattle.ots_workers.specs.Returned.{AllAnswered, AllWithin, NoneReturned};
 ghost use Rattle.ots_workers.specs.declared.limits.TheConstants.{MAX_WORKERS};
 
 use crate::crew::crew;
+use crate::desk::{Desk, Server};
 use crate::front::Front;
 use crate::worker::work_alone;
 use ots_calendar::Book;
 use ots_connection::Service;
 use ots_disk::Disk;
 use ots_outside::{Accepter, Clock, Nonces};
-use ots_shared::{RefusedShared, Shared};
+use ots_shared::{Pass, RefusedShared, Shared};
 use std::alloc::Global;
+use std::marker::Brand;
 use std::sync::{Mutex, Wait};
 use std::thread::Threads;
 
@@ -42,6 +45,9 @@ pub struct Ended<D: Disk, A: Accepter, C: Clock, N: Nonces> {
 /// Serves connections with `workers` workers, 1 to 64, until no link is to come, `most` were accepted,
 /// or an accept failed. Each worker has a pass of its own, and the front is locked for each accept
 /// and each giving back. Where memory runs out in a connection, serving goes on.
+///
+/// Where serving is done, each link was answered by what the records of the book that is handed back begin with: so
+/// each commitment that was acknowledged is among them.
 pub fn serve_links<
     D: Disk + Send,
     A: Accepter + Send,
@@ -63,6 +69,8 @@ pub fn serve_links<
         (A.accepted result.front.accepter) }
     ensures answered { result.ending ≡ ServeEnd.Done → AllAnswered A.Link.told A.Link.faults
         (A.returned result.front.accepter) }
+    ensures within { NoneReturned (A.returned front.accepter) → result.ending ≡ ServeEnd.Done
+        → AllWithin result.book.store.records A.Link.told A.Link.faults (A.returned result.front.accepter) }
     ensures fault { result.ending ≡ ServeEnd.AcceptFault → A.faults result.front.accepter ≢ 0 }
     ensures count { result.count ≡ A.accepted result.front.accepter }
     ensures records { StartsWith result.book.store.records book.store.records }
@@ -72,17 +80,63 @@ pub fn serve_links<
     ensures over { IsOver result.front.failed (A.coming result.front.accepter) most (A.accepted result.front.accepter)
         ⊎ ((result.ending ≡ ServeEnd.OutOfMemory) × (result.front ≡ front) × (result.book ≡ book)) }
 {
-    match Shared::open(alloc, book, workers) {
+    match Shared::open(alloc, book, workers + 1) {
         Ok((shared, pass)) => {
-            let desk = Mutex::new(front);
-            let pass = crew(rt, alloc, &desk, &shared, service, pass, most, workers - 1);
-            let front = desk.into_inner();
-            let (front, pass) = work_alone(rt, alloc, front, &shared, service, pass, most);
+            let (front, pass) = serve_shared::<Brand, D, A, C, N, R>(
+                rt, alloc, service, front, &shared, pass, workers, most,
+            );
             let ending = ending_of(&front);
             end(ending, front, shared.close(pass))
         }
         Err(RefusedShared { book }) => end(ServeEnd::OutOfMemory, front, book),
     }
+}
+
+/// Serves connections with `workers` workers over a book that is shared. The pass that is handed back has seen all
+/// records by which links were answered.
+#[expect(clippy::too_many_arguments)]
+fn serve_shared<
+    S: Server + Send + Sync,
+    D: Disk + Send,
+    A: Accepter + Send,
+    C: Clock + Send,
+    N: Nonces + Send,
+    R: Threads + Wait + Sync,
+>(
+    rt: &R,
+    alloc: Global,
+    service: &Service,
+    front: Front<A, C, N>,
+    shared: &Shared<D>,
+    pass: Pass,
+    workers: u32,
+    most: Option<u64>,
+) -> (Front<A, C, N>, Pass)
+    requires book { shared.now ≡ S.book }
+    requires fresh { S.fresh → NoneReturned (A.returned front.accepter) }
+    requires own { IsPassOf S.book pass }
+    requires free { pass.holding ≡ false }
+    requires some { 0 < workers }
+    requires share { pass.seat.share ≡ workers + 1 }
+    ensures over { IsOver result.0.failed (A.coming result.0.accepter) most (A.accepted result.0.accepter) }
+    ensures own { IsPassOf S.book result.1 }
+    ensures share { result.1.seat.share ≡ pass.seat.share }
+    ensures free { result.1.holding ≡ false }
+    ensures seen { StartsWith result.1.seen pass.seen }
+    ensures within { S.fresh → result.0.short ≡ false
+        → AllWithin result.1.seen A.Link.told A.Link.faults (A.returned result.0.accepter) }
+{
+    let (own, pass) = shared.split(pass);
+    let desk: Mutex<Desk<S, A, C, N>> = Mutex::new(Desk::new(front, own));
+    let pass = crew(rt, alloc, &desk, shared, service, pass, most, workers - 1);
+    let desk = desk.into_inner();
+    let (desk, pass) = work_alone(rt, alloc, desk, shared, service, pass, most);
+    let Desk {
+        front,
+        pass: own,
+        server: _,
+    } = desk;
+    (front, shared.join(pass, own))
 }
 
 /// How serving ended, once it is over.

@@ -87,3 +87,24 @@ returns-in-Err-clause-crash g c = rw c.hand_back-in-Err.ensures (survives _ _ c.
 
 pub returns-in-Err-clause-stays : goal.returns-in-Err-clause-stays
 returns-in-Err-clause-stays g c = rw c.hand_back-in-Err.ensures (record { untouched = inl refl; unaccepted = inl refl; undrawn = inl refl; nonce_faults = inl (omega arith) })
+
+pub returns-in-Ok-Serve-clause-acknowledged : goal.returns-in-Ok-Serve-clause-acknowledged
+returns-in-Ok-Serve-clause-acknowledged g c = c.serve.ensures.acknowledged
+
+pub returns-in-Ok-Batch-clause-acknowledged : goal.returns-in-Ok-Batch-clause-acknowledged
+returns-in-Ok-Batch-clause-acknowledged g c = rw c.hand_back.ensures (inl refl)
+
+pub returns-in-Ok-Tip-clause-acknowledged : goal.returns-in-Ok-Tip-clause-acknowledged
+returns-in-Ok-Tip-clause-acknowledged g c = rw c.hand_back-in-Ok-Tip.ensures (inl refl)
+
+pub returns-in-Ok-Anchor-clause-acknowledged : goal.returns-in-Ok-Anchor-clause-acknowledged
+returns-in-Ok-Anchor-clause-acknowledged g c = rw c.hand_back-in-Ok-Anchor.ensures (inl refl)
+
+pub returns-in-Ok-List-clause-acknowledged : goal.returns-in-Ok-List-clause-acknowledged
+returns-in-Ok-List-clause-acknowledged g c = rw c.hand_back-in-Ok-List.ensures (inl refl)
+
+pub returns-in-Ok-Migrate-clause-acknowledged : goal.returns-in-Ok-Migrate-clause-acknowledged
+returns-in-Ok-Migrate-clause-acknowledged g c = rw c.hand_back-in-Ok-Migrate.ensures (inl refl)
+
+pub returns-in-Err-clause-acknowledged : goal.returns-in-Err-clause-acknowledged
+returns-in-Err-clause-acknowledged g c = rw c.hand_back-in-Err.ensures (inl refl)

@@ -2,7 +2,7 @@ use Rattle.std.proofs.Common.{subst}
 use Rattle.ots_calendar_words.specs.Words.{read_serving}
 use Rattle.ots_workers.specs.Over.{IsDone}
 use Rattle.ots_calendar_endings.proofs.Running.{rose_later}
-use Rattle.ots_calendar_serve.proofs.Serving.{nothing_more, served_ends, unheard_ends}
+use Rattle.ots_calendar_serve.proofs.Serving.{nothing_more, unheard_not_done, served_ends, unheard_ends}
 use Rattle.ots_calendar_serve.proofs.serve_command.serve_book.Goals as goal
 
 pub returns-in-Ok-clause-ends : goal.returns-in-Ok-clause-ends
@@ -17,3 +17,6 @@ returns-in-Err-clause-ends g c =
 
 pub returns-in-Err-clause-keeps : goal.returns-in-Err-clause-keeps
 returns-in-Err-clause-keeps g c = λ b image. nothing_more _ b (c.requires.stand b (subst (λ d. g.D.Disk.images d b) c.into_disk.ensures image))
+
+pub returns-in-Err-clause-acknowledged : goal.returns-in-Err-clause-acknowledged
+returns-in-Err-clause-acknowledged g c = λ done. absurd (unheard_not_done _ _ _ _ _ _ c.in-Err.ensures.listens done)

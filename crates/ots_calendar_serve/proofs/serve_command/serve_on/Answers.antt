@@ -39,3 +39,9 @@ returns-in-Err-clause-ends g c =
     (AllAnswered g.A.Link.Link.told g.A.Link.Link.faults (g.A.Accepter.returned c.args.accepter)) (g.A.Accepter.faults c.args.accepter ≢ 0)
     (Rose (g.K.Sink.faults c.args.out.now) (g.K.Sink.faults c.refuse-status.new.out)) (g.A.Accepter.accepted c.args.accepter) (read_serving c.args.asked)) _ _ _ _
     c.args.disk c.in-Err.closed.disk c.in-Err.closed.why c.in-Err.ensures.err c.refuse-status.ensures.printed
+
+pub returns-in-Ok-clause-acknowledged : goal.returns-in-Ok-clause-acknowledged
+returns-in-Ok-clause-acknowledged g c = inr c.serve_book.ensures.acknowledged
+
+pub returns-in-Err-clause-acknowledged : goal.returns-in-Err-clause-acknowledged
+returns-in-Err-clause-acknowledged g c = inl refl

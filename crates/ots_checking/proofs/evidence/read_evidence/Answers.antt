@@ -58,7 +58,7 @@ returns-clause-bounded g c = λ ran.
 pub returns-in-Ok-hash_target-clause-reads : goal.returns-in-Ok-hash_target-clause-reads
 returns-in-Ok-hash_target-clause-reads g c =
     let given = c.in-Ok-check_proof.ensures.reads.answer in
-    let check = checked_by c.in_ok-verifier.verifier c.in-Ok.bitcoin c.in-Ok-read_perhaps_headers.litecoin _ _ given.2.0 c.in-Ok-check_proof.checked c.in_ok-verifier.ensures c.as_ref.ensures.value given.2.2 in
+    let check = checked_by c.in_ok-verifier.verifier c.in-Ok.bitcoin c.in-Ok-read_perhaps_headers.litecoin _ _ _ given.2.0 c.in-Ok-check_proof.checked c.in_ok-verifier.ensures c.as_ref.ensures.value given.2.2 in
     let digest = c.in-Ok-hash_target.digest in
     then_input (λ told. VerifiesBy told (read_verification c.args.asked)) (a_table (read_verification c.args.asked).bitcoin) c.in-Ok.ensures
     (then_reads {part = λ told. VerifiesProof told (read_verification c.args.asked) c.in-Ok.bitcoin c.in-Ok-read_perhaps_headers.litecoin}

@@ -1,13 +1,16 @@
-use Rattle.std.proofs.Common.{◌≡◌, ◌≤◌, ◌⊎◌, length, sym, ap, ◌∙◌, arith}
+use Rattle.std.proofs.Common.{◌≡◌, ◌≤◌, length, sym, ap, ◌∙◌, arith}
+use Rattle.std.specs.Prelude.{MatchOption}
 use Rattle.ots_calendar.specs.Book.{BookTold}
 use Rattle.ots_shared.specs.Records.{StartsWith}
 use Rattle.ots_shared.specs.Rows.{row}
-use Rattle.ots_connection.specs.Stamping.{IsBusy, Settles}
+use Rattle.ots_connection.specs.Stamping.{Settles}
 use Rattle.ots_connection.proofs.Held.{one_hold}
+use Rattle.ots_connection.proofs.Told.{or_nothing}
 use Rattle.ots_connection.proofs.stamping.settle_held.Goals as goal
 
 pub returns-clause-settles : goal.returns-clause-settles
 returns-clause-settles g c =
+    let faults = g.D.Disk.faults in
     let h = c.hold-held.result in
     let left = c.settle-due.new.book in
     let goes = c.settle-due.ensures.goes in
@@ -17,11 +20,12 @@ returns-clause-settles g c =
     let more : StartsWith left.store.records h.book.store.records = rw (← c.book.ensures.value) goes.records in
     let fewer : length left.tickets.waiting ≤ length h.found.tickets.waiting = rw same goes.waiting in
     let t = c.args.ticket.now in
-    let settles : Settles t.leaf t.nonce c.args.service.now.key c.args.service.now.uri c.args.second c.args.shared.now.limit c.release.new.pass.seen (row g.D.Disk.faults h.found left) c.settle-due.result
-    ⊎ IsBusy (row g.D.Disk.faults h.found left) c.settle-due.result = rw (limit, c.release.ensures.seen, same) c.settle-due.ensures.settles in (
-      row g.D.Disk.faults h.found left,
-      one_hold g.D.Disk.faults c.args.pass.now c.hold-held.new.pass c.release.new.pass h left c.hold-held.ensures.rest c.hold-held.ensures.seat c.hold-held.ensures.seen
+    let settles : MatchOption c.settle-due.result (left ≡ h.found)
+    (Settles t.leaf t.nonce c.args.service.now.key c.args.service.now.uri c.args.second c.args.shared.now.limit c.release.new.pass.seen (row faults h.found left)) =
+    rw (limit, c.release.ensures.seen, same) c.settle-due.ensures.settles in (
+      row faults h.found left,
+      one_hold faults c.args.pass.now c.hold-held.new.pass c.release.new.pass h left c.hold-held.ensures.rest c.hold-held.ensures.seat c.hold-held.ensures.seen
           c.release.ensures.seat c.release.ensures.seen c.release.ensures.told c.release.ensures.holds c.release.ensures.made more (omega arith),
       fewer,
-      settles,
+      or_nothing faults h.found left _ c.settle-due.result settles,
     )

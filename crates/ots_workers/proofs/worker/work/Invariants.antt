@@ -1,5 +1,5 @@
 use Rattle.std.proofs.Common.{◌≡◌, true, false, IfSome}
-use Rattle.ots_connection.specs.Answered.{IsAnswered}
+use Rattle.ots_connection.specs.Answered.{IsAnsweredWithin}
 use Rattle.ots_shared.specs.Records.{StartsWith}
 use Rattle.ots_shared.specs.Told.{IsPassOf}
 use Rattle.ots_workers.proofs.worker.work.Given as goal
@@ -13,5 +13,5 @@ invariant-loop g l = record {
   own : IsPassOf l.shared l.pass;
   free : l.pass.holding ≡ false;
   seen : StartsWith l.pass.seen l.fn.pass.seen;
-  answered : IfSome l.last (λ last. last.1 ≡ true → IsAnswered (g.A.Link.Link.told last.0) (g.A.Link.Link.faults last.0));
+  answered : IfSome l.last (λ last. last.1 ≡ true → IsAnsweredWithin l.pass.seen (g.A.Link.Link.told last.0) (g.A.Link.Link.faults last.0));
 }
