@@ -1,8 +1,11 @@
 mod CarriedOnce
+mod FewFiles
 mod Hears
 mod OneAnswer
 mod OneHearing
 mod OneOpening
+mod OneRun
 mod Ran
 mod ReadsBack
+mod Shapes
 mod Taken

@@ -1,5 +1,5 @@
 -- What calendars are heard to say is determined where a dialer tells it and none of its calls fails.
-use Rattle.std.proofs.Common.{◌≡◌, ◌≢◌, ◌≤◌, ℕ, List, [], ◌∷◌, Option, Some, refl, ap, subst, ◌∙◌, drop, arith}
+use Rattle.std.proofs.Common.{◌≡◌, ◌≢◌, ◌≤◌, ℕ, List, [], ◌∷◌, Some, refl, ap, subst, ◌∙◌, drop, arith}
 use Rattle.std.specs.Prelude.{option_map}
 use Rattle.std.specs.List.{AllByRecursion}
 use Rattle.ots_base.specs.Cause.{Rose}

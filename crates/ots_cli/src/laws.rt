@@ -1,23 +1,24 @@
 //! What determines how a run ends.
-ghost use Rattle.std.specs.Prelude.{◌≡◌, ◌≢◌, ℕ, List, Option, Some};
+ghost use Rattle.std.specs.Prelude.{◌≡◌, ◌≢◌, ℕ, List, [], Option, Some};
 ghost use Rattle.std.specs.List.{AllByRecursion};
 ghost use Rattle.ots_base.specs.Cause.{Rose};
 ghost use Rattle.ots_cli.specs.Answer.{Answers};
+ghost use Rattle.ots_cli.specs.RunsFrom.{RunsFrom};
 ghost use Rattle.ots_client_endings.specs.CarriedOut.{CarriesOut};
 ghost use Rattle.ots_client_endings.specs.Ending.{Ending};
 ghost use Rattle.ots_client_endings.specs.InTurn.{OpensInTurn};
-ghost use Rattle.ots_client_endings.specs.Outside.{Outside};
+ghost use Rattle.ots_client_endings.specs.Outside.{Happens, Outside};
 ghost use Rattle.ots_client_inputs.specs.Inputs.{Input};
 ghost use Rattle.ots_client_text.specs.declared.status.Status.{Status};
 ghost use Rattle.ots_client_text.specs.declared.status.Status.TheVariants.{OutOfMemory};
-ghost use Rattle.ots_client_words.specs.Words.{ClientCommand};
-ghost use Rattle.ots_outside.specs.Dialer.{Sent};
+ghost use Rattle.ots_client_words.specs.Words.{ClientCommand, command_of};
+ghost use Rattle.ots_outside.specs.Dialer.{Connection, DialerTold, Sent};
 ghost use Rattle.ots_outside.specs.Shelf.{Names};
 ghost use Rattle.ots_reader.specs.OneAnswer.{IsShape};
 ghost use Rattle.ots_upgrade.specs.Conversation.{Converse, Question};
 ghost use Rattle.ots_upgrade.specs.declared.outcome.Outcome.{Outcome};
 
-use ots_outside::Dialer;
+use ots_outside::{Dialer, Nonces};
 use ots_upgrade::one_outcome;
 
 /// The words, the bytes under the names, the nonces that were drawn and the outcomes of the conversations that were had
@@ -49,3 +50,26 @@ pub fn one_hearing<D: Dialer>()
 {
     one_outcome();
 }
+
+/// The words, the bytes under the names, the replies to come and the bytes to come of nonces determine how a run ends,
+/// where these are told and no call of the dialer or of the source of nonces fails. So two runs end alike, whatever
+/// dialer and source each begins with and leaves. Clause `carried` of [`one_answer`] says what an ending comes to.
+pub fn one_run<D: Dialer, N: Nonces>()
+    ensures { (words : List (List ℕ)) (names : Names) (replies : List (List ℕ)) (bytes : List ℕ)
+        (old new other last : D) (before now again later : N) (d e : Ending)
+        → RunsFrom D.told D.faults N.left N.faults replies bytes old new before now
+        → RunsFrom D.told D.faults N.left N.faults replies bytes other last again later
+        → Answers (Happens D.told D.faults N.left N.faults old new before now) (command_of words) (Some names) d
+        → Answers (Happens D.told D.faults N.left N.faults other last again later) (command_of words) (Some names) e
+        → d ≡ e }
+{
+    one_outcome();
+}
+
+/// What [`one_run`] supposes of the outside can be met: by a dialer and a source of nonces that tell all that they have
+/// and count no fault.
+pub fn a_run()
+    ensures { (replies : List (List ℕ)) (slots : ℕ → Connection) (bytes later : List ℕ) (now : DialerTold)
+        → RunsFrom (λ (told : DialerTold). told) (λ told. 0) (λ (left : List ℕ). Some left) (λ left. 0) replies bytes
+        (record { replies = Some replies; sent = Some []; slots = slots }) now bytes later }
+{}

@@ -1,3 +1,4 @@
 mod Cycle
 mod Standing
 mod Confirmed
+mod Asked

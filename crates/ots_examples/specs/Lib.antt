@@ -1,3 +1,4 @@
 pub mod OneRound
 pub mod OnDisk
 pub mod OneHeader
+pub mod NotFound

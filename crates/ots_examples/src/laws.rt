@@ -1,12 +1,15 @@
-//! A calendar of one round, whose records, trees and journal are all given.
-ghost use Rattle.std.specs.Prelude.{◌≡◌, ◌≤◌, ◌++◌, ◌∷◌, ℕ, List, [], Some, Contains, length, map, slice_get};
+//! A calendar of one round, whose records, trees and journal are all given, and conversations with calendars.
+ghost use Rattle.std.specs.Prelude.{◌≡◌, ◌≢◌, ◌≤◌, ◌++◌, ◌∷◌, ℕ, List, [], Some, Contains, length, map, slice_get};
+ghost use Rattle.std.specs.List.{AllByRecursion};
 ghost use Rattle.ots_attest.specs.Uri.{IsUri};
+ghost use Rattle.ots_base.specs.Cause.{Rose};
 ghost use Rattle.ots_calendar.specs.Answer.{answer};
 ghost use Rattle.ots_calendar.specs.Book.{Gives};
 ghost use Rattle.ots_calendar.specs.Cycle.{IsCycle};
 ghost use Rattle.ots_calendar.specs.Values.{AreTrue};
 ghost use Rattle.ots_calendar.specs.declared.answer.Answer.TheVariants.{Complete, Pending};
 ghost use Rattle.ots_cycle.specs.Whole.{whole_path};
+ghost use Rattle.ots_examples.specs.NotFound.{after, before, outcomes};
 ghost use Rattle.ots_examples.specs.OnDisk.{image, opened};
 ghost use Rattle.ots_examples.specs.OneHeader.{table};
 ghost use Rattle.ots_examples.specs.OneRound.{OneRound, Fits, anchor, closed, commit, completed, entries, later, over};
@@ -17,6 +20,8 @@ ghost use Rattle.ots_journal.specs.Image.{Stands};
 ghost use Rattle.ots_journal.specs.declared.entry.Entry.{Entry};
 ghost use Rattle.ots_merkle.specs.BlockTree.{block_root};
 ghost use Rattle.ots_merkle.specs.CalendarTree.{root};
+ghost use Rattle.ots_outside.specs.Dialer.{DialerTold, Sent};
+ghost use Rattle.ots_reader.specs.OneAnswer.{IsShape};
 ghost use Rattle.ots_round.specs.Round.{round_commitment};
 ghost use Rattle.ots_store.specs.Order.{InOrder, commits_of, records_of};
 ghost use Rattle.ots_store.specs.Records.{CommitRecord, Record, entry_of};
@@ -24,7 +29,9 @@ ghost use Rattle.ots_store.specs.Store.{InRecords};
 ghost use Rattle.ots_tree.specs.Wire.{Node, paths, pre};
 ghost use Rattle.ots_tree.specs.declared.detached.Detached.{Detached};
 ghost use Rattle.ots_tree.specs.declared.token.Token.{Token};
+ghost use Rattle.ots_upgrade.specs.Conversation.{Converse, Question};
 ghost use Rattle.ots_upgrade.specs.Stamped.{leaves};
+ghost use Rattle.ots_upgrade.specs.declared.outcome.Outcome.{Outcome};
 ghost use Rattle.ots_upgrade.specs.declared.target.Target.{Target};
 ghost use Rattle.ots_verdicts.specs.Confirmed.{IsConfirmed};
 ghost use Rattle.ots_verdicts.specs.declared.verdicts.Chain.TheVariants as chain;
@@ -93,3 +100,17 @@ pub fn a_proof_of_it()
 {
     a_cycle_is_confirmed();
 }
+
+/// Calendars are asked one after the other, and each replies that it has nothing, with status 404. So each conversation
+/// is had, whatever is asked. The dialer is what it tells, and no call of it fails. That meets what `one_hearing` of
+/// `ots_cli` supposes, with something asked: below a message of 1 to 4096 bytes and at most 255 operations, where what
+/// was sent and the replies to come are told.
+pub fn a_hearing()
+    ensures had { (questions : List Question) → Converse (λ (told : DialerTold). told) (λ told. 0) questions
+        (before questions) (after questions) (outcomes questions) }
+    ensures met { (questions : List Question) × (old : DialerTold) × (new : DialerTold) × (heard : List Outcome)
+        × (sent : List Sent) × (replies : List (List ℕ)) × (questions ≢ [])
+        × AllByRecursion (λ (q : Question). IsShape q.length q.depth) questions × (old.sent ≡ Some sent)
+        × (old.replies ≡ Some replies) × (¬ Rose 0 0)
+        × Converse (λ (told : DialerTold). told) (λ told. 0) questions old new heard }
+{}

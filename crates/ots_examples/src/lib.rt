@@ -3,4 +3,4 @@
 
 mod laws;
 
-pub use laws::{a_cycle, a_proof_of_it, an_image_of_them};
+pub use laws::{a_cycle, a_hearing, a_proof_of_it, an_image_of_them};
