@@ -3,10 +3,10 @@
 //! this body holds of the other too.
 #![tactic(auto)]
 
+use ots_calendar_commands::{DaemonStatus, run_calendar};
 use ots_file::{FileDisk, SystemFile};
 use ots_io::{DirShelf, RngNonces, StdSink, SystemClock, TcpAccepter};
 use ots_program_words::{first_word, read_words};
-use ots_server::{DaemonStatus, run_calendar};
 use ots_standard_streams::StandardStreams;
 use rand::rngs::SysRng;
 use std::alloc::{AllocError, Global};

@@ -18,13 +18,13 @@ use Rattle.ots_detached.proofs.BothWays.{file_size, same_detached}
 use Rattle.ots_outside.specs.Shelf.{Names}
 use Rattle.ots_outside.specs.Streams.{Takes}
 use Rattle.ots_outside.specs.Written.{with_name}
+use Rattle.ots_stamp.specs.Stamped.{IsStampOf, leaves, to_root}
+use Rattle.ots_stamp.specs.declared.target.Target.{Target}
 use Rattle.ots_tree.proofs.Determined.{same_pre}
 use Rattle.ots_tree.specs.Made.{after}
 use Rattle.ots_tree.specs.Wire.{Node, Path, paths, pre}
 use Rattle.ots_tree.specs.declared.detached.Detached.{Detached}
 use Rattle.ots_tree.specs.declared.token.Token.{Token}
-use Rattle.ots_upgrade.specs.Stamped.{IsStampOf, leaves, to_root}
-use Rattle.ots_upgrade.specs.declared.target.Target.{Target}
 
 -- ---- the proof of a file is the only one
 

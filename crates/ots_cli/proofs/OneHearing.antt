@@ -2,14 +2,14 @@
 use Rattle.std.proofs.Common.{◌≡◌, ◌≢◌, ◌≤◌, ℕ, List, [], ◌∷◌, Some, refl, ap, subst, ◌∙◌, drop, arith}
 use Rattle.std.specs.Prelude.{option_map}
 use Rattle.std.specs.List.{AllByRecursion}
+use Rattle.ots_asking.specs.Conversation.{Converse, Converses, Question}
+use Rattle.ots_asking.specs.Outcome.{IsOutcomeOf}
+use Rattle.ots_asking.specs.declared.outcome.Outcome.{Outcome}
+use Rattle.ots_asking.specs.declared.outcome.Outcome.TheVariants.{Unreachable}
 use Rattle.ots_base.specs.Cause.{Rose}
 use Rattle.ots_conversation.specs.Conversation.{WhereTold}
 use Rattle.ots_outside.specs.Dialer.{DialerTold, Sent, next_reply}
 use Rattle.ots_reader.specs.OneAnswer.{IsShape}
-use Rattle.ots_upgrade.specs.Conversation.{Converse, Converses, Question}
-use Rattle.ots_upgrade.specs.Outcome.{IsOutcomeOf}
-use Rattle.ots_upgrade.specs.declared.outcome.Outcome.{Outcome}
-use Rattle.ots_upgrade.specs.declared.outcome.Outcome.TheVariants.{Unreachable}
 
 -- What is told of a dialer that tells what was sent, and these replies.
 pub record Tells (told : DialerTold) (replies : List (List ℕ)) : Type 0 where

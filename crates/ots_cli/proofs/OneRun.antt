@@ -3,6 +3,10 @@ use Rattle.std.proofs.Common.{◌≡◌, ◌≢◌, ◌≤◌, ℕ, zero, suc, L
 use Rattle.std.proofs.lemmas.List.{drop_at, length-map, take_at}
 use Rattle.ots_address.proofs.OneLemmas.{one_list}
 use Rattle.ots_address.specs.Address.{AddressParts}
+use Rattle.ots_asking.specs.Conversation.{Converse, Question}
+use Rattle.ots_asking.specs.Outcome.{IsOutcomeOf}
+use Rattle.ots_asking.specs.declared.outcome.Outcome.{Outcome}
+use Rattle.ots_asking.specs.declared.outcome.Outcome.TheVariants.{Unreachable}
 use Rattle.ots_base.specs.Cause.{Rose}
 use Rattle.ots_cli.proofs.FewFiles.{FewFiles, few_files}
 use Rattle.ots_cli.proofs.OneAnswer.{one_answer}
@@ -28,20 +32,16 @@ use Rattle.ots_outside.specs.Dialer.{DialerTold}
 use Rattle.ots_outside.specs.Shelf.{Names}
 use Rattle.ots_outside.specs.Streams.{Gives}
 use Rattle.ots_reader.specs.OneAnswer.{IsShape}
+use Rattle.ots_stamp.specs.Stamped.{leaves}
+use Rattle.ots_stamp.specs.Stamping.{to_stamp}
+use Rattle.ots_stamp.specs.Ways.{IsDepth}
+use Rattle.ots_stamp.specs.declared.target.Target.{Target}
 use Rattle.ots_stamping.proofs.OneAnswer.{stamps}
 use Rattle.ots_stamping.specs.Hashing.{AreHashed, are_hashed, one_refused}
 use Rattle.ots_stamping.specs.Stamp.{AreStampTargets, Stamps, StampsFiles, no_nonce, stamped, too_few}
 use Rattle.ots_tree.specs.declared.detached.Detached.{Detached}
 use Rattle.ots_upgrade.proofs.OneList.{one_list as one_pairs}
-use Rattle.ots_upgrade.specs.Conversation.{Converse, Question}
-use Rattle.ots_upgrade.specs.Outcome.{IsOutcomeOf}
-use Rattle.ots_upgrade.specs.Stamped.{leaves}
-use Rattle.ots_upgrade.specs.Stamping.{to_stamp}
 use Rattle.ots_upgrade.specs.Upgrading.{questions}
-use Rattle.ots_upgrade.specs.Ways.{IsDepth}
-use Rattle.ots_upgrade.specs.declared.outcome.Outcome.{Outcome}
-use Rattle.ots_upgrade.specs.declared.outcome.Outcome.TheVariants.{Unreachable}
-use Rattle.ots_upgrade.specs.declared.target.Target.{Target}
 
 -- ---- nonces are drawn of the bytes to come
 

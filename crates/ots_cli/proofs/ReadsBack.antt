@@ -32,13 +32,13 @@ use Rattle.ots_inputs.specs.Opened.{StopsAt}
 use Rattle.ots_ops.specs.declared.hash_op.HashOp.{HashOp}
 use Rattle.ots_outside.specs.Shelf.{Names}
 use Rattle.ots_rewriting.specs.Merged.{Merges, differ, joined}
+use Rattle.ots_stamp.specs.Stamped.{good_trees}
+use Rattle.ots_stamp.specs.declared.target.Target.{Target}
 use Rattle.ots_stamping.specs.Hashing.{are_hashed, one_refused}
 use Rattle.ots_stamping.specs.Stamp.{Stamps, calendars_text, no_nonce, stamp_acts, stamped, too_few}
 use Rattle.ots_tree.specs.declared.detached.Detached.{Detached}
 use Rattle.ots_tree.specs.declared.token.Token.{Token}
-use Rattle.ots_upgrade.specs.Stamped.{good_trees}
 use Rattle.ots_upgrade.specs.declared.asking.AskedAt.{AskedAt}
-use Rattle.ots_upgrade.specs.declared.target.Target.{Target}
 
 -- ---- the proofs of stamped files
 

@@ -6,6 +6,7 @@ use Rattle.std.proofs.lemmas.Bool.{leb-true}
 use Rattle.std.proofs.lemmas.List.{length-map}
 use Rattle.std.proofs.lemmas.List.Elements.{All-filter, All-from_recursion, recursion_from_All}
 use Rattle.ots_address.specs.Address.{AddressParts}
+use Rattle.ots_asking.specs.Conversation.{Question}
 use Rattle.ots_attest.specs.declared.attestation.Attestation.{Attestation}
 use Rattle.ots_attest.specs.declared.attestation.Attestation.TheVariants as attestation
 use Rattle.ots_base.specs.declared.limits.TheConstants.{MAX_MESSAGE}
@@ -24,6 +25,10 @@ use Rattle.ots_ops.specs.declared.op.Op.{Op}
 use Rattle.ots_ops.specs.declared.op.Op.TheVariants as op
 use Rattle.ots_pending.specs.Pairs.{ArePairs, Pair, PairAt, asked_by, at_depth, deepest, is_same, once}
 use Rattle.ots_reader.specs.OneAnswer.{IsShape}
+use Rattle.ots_stamp.specs.Stamped.{leaf, leaves}
+use Rattle.ots_stamp.specs.Stamping.{to_stamp}
+use Rattle.ots_stamp.specs.Ways.{IsDepth}
+use Rattle.ots_stamp.specs.declared.target.Target.{Target}
 use Rattle.ots_tree.proofs.Closing.{all-append}
 use Rattle.ots_tree.proofs.Determined.{same_pre}
 use Rattle.ots_tree.specs.Pending.{asked, pending_from}
@@ -31,12 +36,7 @@ use Rattle.ots_tree.specs.Sound.{IsSound, IsSoundPath}
 use Rattle.ots_tree.specs.Wire.{Node, Path, paths}
 use Rattle.ots_tree.specs.declared.detached.Detached.{Detached}
 use Rattle.ots_tree.specs.declared.pending.PendingAt.{PendingAt}
-use Rattle.ots_upgrade.specs.Conversation.{Question}
-use Rattle.ots_upgrade.specs.Stamped.{leaf, leaves}
-use Rattle.ots_upgrade.specs.Stamping.{to_stamp}
 use Rattle.ots_upgrade.specs.Upgrading.{address_of, questions, to_get}
-use Rattle.ots_upgrade.specs.Ways.{IsDepth}
-use Rattle.ots_upgrade.specs.declared.target.Target.{Target}
 
 abbrev pub AreShaped : List Question → Type 0
 AreShaped = AllByRecursion (λ (q : Question). IsShape q.length q.depth)

@@ -16,11 +16,11 @@ use Rattle.ots_inputs.specs.Under.{HasUnder}
 use Rattle.ots_outside.specs.Shelf.{Names}
 use Rattle.ots_rewriting.specs.Rewritten.{IsRewritten}
 use Rattle.ots_rewriting.specs.declared.rewriting.Rewriting.TheVariants.{Canon, Prune}
+use Rattle.ots_stamp.specs.Stamped.{good_trees}
+use Rattle.ots_stamp.specs.declared.target.Target.{Target}
 use Rattle.ots_stamping.specs.Hashing.{AreHashed}
 use Rattle.ots_stamping.specs.Stamp.{AreStampTargets}
 use Rattle.ots_tree.specs.declared.detached.Detached.{Detached}
-use Rattle.ots_upgrade.specs.Stamped.{good_trees}
-use Rattle.ots_upgrade.specs.declared.target.Target.{Target}
 
 -- the names that a command writes
 abbrev pub IsOutput : ClientCommand → List ℕ → Type 0

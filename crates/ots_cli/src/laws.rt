@@ -1,6 +1,8 @@
 //! What determines how a run ends.
 ghost use Rattle.std.specs.Prelude.{◌≡◌, ◌≢◌, ℕ, List, [], Option, Some};
 ghost use Rattle.std.specs.List.{AllByRecursion};
+ghost use Rattle.ots_asking.specs.Conversation.{Converse, Question};
+ghost use Rattle.ots_asking.specs.declared.outcome.Outcome.{Outcome};
 ghost use Rattle.ots_base.specs.Cause.{Rose};
 ghost use Rattle.ots_cli.specs.Answer.{Answers};
 ghost use Rattle.ots_cli.specs.RunsFrom.{RunsFrom};
@@ -15,11 +17,9 @@ ghost use Rattle.ots_client_words.specs.Words.{ClientCommand, command_of};
 ghost use Rattle.ots_outside.specs.Dialer.{Connection, DialerTold, Sent};
 ghost use Rattle.ots_outside.specs.Shelf.{Names};
 ghost use Rattle.ots_reader.specs.OneAnswer.{IsShape};
-ghost use Rattle.ots_upgrade.specs.Conversation.{Converse, Question};
-ghost use Rattle.ots_upgrade.specs.declared.outcome.Outcome.{Outcome};
 
+use ots_asking::one_outcome;
 use ots_outside::{Dialer, Nonces};
-use ots_upgrade::one_outcome;
 
 /// The words, the bytes under the names, the nonces that were drawn and the outcomes of the conversations that were had
 /// determine how a run ends. And an ending is carried out in one way where nothing of the outside fails: what is under

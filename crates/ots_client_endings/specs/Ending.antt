@@ -2,8 +2,8 @@
 use Rattle.std.specs.Prelude.{◌≡◌, ℕ, List, [], ◌∷◌, slice_get, Some}
 use Rattle.ots_tree.specs.declared.detached.Detached.{Detached}
 use Rattle.ots_tree.specs.declared.token.Token.{Token}
-use Rattle.ots_upgrade.specs.Stamped.{IsStampOf}
-use Rattle.ots_upgrade.specs.declared.target.Target.{Target}
+use Rattle.ots_stamp.specs.Stamped.{IsStampOf}
+use Rattle.ots_stamp.specs.declared.target.Target.{Target}
 use Rattle.ots_client_text.specs.declared.status.Status.{Status}
 use Rattle.ots_client_text.specs.Refusal.{refusal_text}
 

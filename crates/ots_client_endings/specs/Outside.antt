@@ -1,10 +1,10 @@
 -- What happens outside of a run: the nonces that it draws, and what it hears of calendars.
 use Rattle.std.specs.Prelude.{◌≡◌, ◌≤◌, ℕ, List, [], ◌∷◌, length, Option, Some, None}
+use Rattle.ots_asking.specs.Conversation.{Converse, Question}
+use Rattle.ots_asking.specs.declared.outcome.Outcome.{Outcome}
 use Rattle.ots_base.specs.Cause.{Rose}
 use Rattle.ots_outside.specs.Dialer.{DialerTold}
 use Rattle.ots_outside.specs.Streams.{Gives}
-use Rattle.ots_upgrade.specs.Conversation.{Converse, Question}
-use Rattle.ots_upgrade.specs.declared.outcome.Outcome.{Outcome}
 
 -- ---- nonces
 

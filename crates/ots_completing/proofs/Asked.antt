@@ -3,6 +3,8 @@ use Rattle.std.proofs.Common.{◌≡◌, ◌<◌, inr, ℕ, List, [], ◌∷◌,
 use Rattle.std.proofs.lemmas.List.{length-append}
 use Rattle.ots_address.specs.Address.{AddressParts}
 use Rattle.ots_address.specs.AddressList.{IsListOf}
+use Rattle.ots_asking.specs.Conversation.{Converse, ConverseUpTo, Question}
+use Rattle.ots_asking.specs.declared.outcome.Outcome.{Outcome}
 use Rattle.ots_base.specs.declared.limits.TheConstants.{MAX_PROOF_FILE}
 use Rattle.ots_client_endings.specs.Ending.{Ending}
 use Rattle.ots_client_endings.specs.Outside.{Hears, alone}
@@ -16,10 +18,8 @@ use Rattle.ots_outside.specs.Dialer.{DialerTold}
 use Rattle.ots_outside.specs.Shelf.{Names}
 use Rattle.ots_tree.specs.Wire.{spelled}
 use Rattle.ots_tree.specs.declared.detached.Detached.{Detached}
-use Rattle.ots_upgrade.specs.Conversation.{Converse, ConverseUpTo, Question}
 use Rattle.ots_upgrade.specs.Upgrading.{UpgradesUpTo, UpgradesWithin, outcomes, questions}
 use Rattle.ots_upgrade.specs.declared.asking.AskedAt.{AskedAt}
-use Rattle.ots_upgrade.specs.declared.outcome.Outcome.{Outcome}
 use Rattle.ots_upgrade.specs.declared.upgrading.UpgradedWithin.{UpgradedWithin}
 
 module _ {D : Type 0} (told : D → DialerTold) (faults : D → ℕ) where

@@ -1,4 +1,5 @@
 mod Asked
+mod AskedLines
 pub mod Concluded
 mod Example
 pub mod OneAnswer

@@ -26,7 +26,7 @@ use Rattle.ots_tree.specs.declared.token.Token.{Token}
 use Rattle.ots_upgrade.proofs.OneList.{one_list as one_pairs}
 use Rattle.ots_upgrade.specs.Upgrading.{AreAskedPairs, outcomes, trees_of}
 use Rattle.ots_upgrade.specs.declared.asking.AskedAt.{AskedAt}
-use Rattle.ots_upgrade.specs.declared.outcome.Outcome.{Outcome}
+use Rattle.ots_asking.specs.declared.outcome.Outcome.{Outcome}
 
 -- ---- what was asked
 

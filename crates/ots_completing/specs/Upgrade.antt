@@ -14,7 +14,7 @@ use Rattle.ots_client_text.specs.Status.{complete_status}
 use Rattle.ots_client_text.specs.declared.status.Status.TheVariants.{TooBig}
 use Rattle.ots_client_words.specs.Words.{Upgrading}
 use Rattle.ots_detached.specs.File.{IsFileOf, file_of}
-use Rattle.ots_lines.specs.Lines.{asked_line}
+use Rattle.ots_lines.specs.Lines.{uri_line}
 use Rattle.ots_outside.specs.Shelf.{Names}
 use Rattle.ots_pending.specs.Bitcoin.{HasBitcoin}
 use Rattle.ots_pending.specs.Completed.{IsCompleted}
@@ -26,6 +26,10 @@ use Rattle.ots_upgrade.specs.declared.asking.AskedAt.{AskedAt}
 -- what is read, in order
 abbrev pub inputs_upgraded : Upgrading → List Input
 inputs_upgraded u = calendars_of u.calendars ∷ proof_under u.proof ∷ []
+
+-- the line of a pair: its URI, and what came of asking for it
+abbrev pub asked_line : AskedAt → List ℕ
+asked_line a = uri_line a.uri a.outcome
 
 -- a line for each pair that a proof asks for
 abbrev pub asked_text : List AskedAt → List ℕ

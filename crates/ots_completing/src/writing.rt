@@ -12,11 +12,11 @@ ghost use Rattle.ots_outputs.specs.Printed.{SinkStays};
 ghost use Rattle.ots_tree.specs.declared.detached.Detached.{Detached};
 ghost use Rattle.ots_upgrade.specs.Upgrading.{IsProofWithin};
 
+use crate::lines::put_asked;
 use ots_base::MAX_PROOF_FILE;
 use ots_client_endings::{is_too_long, make_proof, print, refuse, refuse_after};
 use ots_client_text::{Status, complete_status, put_complete};
 use ots_detached::written_file;
-use ots_lines::put_asked;
 use ots_outputs::{OutputError, PrintedText, print_whole};
 use ots_outside::{Failed, Shelf, Sink};
 use ots_pending::has_bitcoin;

@@ -1,25 +1,23 @@
 -- Where the whole way of a file leads, and how long it is.
-use Rattle.std.proofs.Common.{◌≡◌, ℕ, ◌+◌, ◌*◌, ◌<◌, ◌≤◌, ◌^◌, List, [], ◌∷◌, ◌++◌, length, get_or, Option, Some, None, refl, sym, ap, subst, ◌∙◌, arith, length-append}
+use Rattle.std.proofs.Common.{◌≡◌, ℕ, ◌≤◌, ◌^◌, List, [], ◌∷◌, ◌++◌, length, get_or, Some, refl, sym, ap, ◌∙◌, arith, length-append}
 use Rattle.std.specs.Prelude.{Contains, option_and_then, slice_get}
 use Rattle.std.proofs.lemmas.List.{get_or-map, length-map}
 use Rattle.std.proofs.lemmas.Option.{get_or_from_slice_get, slice_get_within}
-use Rattle.sha2.specs.Sha256.{sha256}
 use Rattle.ots_calendar.specs.Cycle.{IsCycle}
 use Rattle.ots_cycle.specs.Whole.{whole_path}
 use Rattle.ots_headers.specs.HeaderTable.{Table, root_at}
 use Rattle.ots_merkle.specs.CalendarTree.{path, root}
 use Rattle.ots_merkle.proofs.PathLaws.{path_leads, path_short}
 use Rattle.ots_ops.specs.Value.{value}
-use Rattle.ots_ops.specs.declared.op.Op.{Op}
 use Rattle.ots_ops.specs.declared.op.Op.TheVariants.{Append, Sha256}
 use Rattle.ots_round.proofs.Leading.{hash_of, appended, value_then, one_more}
+use Rattle.ots_stamp.specs.Stamped.{leaf, leaves, to_root}
+use Rattle.ots_stamp.specs.declared.target.Target.{Target}
+use Rattle.ots_stamp.proofs.Founded.{are_hashes}
 use Rattle.ots_store.specs.Records.{Record}
 use Rattle.ots_tree.specs.Wire.{Node, paths, pre}
 use Rattle.ots_tree.specs.declared.detached.Detached.{Detached}
 use Rattle.ots_tree.specs.declared.token.Token.{Token}
-use Rattle.ots_upgrade.specs.Stamped.{leaf, leaves, to_root}
-use Rattle.ots_upgrade.specs.declared.target.Target.{Target}
-use Rattle.ots_upgrade.proofs.Founded.{are_hashes}
 use Rattle.ots_verdicts.specs.Confirmed.{IsConfirmed}
 use Rattle.ots_verdicts.specs.declared.verdicts.Chain.TheVariants as chain
 

@@ -3,11 +3,11 @@ use Rattle.std.specs.Prelude.{ℕ, List, ◌++◌}
 use Rattle.ots_attest.specs.declared.attestation.Attestation.TheVariants.{Bitcoin}
 use Rattle.ots_calendar.specs.Cycle.{IsCycle}
 use Rattle.ots_merkle.specs.CalendarTree.{root}
+use Rattle.ots_stamp.specs.Stamped.{leaves, to_root}
+use Rattle.ots_stamp.specs.declared.target.Target.{Target}
 use Rattle.ots_store.specs.Records.{Record}
 use Rattle.ots_tree.specs.Wire.{Path}
 use Rattle.ots_tree.specs.declared.token.Token.{Token}
-use Rattle.ots_upgrade.specs.Stamped.{leaves, to_root}
-use Rattle.ots_upgrade.specs.declared.target.Target.{Target}
 
 -- From the digest of the i-th file to the root over all that were stamped with it, from there to the calendar's
 -- commitment, and from there to the root of a block's transactions.

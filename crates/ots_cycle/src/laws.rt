@@ -5,12 +5,12 @@ ghost use Rattle.ots_cycle.specs.Whole.{whole_path};
 ghost use Rattle.ots_headers.specs.HeaderTable.{Table, root_at};
 ghost use Rattle.ots_merkle.specs.CalendarTree.{root};
 ghost use Rattle.ots_ops.specs.Value.{value};
+ghost use Rattle.ots_stamp.specs.Stamped.{leaves};
+ghost use Rattle.ots_stamp.specs.declared.target.Target.{Target};
 ghost use Rattle.ots_store.specs.Records.{Record};
 ghost use Rattle.ots_tree.specs.Wire.{Node, paths, pre};
 ghost use Rattle.ots_tree.specs.declared.detached.Detached.{Detached};
 ghost use Rattle.ots_tree.specs.declared.token.Token.{Token};
-ghost use Rattle.ots_upgrade.specs.Stamped.{leaves};
-ghost use Rattle.ots_upgrade.specs.declared.target.Target.{Target};
 ghost use Rattle.ots_verdicts.specs.Confirmed.{IsConfirmed};
 ghost use Rattle.ots_verdicts.specs.declared.verdicts.Chain.TheVariants as chain;
 

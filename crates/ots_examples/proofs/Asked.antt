@@ -4,13 +4,13 @@ use Rattle.std.proofs.lemmas.List.Elements.{All-from_recursion}
 use Rattle.httparse.specs.Grammar.{ReadsResponse, ResponseHead, crlf, is_value_byte, print_response}
 use Rattle.std.specs.Char.{is_ascii_digit}
 use Rattle.std.specs.Prelude.{IsTrue}
+use Rattle.ots_asking.specs.Conversation.{Converse, Converses, Question, query_of}
+use Rattle.ots_asking.specs.Outcome.{IsOutcomeOf}
+use Rattle.ots_asking.specs.declared.outcome.Outcome.TheVariants.{Status}
 use Rattle.ots_conversation.specs.Conversation.{request_of, sent_to}
 use Rattle.ots_examples.specs.NotFound.{after, before, idle, outcomes, reply, sent_for}
 use Rattle.ots_http.specs.ReplyTable.{IsOutcome, by_head, status}
 use Rattle.ots_outside.specs.Dialer.{DialerTold, Sent}
-use Rattle.ots_upgrade.specs.Conversation.{Converse, Converses, Question, query_of}
-use Rattle.ots_upgrade.specs.Outcome.{IsOutcomeOf}
-use Rattle.ots_upgrade.specs.declared.outcome.Outcome.TheVariants.{Status}
 
 head : ResponseHead
 head = record { blank = []; minor = 1; digits = codes "404"; reason = Some (codes "Not Found"); line_end = crlf; fields = []; last = crlf }

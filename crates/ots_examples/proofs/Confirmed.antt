@@ -13,6 +13,8 @@ use Rattle.ots_headers.specs.HeaderTable.{IsTable, root_at}
 use Rattle.ots_ops.specs.Value.{value}
 use Rattle.ots_ops.specs.declared.hash_op.HashOp.TheVariants as hash
 use Rattle.ots_ops.proofs.AppliedLength.{length_of_applied}
+use Rattle.ots_stamp.specs.declared.target.Target.{Target}
+use Rattle.ots_stamp.proofs.Founded.{lengths}
 use Rattle.ots_store.specs.Order.{anchors_of, covers, records_of}
 use Rattle.ots_store.specs.Records.{Record}
 use Rattle.ots_store.specs.declared.anchor.Anchor.{Anchor}
@@ -22,8 +24,6 @@ use Rattle.ots_tree.specs.Wire.{Node, Path, paths, pre}
 use Rattle.ots_tree.specs.declared.detached.Detached.{Detached}
 use Rattle.ots_tree.specs.declared.token.Token.{Token}
 use Rattle.ots_tree.proofs.MadePaths.{paths-lone, sound_lone}
-use Rattle.ots_upgrade.specs.declared.target.Target.{Target}
-use Rattle.ots_upgrade.proofs.Founded.{lengths}
 
 -- ---- a proof of this path alone
 

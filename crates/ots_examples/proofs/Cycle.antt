@@ -25,6 +25,9 @@ use Rattle.ots_ops.specs.declared.op.Op.TheVariants.{Append, Prepend, Sha256}
 use Rattle.ots_round.specs.Hmac.{filled, hmac_sha256, masked}
 use Rattle.ots_round.specs.Round.{leaf, mac, round_commitment, signed, commitment}
 use Rattle.ots_round.proofs.Leading.{length_root, mac_part, way_leads}
+use Rattle.ots_stamp.specs.Stamped.{leaves}
+use Rattle.ots_stamp.specs.declared.target.Target.{Target}
+use Rattle.ots_stamp.proofs.Founded.{are_hashes}
 use Rattle.ots_store.specs.Index.{least}
 use Rattle.ots_store.specs.Order.{commits_of, FollowsAnchor, FollowsTip, InOrder, records_of}
 use Rattle.ots_store.specs.Records.{Record, FitsAnchor, FitsTip, TipRecord, AnchorRecord, CommitRecord, IsRecord, entry_of}
@@ -33,9 +36,6 @@ use Rattle.ots_store.proofs.Spellings.{is_record, record_read}
 use Rattle.ots_tree.proofs.Closing.{all-append}
 use Rattle.ots_tree.specs.Made.{lone}
 use Rattle.ots_tree.specs.Wire.{pre}
-use Rattle.ots_upgrade.specs.Stamped.{leaves}
-use Rattle.ots_upgrade.specs.declared.target.Target.{Target}
-use Rattle.ots_upgrade.proofs.Founded.{are_hashes}
 
 -- ---- trees of one leaf
 

@@ -1,11 +1,11 @@
 -- Calendars that are asked one after the other, each of which has nothing of what it is asked for.
 use Rattle.std.specs.Prelude.{ℕ, List, [], codes, map, replicate, Some}
+use Rattle.ots_asking.specs.Conversation.{Question, query_of}
+use Rattle.ots_asking.specs.declared.outcome.Outcome.{Outcome}
+use Rattle.ots_asking.specs.declared.outcome.Outcome.TheVariants.{Status}
 use Rattle.ots_conversation.specs.Conversation.{request_of, sent_to}
 use Rattle.ots_http.specs.declared.asking.Asked.TheVariants.{Get}
 use Rattle.ots_outside.specs.Dialer.{DialerTold, Sent, unconnected}
-use Rattle.ots_upgrade.specs.Conversation.{Question, query_of}
-use Rattle.ots_upgrade.specs.declared.outcome.Outcome.{Outcome}
-use Rattle.ots_upgrade.specs.declared.outcome.Outcome.TheVariants.{Status}
 
 -- the reply of each
 abbrev pub reply : List ℕ

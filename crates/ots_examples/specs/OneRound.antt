@@ -13,14 +13,14 @@ use Rattle.ots_ops.specs.declared.op.Op.TheVariants.{Append, Prepend, Sha256}
 use Rattle.ots_round.specs.Round.{leaf, signed, mac, commitment}
 use Rattle.ots_round.specs.declared.ticket.Receipt.{Receipt}
 use Rattle.ots_round.specs.declared.ticket.Ticket.{Ticket}
+use Rattle.ots_stamp.specs.Stamped.{leaves}
+use Rattle.ots_stamp.specs.declared.target.Target.{Target}
 use Rattle.ots_store.specs.Records.{Record, CommitRecord, TipRecord, AnchorRecord, entry_of}
 use Rattle.ots_store.specs.declared.anchor.Anchor.{Anchor}
 use Rattle.ots_store.specs.declared.tip.Tip.{Tip}
 use Rattle.ots_tree.specs.Made.{lone}
 use Rattle.ots_tree.specs.Wire.{pre}
 use Rattle.ots_tree.specs.declared.token.Token.{Token}
-use Rattle.ots_upgrade.specs.Stamped.{leaves}
-use Rattle.ots_upgrade.specs.declared.target.Target.{Target}
 
 pub record OneRound : Type 0 where
   -- the calendar's key and its URI

@@ -1,6 +1,8 @@
 //! A calendar of one round, whose records, trees and journal are all given, and conversations with calendars.
 ghost use Rattle.std.specs.Prelude.{◌≡◌, ◌≢◌, ◌≤◌, ◌++◌, ◌∷◌, ℕ, List, [], Some, Contains, length, map, slice_get};
 ghost use Rattle.std.specs.List.{AllByRecursion};
+ghost use Rattle.ots_asking.specs.Conversation.{Converse, Question};
+ghost use Rattle.ots_asking.specs.declared.outcome.Outcome.{Outcome};
 ghost use Rattle.ots_attest.specs.Uri.{IsUri};
 ghost use Rattle.ots_base.specs.Cause.{Rose};
 ghost use Rattle.ots_calendar.specs.Answer.{answer};
@@ -23,16 +25,14 @@ ghost use Rattle.ots_merkle.specs.CalendarTree.{root};
 ghost use Rattle.ots_outside.specs.Dialer.{DialerTold, Sent};
 ghost use Rattle.ots_reader.specs.OneAnswer.{IsShape};
 ghost use Rattle.ots_round.specs.Round.{round_commitment};
+ghost use Rattle.ots_stamp.specs.Stamped.{leaves};
+ghost use Rattle.ots_stamp.specs.declared.target.Target.{Target};
 ghost use Rattle.ots_store.specs.Order.{InOrder, commits_of, records_of};
 ghost use Rattle.ots_store.specs.Records.{CommitRecord, Record, entry_of};
 ghost use Rattle.ots_store.specs.Store.{InRecords};
 ghost use Rattle.ots_tree.specs.Wire.{Node, paths, pre};
 ghost use Rattle.ots_tree.specs.declared.detached.Detached.{Detached};
 ghost use Rattle.ots_tree.specs.declared.token.Token.{Token};
-ghost use Rattle.ots_upgrade.specs.Conversation.{Converse, Question};
-ghost use Rattle.ots_upgrade.specs.Stamped.{leaves};
-ghost use Rattle.ots_upgrade.specs.declared.outcome.Outcome.{Outcome};
-ghost use Rattle.ots_upgrade.specs.declared.target.Target.{Target};
 ghost use Rattle.ots_verdicts.specs.Confirmed.{IsConfirmed};
 ghost use Rattle.ots_verdicts.specs.declared.verdicts.Chain.TheVariants as chain;
 

@@ -21,12 +21,12 @@ use Rattle.ots_tree.specs.Wire.{spell as spell_token}
 use Rattle.ots_tree.specs.declared.token.Token.TheVariants as token
 use Rattle.ots_address.specs.Address.{AddressParts}
 use Rattle.ots_outside.specs.Dialer.{DialerTold}
-use Rattle.ots_upgrade.specs.Conversation.{Converse}
-use Rattle.ots_upgrade.specs.Outcome.{AreSound}
-use Rattle.ots_upgrade.specs.Stamped.{AreJoined, Gathers, GathersAny, good_trees, joined_all}
-use Rattle.ots_upgrade.specs.Stamping.{to_stamp}
-use Rattle.ots_upgrade.specs.Ways.{IsDepth, way_from}
-use Rattle.ots_upgrade.specs.declared.outcome.Outcome.{Outcome}
+use Rattle.ots_asking.specs.Conversation.{Converse}
+use Rattle.ots_asking.specs.Outcome.{AreSound}
+use Rattle.ots_stamp.specs.Stamped.{AreJoined, Gathers, GathersAny, good_trees, joined_all}
+use Rattle.ots_stamp.specs.Stamping.{to_stamp}
+use Rattle.ots_stamp.specs.Ways.{IsDepth, way_from}
+use Rattle.ots_asking.specs.declared.outcome.Outcome.{Outcome}
 use Rattle.ots_gateway.proofs.Taken.{all_fit, good_taken}
 use Rattle.ots_gateway.specs.Answer.{Fit, IsAnswer, way_bytes}
 use Rattle.ots_gateway.specs.Round.{Asks, Given, IsGiven, asked, below, too_few}

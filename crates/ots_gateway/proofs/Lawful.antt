@@ -25,11 +25,11 @@ use Rattle.ots_tree.specs.Made.{after, chain, joined}
 use Rattle.ots_tree.specs.Sound.{IsSoundPre}
 use Rattle.ots_tree.specs.Wire.{Node, Path, paths, pre}
 use Rattle.ots_tree.specs.declared.token.Token.{Token}
-use Rattle.ots_upgrade.specs.Outcome.{AreSound}
-use Rattle.ots_upgrade.specs.Stamped.{AreJoined, good_trees, joined_all}
-use Rattle.ots_upgrade.specs.Ways.{way_from}
-use Rattle.ots_upgrade.specs.declared.outcome.Outcome.{Outcome}
-use Rattle.ots_upgrade.specs.declared.outcome.Outcome.TheVariants.{Tree, Unreachable, Status, TooLong, BadHttp, BadReply}
+use Rattle.ots_asking.specs.Outcome.{AreSound}
+use Rattle.ots_stamp.specs.Stamped.{AreJoined, good_trees, joined_all}
+use Rattle.ots_stamp.specs.Ways.{way_from}
+use Rattle.ots_asking.specs.declared.outcome.Outcome.{Outcome}
+use Rattle.ots_asking.specs.declared.outcome.Outcome.TheVariants.{Tree, Unreachable, Status, TooLong, BadHttp, BadReply}
 use Rattle.ots_gateway.proofs.Answering.{all_fit_reply, are_leaves}
 use Rattle.ots_gateway.proofs.Taken.{all_fit, good_taken}
 use Rattle.ots_gateway.specs.Answer.{Fit}

@@ -5,9 +5,9 @@ use Rattle.std.proofs.lemmas.List.{drop-set-lt, drop_more, take_more_set}
 use Rattle.std.specs.Prelude.{Bool, if◌then◌else◌, nat_le}
 use Rattle.ots_base.specs.declared.limits.TheConstants.{MAX_REPLY_BODY}
 use Rattle.ots_tree.specs.declared.token.Token.{Token}
-use Rattle.ots_upgrade.specs.declared.outcome.Outcome.{Outcome}
-use Rattle.ots_upgrade.specs.declared.outcome.Outcome.TheVariants.{Tree, Unreachable, Status, TooLong, BadHttp, BadReply}
-use Rattle.ots_upgrade.specs.Stamped.{good_trees}
+use Rattle.ots_asking.specs.declared.outcome.Outcome.{Outcome}
+use Rattle.ots_asking.specs.declared.outcome.Outcome.TheVariants.{Tree, Unreachable, Status, TooLong, BadHttp, BadReply}
+use Rattle.ots_stamp.specs.Stamped.{good_trees}
 use Rattle.ots_gateway.specs.Taking.{size, sizes, taken, taking}
 
 -- ---- by what an outcome is

@@ -4,7 +4,7 @@ use Rattle.std.specs.Prelude.{Option, None, Some, IfSome}
 use Rattle.ots_address.specs.Address.{AddressParts}
 use Rattle.ots_outside.specs.Dialer.{DialerTold}
 use Rattle.ots_tree.specs.Wire.{Node}
-use Rattle.ots_upgrade.specs.declared.outcome.Outcome.{Outcome}
+use Rattle.ots_asking.specs.declared.outcome.Outcome.{Outcome}
 use Rattle.ots_gateway.specs.Answer.{Fit, IsAnswer, Keeps}
 use Rattle.ots_gateway.specs.Round.{Asks, Given, asked, below, nobody, too_few}
 use Rattle.ots_gateway.specs.declared.answer.Answer.{Answer}

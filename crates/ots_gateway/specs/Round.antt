@@ -22,12 +22,12 @@ use Rattle.ots_outside.specs.Streams.{Gives}
 use Rattle.ots_tree.specs.Made.{chain}
 use Rattle.ots_tree.specs.Wire.{Node, pre}
 use Rattle.ots_tree.specs.declared.token.Token.{Token}
-use Rattle.ots_upgrade.specs.Conversation.{Converse}
-use Rattle.ots_upgrade.specs.Outcome.{AreSound}
-use Rattle.ots_upgrade.specs.Stamped.{AreJoined, good_trees}
-use Rattle.ots_upgrade.specs.Stamping.{to_stamp}
-use Rattle.ots_upgrade.specs.Ways.{IsDepth, way_from}
-use Rattle.ots_upgrade.specs.declared.outcome.Outcome.{Outcome}
+use Rattle.ots_asking.specs.Conversation.{Converse}
+use Rattle.ots_asking.specs.Outcome.{AreSound}
+use Rattle.ots_stamp.specs.Stamped.{AreJoined, good_trees}
+use Rattle.ots_stamp.specs.Stamping.{to_stamp}
+use Rattle.ots_stamp.specs.Ways.{IsDepth, way_from}
+use Rattle.ots_asking.specs.declared.outcome.Outcome.{Outcome}
 use Rattle.ots_gateway.specs.Taking.{taking}
 use Rattle.ots_gateway.specs.Ways.{IsLongestWay, leaves}
 use Rattle.ots_gateway.specs.declared.served.GateServed.{GateServed}

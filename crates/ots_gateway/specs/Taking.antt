@@ -1,11 +1,11 @@
 -- Which of the calendars' trees a gateway takes.
 use Rattle.std.specs.Prelude.{ℕ, ◌+◌, List, [], ◌∷◌, length, nat_le, if◌then◌else◌}
+use Rattle.ots_asking.specs.declared.outcome.Outcome.{Outcome}
+use Rattle.ots_asking.specs.declared.outcome.Outcome.TheVariants.{Tree, Unreachable, Status, TooLong, BadHttp}
+use Rattle.ots_asking.specs.declared.outcome.Outcome.TheVariants.{BadReply}
 use Rattle.ots_base.specs.declared.limits.TheConstants.{MAX_REPLY_BODY}
 use Rattle.ots_tree.specs.Wire.{spelled}
 use Rattle.ots_tree.specs.declared.token.Token.{Token}
-use Rattle.ots_upgrade.specs.declared.outcome.Outcome.{Outcome}
-use Rattle.ots_upgrade.specs.declared.outcome.Outcome.TheVariants.{Tree, Unreachable, Status, TooLong, BadHttp}
-use Rattle.ots_upgrade.specs.declared.outcome.Outcome.TheVariants.{BadReply}
 
 -- how many bytes a tree has
 abbrev pub size : List Token → ℕ

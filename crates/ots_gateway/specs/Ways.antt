@@ -4,7 +4,7 @@ use Rattle.std.specs.List.{flat_map}
 use Rattle.sha2.specs.Sha256.{sha256}
 use Rattle.ots_ops.specs.declared.op.Op.{Op}
 use Rattle.ots_ops.specs.Operation.{spell}
-use Rattle.ots_upgrade.specs.Ways.{way_from}
+use Rattle.ots_stamp.specs.Ways.{way_from}
 use Rattle.ots_gateway.specs.declared.waiting.Waiting.{Waiting}
 
 -- the leaf of a digest: SHA-256 (FIPS 180-4) of it and then its nonce

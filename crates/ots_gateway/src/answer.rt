@@ -7,10 +7,11 @@ ghost use Rattle.ots_merkle.specs.Hashes.{AreHashes};
 
 use crate::taking::take_trees;
 use ots_address::Address;
+use ots_asking::Outcome;
 use ots_base::OutOfMemory;
 use ots_outside::Dialer;
+use ots_stamp::{Ways, gather_good};
 use ots_tree::Tree;
-use ots_upgrade::{Outcome, Ways, gather_good};
 use std::alloc::Global;
 
 /// What the digests of a round are answered: each its way to the root, and below it this tree.

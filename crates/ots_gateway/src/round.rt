@@ -11,9 +11,9 @@ use crate::hearing::hear_all;
 use crate::replying::reply_all;
 use crate::served::GateServed;
 use ots_address::Address;
+use ots_asking::Outcome;
 use ots_base::OutOfMemory;
 use ots_outside::{Dialer, Link, Nonces};
-use ots_upgrade::Outcome;
 use std::alloc::Global;
 
 /// How a round was served.

@@ -2,11 +2,11 @@
 ghost use Rattle.std.specs.Prelude.{◌≡◌, ◌≤◌, ◌<◌, ◌+◌, length, IfSome, IfNone};
 ghost use Rattle.ots_base.specs.declared.limits.TheConstants.{MAX_REPLY_BODY};
 ghost use Rattle.ots_gateway.specs.Taking.{size, taking};
-ghost use Rattle.ots_upgrade.specs.Stamped.{good_trees};
+ghost use Rattle.ots_stamp.specs.Stamped.{good_trees};
 
+use ots_asking::Outcome;
 use ots_base::MAX_REPLY_BODY;
 use ots_tree::{Tree, spelled_length};
-use ots_upgrade::Outcome;
 
 /// Goes through the good trees in the order of the calendars, and takes each that still fits into a
 /// reply below a way of this many bytes, at most `MAX_REPLY_BODY`, 10,000: with those taken before it

@@ -3,7 +3,7 @@ ghost use Rattle.std.specs.Prelude.{◌≡◌};
 ghost use Rattle.ots_gateway.specs.Ways.{leaf};
 
 use ots_outside::Leaf;
-use ots_upgrade::leaf_of;
+use ots_stamp::leaf_of;
 
 /// A digest that waits for its round.
 #[derive(Clone, Copy, Debug)]

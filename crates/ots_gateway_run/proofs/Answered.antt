@@ -21,7 +21,7 @@ use Rattle.ots_http.specs.declared.request.Request.TheVariants.{Digest, Timestam
 use Rattle.ots_http.specs.declared.request.RequestError.TheVariants as unread
 use Rattle.ots_outside.specs.Dialer.{DialerTold}
 use Rattle.ots_outside.specs.Link.{IsFresh, LinkTold}
-use Rattle.ots_upgrade.specs.declared.outcome.Outcome.{Outcome}
+use Rattle.ots_asking.specs.declared.outcome.Outcome.{Outcome}
 use Rattle.ots_gateway_run.specs.Accepted.{AreFresh, GivesAllBack}
 use Rattle.ots_gateway_run.specs.Answered.{IsAnswered, IsReplied, empty, failed, replied, reply_to, request_of, untold}
 use Rattle.ots_gateway_run.specs.Rounds.{Gathered, Moment, Outside, Passes, Rounds, RoundsEnd, Serves as ServesRounds, accept_failed, left_of, links_of, no_memory, not_printed, over, seen}

@@ -1,6 +1,7 @@
 -- What a run leaves of each link that it gives back.
 use Rattle.std.specs.Prelude.{◌≡◌, ◌<◌, ℕ, List, [], length, take, slice_get, Option, None, Some, Result, Ok, Err}
 use Rattle.ots_address.specs.Address.{AddressParts}
+use Rattle.ots_asking.specs.declared.outcome.Outcome.{Outcome}
 use Rattle.ots_gateway.specs.Round.{Asks, Given, Heard, digest, due, in_words, no_nonce, other, waiting_of}
 use Rattle.ots_gateway.specs.Ways.{leaves}
 use Rattle.ots_http.specs.ReplyText.{refusal, reply_bytes}
@@ -13,7 +14,6 @@ use Rattle.ots_http.specs.declared.request.RequestError.{RequestError}
 use Rattle.ots_http.specs.declared.word.Word.TheVariants.{NotFound, Nonce}
 use Rattle.ots_outside.specs.Dialer.{DialerTold}
 use Rattle.ots_outside.specs.Link.{LinkTold, whole_input}
-use Rattle.ots_upgrade.specs.declared.outcome.Outcome.{Outcome}
 
 -- the request that was heard, or that there was none
 abbrev pub request_of : Heard → Result Request RequestError

@@ -13,7 +13,7 @@ use Rattle.ots_http.specs.Seen.{LinkSeen}
 use Rattle.ots_outside.specs.Dialer.{DialerTold}
 use Rattle.ots_outside.specs.Link.{LinkTold}
 use Rattle.ots_outside.specs.Streams.{Takes, TakesPrefix}
-use Rattle.ots_upgrade.specs.declared.outcome.Outcome.{Outcome}
+use Rattle.ots_asking.specs.declared.outcome.Outcome.{Outcome}
 use Rattle.ots_gateway_run.specs.Accepted.{AreFresh, Comes, GivesAllBack, IsOver, counted}
 
 -- ---- what is outside

@@ -2,9 +2,9 @@
 use Rattle.std.specs.Prelude.{ℕ, List, ◌++◌, codes, decimal, zip}
 use Rattle.std.specs.List.{flat_map}
 use Rattle.ots_address.specs.Address.{AddressParts}
+use Rattle.ots_asking.specs.declared.outcome.Outcome.{Outcome}
 use Rattle.ots_lines.specs.Lines.{calendar_line}
 use Rattle.ots_outputs.specs.Lines.{line}
-use Rattle.ots_upgrade.specs.declared.outcome.Outcome.{Outcome}
 
 -- the port that is listened on
 abbrev pub listening_line : ℕ → List ℕ

@@ -6,11 +6,11 @@ ghost use Rattle.ots_printer.specs.Printing.{Puts};
 ghost use Rattle.ots_gateway_words.specs.Lines.{listening_line, round_lines};
 
 use ots_address::Address;
+use ots_asking::Outcome;
 use ots_lines::put_calendars;
 use ots_outputs::put_number;
 use ots_outside::Sink;
 use ots_printer::Printer;
-use ots_upgrade::Outcome;
 
 /// Puts the line of a port that is listened on.
 pub fn put_listening<K: Sink>(port: u16, out: &mut Printer<'_, K>)

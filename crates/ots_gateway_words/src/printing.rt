@@ -11,10 +11,10 @@ use crate::lines::{put_listening, put_round};
 use crate::refusal::put_refusal;
 use crate::status::GateStatus;
 use ots_address::Address;
+use ots_asking::Outcome;
 use ots_outputs::{PrintedText, print_whole};
 use ots_outside::{Failed, Sink};
 use ots_printer::Printer;
-use ots_upgrade::Outcome;
 
 /// Prints the line of a port that is listened on.
 ///

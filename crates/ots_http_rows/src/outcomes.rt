@@ -1,6 +1,6 @@
 // What came of asking calendars.
+use ots_asking::Outcome;
 use ots_row_words::Said;
-use ots_upgrade::Outcome;
 
 /// Says what came of a conversation.
 pub fn say_outcome(outcome: &Outcome, said: &mut Said) {

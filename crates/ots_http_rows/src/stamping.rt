@@ -1,16 +1,17 @@
 // Digests and files that calendars are asked to timestamp.
 ghost use Rattle.std.specs.Prelude.{◌<◌, length};
-ghost use Rattle.ots_upgrade.specs.Stamped.{AreSoundBelow};
+ghost use Rattle.ots_stamp.specs.Stamped.{AreSoundBelow};
 
 use crate::outcomes::say_outcomes;
 use crate::runs::no_memory;
 use ots_address::Address;
+use ots_asking::Outcome;
 use ots_base::{MAX_OPERATIONS, OutOfMemory};
 use ots_io::Dialer;
 use ots_ops::Digest;
 use ots_row_words::{Said, malformed, number_of};
+use ots_stamp::{Batch, Target, gather_good, stamp_with};
 use ots_tree::Detached;
-use ots_upgrade::{Batch, Outcome, Target, gather_good, stamp_with};
 use sha2::{Digest as _, Sha256};
 use std::alloc::Global;
 use std::io;

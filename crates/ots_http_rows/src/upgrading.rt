@@ -1,11 +1,12 @@
 // Proofs that calendars are asked to complete.
 use crate::outcomes::say_outcome;
 use ots_address::Address;
+use ots_asking::Outcome;
 use ots_base::OutOfMemory;
 use ots_io::Dialer;
 use ots_row_words::Said;
 use ots_tree::Detached;
-use ots_upgrade::{Outcome, Upgraded, upgrade_with};
+use ots_upgrade::{Upgraded, upgrade_with};
 use std::alloc::Global;
 
 /// Asks calendars to complete a proof, says what came of each pair of a message and a URI, and gives the proof that

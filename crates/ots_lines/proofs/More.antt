@@ -1,13 +1,9 @@
 -- The line of one item more.
-use Rattle.std.proofs.Common.{◌≡◌, ℕ, zero, suc, ◌+◌, ◌<◌, List, [], ◌∷◌, ◌++◌, Option, None, Some, length, get_or, take, zip, sym, ap, ◌∙◌, append-nil, add-one, min, arith}
+use Rattle.std.proofs.Common.{◌≡◌, ℕ, zero, suc, ◌+◌, ◌<◌, List, [], ◌∷◌, ◌++◌, length, get_or, take, zip, sym, ap, ◌∙◌, append-nil, add-one, min, arith}
 use Rattle.std.proofs.lemmas.Slice.Zip.{length-zip}
 use Rattle.std.proofs.Math.Seq.{take-suc}
 use Rattle.std.proofs.lemmas.List.Concat.{flat_map-append}
-use Rattle.std.specs.List.{flat_map, slice_get}
-use Rattle.std.proofs.lemmas.Option.{get_or_from_slice_get, slice_get-get_or}
-use Rattle.ots_lines.specs.Lines.{asked_line, uri_line}
-use Rattle.ots_upgrade.specs.declared.asking.AskedAt.{AskedAt}
-use Rattle.ots_upgrade.specs.declared.outcome.Outcome.{Outcome}
+use Rattle.std.specs.List.{flat_map}
 
 pub one_more : {A : Type 0} (f : A → List ℕ) (xs : List A) (i : ℕ) (x : A) → i < length xs → x ≡ get_or xs i x
     → flat_map f (take i xs) ++ f x ≡ flat_map f (take (i + 1) xs)
@@ -16,15 +12,6 @@ one_more {A} f xs i x in_range is =
     ∙ sym (flat_map-append f (take i xs) (x ∷ []))
     ∙ ap (λ (z : A). flat_map f (take i xs ++ z ∷ [])) is
     ∙ ap (flat_map f) (sym (rw add-one (take-suc xs i x in_range)))
-
--- one pair more that was asked for, by its URI and what came of it
-pub one_asked_more : (asked : List AskedAt) (i : ℕ) (uri : List ℕ) (outcome : Option Outcome) → i < length asked
-    → ((a : AskedAt) → slice_get asked i ≡ Some a → uri ≡ a.uri) → ((a : AskedAt) → slice_get asked i ≡ Some a → outcome ≡ a.outcome)
-    → flat_map asked_line (take i asked) ++ uri_line uri outcome ≡ flat_map asked_line (take (i + 1) asked)
-one_asked_more asked i uri outcome in_range uri-is outcome-is =
-    let a : AskedAt = get_or asked i (record { uri = []; message = []; outcome = None }) in
-    let at : slice_get asked i ≡ Some a = slice_get-get_or asked i (record { uri = []; message = []; outcome = None }) in_range in
-    rw (uri-is a at, outcome-is a at) (one_more asked_line asked i a in_range (sym (get_or_from_slice_get asked i a a at)))
 
 module _ {A B : Type 0} where
   same_pair : (p q : A × B) → p.0 ≡ q.0 → p.1 ≡ q.1 → p ≡ q

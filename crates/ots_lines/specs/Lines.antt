@@ -3,10 +3,9 @@ use Rattle.std.specs.Prelude.{ℕ, List, ◌++◌, Option, None, Some, codes, de
 use Rattle.ots_address.specs.Address.{AddressParts}
 use Rattle.ots_info.specs.Listing.{or_dash}
 use Rattle.ots_reader.specs.Printed.{printed}
-use Rattle.ots_upgrade.specs.declared.asking.AskedAt.{AskedAt}
-use Rattle.ots_upgrade.specs.declared.outcome.Outcome.{Outcome}
-use Rattle.ots_upgrade.specs.declared.outcome.Outcome.TheVariants.{Tree, Unreachable, Status, TooLong, BadHttp}
-use Rattle.ots_upgrade.specs.declared.outcome.Outcome.TheVariants.{BadReply}
+use Rattle.ots_asking.specs.declared.outcome.Outcome.{Outcome}
+use Rattle.ots_asking.specs.declared.outcome.Outcome.TheVariants.{Tree, Unreachable, Status, TooLong, BadHttp}
+use Rattle.ots_asking.specs.declared.outcome.Outcome.TheVariants.{BadReply}
 use Rattle.ots_outputs.specs.Lines.{line}
 
 -- what came of asking a calendar
@@ -26,6 +25,3 @@ calendar_line p = line (p.0.text ++ codes " " ++ outcome_words p.1)
 abbrev pub uri_line : List ℕ → Option Outcome → List ℕ
 uri_line uri None = line (codes "skipped " ++ or_dash uri)
 uri_line uri (Some outcome) = line (or_dash uri ++ codes " " ++ outcome_words outcome)
-
-abbrev pub asked_line : AskedAt → List ℕ
-asked_line a = uri_line a.uri a.outcome

@@ -3,4 +3,4 @@
 
 mod lines;
 
-pub use lines::{put_asked, put_calendars};
+pub use lines::{put_calendars, put_pair};

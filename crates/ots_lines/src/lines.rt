@@ -2,26 +2,16 @@
 ghost use Rattle.std.specs.Prelude.{◌≡◌, ◌++◌, ◌≤◌, None, Some, codes, length, zip};
 ghost use Rattle.std.specs.List.{flat_map};
 ghost use Rattle.std.specs.Option.{option_copied};
+ghost use Rattle.ots_asking.specs.declared.outcome.Outcome.TheVariants.{BadReply};
 ghost use Rattle.ots_info.specs.Listing.{or_dash};
-ghost use Rattle.ots_lines.specs.Lines.{asked_line, calendar_line, outcome_words, uri_line};
+ghost use Rattle.ots_lines.specs.Lines.{calendar_line, outcome_words, uri_line};
 ghost use Rattle.ots_printer.specs.Printing.{Puts};
-ghost use Rattle.ots_upgrade.specs.declared.outcome.Outcome.TheVariants.{BadReply};
 
 use ots_address::Address;
+use ots_asking::Outcome;
 use ots_outside::Sink;
 use ots_printer::Printer;
 use ots_reader::Fault;
-use ots_upgrade::{AskedList, Outcome};
-
-/// Puts a line for each pair of a URI and a message that a proof asks for: what came of asking, or
-/// that no calendar was asked.
-pub fn put_asked<K: Sink>(asked: &AskedList, out: &mut Printer<'_, K>)
-    ensures { Puts K.taken K.faults K.same (flat_map asked_line asked.now) out.old out.new }
-{
-    for i in 0..asked.len() {
-        put_pair(asked.uri(i).text(), asked.outcome(i), out);
-    }
-}
 
 /// Puts a line for each calendar: what came of asking it. There is an outcome for each.
 pub fn put_calendars<K: Sink>(calendars: &[Address], outcomes: &[Outcome], out: &mut Printer<'_, K>)
@@ -43,8 +33,8 @@ fn put_calendar<K: Sink>(calendar: &Address, outcome: &Outcome, out: &mut Printe
     out.word("\n");
 }
 
-/// Puts the line of a pair with this URI.
-fn put_pair<K: Sink>(uri: &str, outcome: Option<&Outcome>, out: &mut Printer<'_, K>)
+/// Puts the line of a URI that a proof asks for: what came of asking, or that no calendar was asked.
+pub fn put_pair<K: Sink>(uri: &str, outcome: Option<&Outcome>, out: &mut Printer<'_, K>)
     ensures { Puts K.taken K.faults K.same (uri_line uri.now (option_copied outcome.entry)) out.old out.new }
 {
     match outcome {

@@ -1,6 +1,5 @@
 //! What the program `otsmirror` does: it makes the real objects, calls `run_mirror`, and ends with its
-//! status's number. The programs over it are one line each, so that what one stored run shows of
-//! this body holds of the other too.
+//! status's number. The program over it is one line.
 #![tactic(auto)]
 
 use ots_file::{FileDisk, SystemFile};

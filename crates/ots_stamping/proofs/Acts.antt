@@ -6,13 +6,13 @@ use Rattle.std.proofs.lemmas.List.{drop_more, length-take-le, take-append-drop, 
 use Rattle.std.specs.Prelude.{Ok, Err}
 use Rattle.ots_base.specs.Cause.{Rose}
 use Rattle.ots_outside.specs.Shelf.{OnlyWriting, OnlyWriting-trans, ShelfFaults, ShelfTold}
-use Rattle.ots_upgrade.specs.Stamped.{good_trees}
+use Rattle.ots_stamp.specs.Stamped.{good_trees}
 use Rattle.ots_client_endings.specs.CarriedOut.{Carries, CarriesOn, CarriesOut, Does}
 use Rattle.ots_stamping.specs.Answered.{StampedFiles, acts_at, acts_of_stamped}
 use Rattle.ots_client_text.specs.declared.status.Status.{Status}
 use Rattle.ots_client_endings.proofs.Carrying.{carries_later, does_more, does_then}
 use Rattle.ots_tree.specs.declared.token.Token.{Token}
-use Rattle.ots_upgrade.specs.declared.target.Target.{Target}
+use Rattle.ots_stamp.specs.declared.target.Target.{Target}
 use Rattle.ots_client_endings.specs.Ending.{Act, makes_stamp, prints}
 use Rattle.ots_stamping.specs.Stamp.{stamp_acts}
 use Rattle.ots_client_text.specs.Lines.{proof_name, wrote_text}

@@ -29,8 +29,8 @@ use Rattle.ots_stamping.specs.Complete as ends
 use Rattle.ots_stamping.specs.Complete.{AreSubmitted, CanStamp, Concludes, excused}
 use Rattle.ots_stamping.specs.Hashing.{AreHashed, are_hashed, one_refused}
 use Rattle.ots_stamping.specs.Stamp.{StampsFiles, StampsFilesAs, calendars_text, inputs_stamped, no_nonce, stamp_acts, stamped, too_few}
-use Rattle.ots_upgrade.specs.Stamped.{good_trees}
-use Rattle.ots_upgrade.specs.declared.target.Target.{Target}
+use Rattle.ots_stamp.specs.Stamped.{good_trees}
+use Rattle.ots_stamp.specs.declared.target.Target.{Target}
 
 hashed_in : (told : Option Names) (earlier later digests : List (List ℕ)) (name : List ℕ) → AreHashed told (earlier ++ name ∷ later) digests
     → (d : List ℕ) × HasUnder told name (λ b. IsHashOf Sha256 b d)

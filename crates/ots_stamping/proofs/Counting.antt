@@ -1,9 +1,9 @@
 -- How many answers are good.
 use Rattle.std.proofs.Common.{◌≡◌, ◌<◌, ℕ, ◌+◌, List, [], ◌∷◌, ◌++◌, length, take, get_or, ap, ◌∙◌, add-one, arith}
 use Rattle.std.proofs.Math.Seq.{take-suc}
-use Rattle.ots_upgrade.specs.Stamped.{good_trees}
-use Rattle.ots_upgrade.specs.declared.outcome.Outcome.{Outcome}
-use Rattle.ots_upgrade.specs.declared.outcome.Outcome.TheVariants.{Tree, Unreachable, Status, TooLong, BadHttp, BadReply}
+use Rattle.ots_asking.specs.declared.outcome.Outcome.{Outcome}
+use Rattle.ots_asking.specs.declared.outcome.Outcome.TheVariants.{Tree, Unreachable, Status, TooLong, BadHttp, BadReply}
+use Rattle.ots_stamp.specs.Stamped.{good_trees}
 
 good_joined : (xs : List Outcome) (x : Outcome) → length (good_trees (xs ++ x ∷ [])) ≡ length (good_trees xs) + length (good_trees (x ∷ []))
 good_joined [] x = omega arith

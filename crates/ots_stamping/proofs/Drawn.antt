@@ -7,7 +7,7 @@ use Rattle.ots_stamping.specs.declared.drawing.DrawError.TheVariants.{NonceFault
 use Rattle.std.proofs.Math.Seq.{take-suc}
 use Rattle.std.proofs.lemmas.List.{length-append, length-map, length-take, length-take-le, map-append}
 use Rattle.ots_outside.specs.Streams.{Gives}
-use Rattle.ots_upgrade.specs.declared.target.Target.{Target}
+use Rattle.ots_stamp.specs.declared.target.Target.{Target}
 use Rattle.ots_client_endings.specs.Outside.{Draws, DrawsSome}
 
 module _ {N : Type 0} (left : N → Option (List ℕ)) where

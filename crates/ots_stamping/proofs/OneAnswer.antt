@@ -1,9 +1,9 @@
 -- What `stamp` answers is the only answer, by what was drawn and heard of calendars.
 use mathlib.Core.HLevel.{is_prop→PathP}
-use Rattle.std.proofs.Common.{◌≡◌, ℕ, List, [], ◌∷◌, ◌++◌, length, map, get_or, drop, Option, Some, None, refl, sym, ap, subst, ◌∙◌, arith}
+use Rattle.std.proofs.Common.{◌≡◌, ℕ, List, [], ◌∷◌, ◌++◌, length, map, get_or, drop, Some, None, refl, sym, ap, subst, ◌∙◌, arith}
 use Rattle.std.proofs.Math.Nat.{ℕ_set}
 use Rattle.ots_address.specs.Address.{AddressParts}
-use Rattle.ots_client_endings.specs.Ending.{Ending, Act, prints}
+use Rattle.ots_client_endings.specs.Ending.{Ending, prints}
 use Rattle.ots_client_endings.specs.Outside.{Outside}
 use Rattle.ots_client_endings.specs.Reading.{RefusesInput}
 use Rattle.ots_client_endings.proofs.OneInput.{not_hashed, one_refusal, one_under, target_or_not, target_refusal, with_list}
@@ -14,10 +14,10 @@ use Rattle.ots_inputs.specs.Under.{HasUnder}
 use Rattle.ots_ops.specs.Hashed.{hashed}
 use Rattle.ots_ops.specs.declared.hash_op.HashOp.TheVariants.{Sha256}
 use Rattle.ots_outside.specs.Shelf.{Names}
-use Rattle.ots_stamping.specs.Hashing.{AreHashed, RefusesOne, WithHashes, are_hashed, one_refused}
+use Rattle.ots_stamp.specs.Stamped.{good_trees}
+use Rattle.ots_stamp.specs.declared.target.Target.{Target}
+use Rattle.ots_stamping.specs.Hashing.{AreHashed, WithHashes, are_hashed, one_refused}
 use Rattle.ots_stamping.specs.Stamp.{AreStampTargets, Stamps, StampsFiles, calendars_text, no_nonce, stamp_acts, stamped, too_few}
-use Rattle.ots_upgrade.specs.Stamped.{good_trees}
-use Rattle.ots_upgrade.specs.declared.target.Target.{Target}
 
 -- ---- the files are hashed in one way
 

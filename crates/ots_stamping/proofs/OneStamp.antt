@@ -9,9 +9,9 @@ use Rattle.ots_detached.specs.File.{IsFileOf, file_of}
 use Rattle.ots_outside.specs.Shelf.{ShelfFaults, ShelfTold}
 use Rattle.ots_tree.specs.declared.detached.Detached.{Detached}
 use Rattle.ots_tree.specs.declared.token.Token.{Token}
-use Rattle.ots_upgrade.specs.declared.outcome.Outcome.{Outcome}
-use Rattle.ots_upgrade.specs.declared.target.Target.{Target}
-use Rattle.ots_upgrade.specs.Stamped.{GathersForm, IsStampOf, good_trees}
+use Rattle.ots_asking.specs.declared.outcome.Outcome.{Outcome}
+use Rattle.ots_stamp.specs.declared.target.Target.{Target}
+use Rattle.ots_stamp.specs.Stamped.{GathersForm, IsStampOf, good_trees}
 use Rattle.ots_client_endings.specs.CarriedOut.{CarriesOn, DoesOrEnds, PrintsLast}
 use Rattle.ots_client_endings.specs.Ending.{IsStampAt, makes, makes_stamp, prints}
 use Rattle.ots_client_text.specs.Refusal.{refusal_text}

@@ -22,12 +22,12 @@ use Rattle.ots_stamping.specs.Asking.{StampsUpTo}
 use Rattle.ots_stamping.specs.Hashing.{are_hashed}
 use Rattle.ots_stamping.specs.Stamp.{Stamps, StampsFiles, StampsFilesAs, no_nonce, stamped, too_few}
 use Rattle.ots_stamping.specs.declared.submission.Submission.{Submission}
-use Rattle.ots_upgrade.specs.Conversation.{Converse, ConverseUpTo, Question}
-use Rattle.ots_upgrade.specs.Stamped.{leaves}
-use Rattle.ots_upgrade.specs.Stamping.{to_stamp}
-use Rattle.ots_upgrade.specs.Ways.{IsDepth}
-use Rattle.ots_upgrade.specs.declared.outcome.Outcome.{Outcome}
-use Rattle.ots_upgrade.specs.declared.target.Target.{Target}
+use Rattle.ots_asking.specs.Conversation.{Converse, ConverseUpTo, Question}
+use Rattle.ots_stamp.specs.Stamped.{leaves}
+use Rattle.ots_stamp.specs.Stamping.{to_stamp}
+use Rattle.ots_stamp.specs.Ways.{IsDepth}
+use Rattle.ots_asking.specs.declared.outcome.Outcome.{Outcome}
+use Rattle.ots_stamp.specs.declared.target.Target.{Target}
 
 module _ {D : Type 0} (told : D → DialerTold) (faults : D → ℕ) where
   -- each question has an outcome

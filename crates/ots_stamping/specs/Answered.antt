@@ -4,6 +4,8 @@ use Rattle.std.specs.Prelude.{Option, slice_index_or}
 use Rattle.ots_address.specs.Address.{AddressParts}
 use Rattle.ots_address.specs.AddressList.{IsListOf}
 use Rattle.ots_arguments.specs.Values.{texts}
+use Rattle.ots_asking.specs.Conversation.{Converse, ConverseUpTo}
+use Rattle.ots_asking.specs.declared.outcome.Outcome.{Outcome}
 use Rattle.ots_client_endings.specs.Ending.{Act, Ending, makes_stamp, prints}
 use Rattle.ots_client_text.specs.Lines.{proof_name, wrote_text}
 use Rattle.ots_client_text.specs.Refusal.{refusal_text}
@@ -12,16 +14,14 @@ use Rattle.ots_client_words.specs.Words.{Stamping}
 use Rattle.ots_merkle.specs.CalendarTree.{root}
 use Rattle.ots_outside.specs.Dialer.{DialerTold}
 use Rattle.ots_outside.specs.Shelf.{Names}
+use Rattle.ots_stamp.specs.Stamped.{GathersForm, IsSoundBelow, good_trees, leaves}
+use Rattle.ots_stamp.specs.Stamping.{to_stamp}
+use Rattle.ots_stamp.specs.Ways.{IsDepth}
+use Rattle.ots_stamp.specs.declared.target.Target.{Target}
 use Rattle.ots_stamping.specs.Hashing.{AreHashed}
 use Rattle.ots_stamping.specs.Stamp.{calendars_text, stamp_acts}
 use Rattle.ots_stamping.specs.declared.submission.Submission.{Submission}
 use Rattle.ots_tree.specs.declared.token.Token.{Token}
-use Rattle.ots_upgrade.specs.Conversation.{Converse, ConverseUpTo}
-use Rattle.ots_upgrade.specs.Stamped.{GathersForm, IsSoundBelow, good_trees, leaves}
-use Rattle.ots_upgrade.specs.Stamping.{to_stamp}
-use Rattle.ots_upgrade.specs.Ways.{IsDepth}
-use Rattle.ots_upgrade.specs.declared.outcome.Outcome.{Outcome}
-use Rattle.ots_upgrade.specs.declared.target.Target.{Target}
 
 -- The calendars of the list are to be asked for the files under these names.
 pub record IsSubmissionOf (told : Option Names) (s : Stamping) (i : Submission) : Type 0 where

@@ -2,17 +2,17 @@
 use Rattle.std.specs.Prelude.{◌≡◌, ℕ, List, map, Option}
 use Rattle.ots_address.specs.Address.{AddressParts}
 use Rattle.ots_address.specs.AddressList.{IsListOf}
+use Rattle.ots_asking.specs.Conversation.{ConverseUpTo}
 use Rattle.ots_client_endings.specs.Outside.{Draws}
 use Rattle.ots_client_words.specs.Words.{Stamping}
 use Rattle.ots_merkle.specs.CalendarTree.{root}
 use Rattle.ots_outside.specs.Dialer.{DialerTold}
 use Rattle.ots_outside.specs.Shelf.{Names}
+use Rattle.ots_stamp.specs.Stamped.{leaves}
+use Rattle.ots_stamp.specs.Stamping.{to_stamp}
+use Rattle.ots_stamp.specs.Ways.{IsDepth}
+use Rattle.ots_stamp.specs.declared.target.Target.{Target}
 use Rattle.ots_stamping.specs.Hashing.{AreHashed}
-use Rattle.ots_upgrade.specs.Conversation.{ConverseUpTo}
-use Rattle.ots_upgrade.specs.Stamped.{leaves}
-use Rattle.ots_upgrade.specs.Stamping.{to_stamp}
-use Rattle.ots_upgrade.specs.Ways.{IsDepth}
-use Rattle.ots_upgrade.specs.declared.target.Target.{Target}
 
 -- Nonces were drawn, one for each of these files, and of what calendars are then asked some was asked in order, the
 -- last of it perhaps in part.

@@ -16,11 +16,11 @@ use Rattle.ots_client_text.specs.declared.status.Status.TheVariants.{Done, Nonce
 use Rattle.ots_client_words.specs.Words.{Stamping}
 use Rattle.ots_detached.specs.File.{file_of}
 use Rattle.ots_outside.specs.Shelf.{Names}
+use Rattle.ots_stamp.specs.Stamped.{good_trees}
+use Rattle.ots_stamp.specs.declared.target.Target.{Target}
 use Rattle.ots_stamping.specs.Hashing.{AreHashed}
 use Rattle.ots_stamping.specs.Stamp.{AreStampTargets}
 use Rattle.ots_tree.specs.declared.detached.Detached.{Detached}
-use Rattle.ots_upgrade.specs.Stamped.{good_trees}
-use Rattle.ots_upgrade.specs.declared.target.Target.{Target}
 
 -- The list is one, each file is there and not too long, no proof is there and no two files have one name for theirs.
 pub record CanStamp (names : Names) (s : Stamping) : Type 0 where

@@ -5,6 +5,7 @@ use Rattle.std.specs.Prelude.{◌≡◌, ◌<◌, ◌≤◌, ℕ, List, [], ◌�
 use Rattle.std.specs.Prelude.{Option, Some, None}
 use Rattle.std.specs.List.{flat_map}
 use Rattle.ots_address.specs.Address.{AddressParts}
+use Rattle.ots_asking.specs.declared.outcome.Outcome.{Outcome}
 use Rattle.ots_client_endings.specs.Ending.{Act, Ending, makes_stamp, prints, refused}
 use Rattle.ots_client_endings.specs.Outside.{Outside}
 use Rattle.ots_client_endings.specs.Reading.{WithList}
@@ -16,13 +17,12 @@ use Rattle.ots_client_words.specs.Words.{Stamping}
 use Rattle.ots_lines.specs.Lines.{calendar_line}
 use Rattle.ots_merkle.specs.CalendarTree.{root}
 use Rattle.ots_outside.specs.Shelf.{Names}
+use Rattle.ots_stamp.specs.Stamped.{good_trees, leaves}
+use Rattle.ots_stamp.specs.Stamping.{to_stamp}
+use Rattle.ots_stamp.specs.Ways.{IsDepth}
+use Rattle.ots_stamp.specs.declared.target.Target.{Target}
 use Rattle.ots_stamping.specs.Hashing.{WithHashes}
 use Rattle.ots_tree.specs.declared.token.Token.{Token}
-use Rattle.ots_upgrade.specs.Stamped.{good_trees, leaves}
-use Rattle.ots_upgrade.specs.Stamping.{to_stamp}
-use Rattle.ots_upgrade.specs.Ways.{IsDepth}
-use Rattle.ots_upgrade.specs.declared.outcome.Outcome.{Outcome}
-use Rattle.ots_upgrade.specs.declared.target.Target.{Target}
 
 -- what is read, in order
 abbrev pub inputs_stamped : Stamping → List Input

@@ -6,7 +6,7 @@ ghost use Rattle.ots_client_endings.specs.Outside.{Draws, DrawsSome};
 
 use ots_ops::Digest;
 use ots_outside::{Failed, Nonces};
-use ots_upgrade::Target;
+use ots_stamp::Target;
 use std::alloc::{AllocError, AllocFailed, Global};
 
 /// Why not all nonces were drawn.

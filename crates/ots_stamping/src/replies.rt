@@ -2,16 +2,17 @@
 ghost use Rattle.std.specs.Prelude.{◌≡◌, ◌<◌, [], length, slice_index_or, IfOk};
 ghost use Rattle.ots_arguments.specs.Values.{texts};
 ghost use Rattle.ots_client_endings.specs.Ending.{IsStampAt};
-ghost use Rattle.ots_upgrade.specs.Stamped.{GathersForm, IsSoundBelow, good_trees};
+ghost use Rattle.ots_stamp.specs.Stamped.{GathersForm, IsSoundBelow, good_trees};
 
 use ots_address::Address;
+use ots_asking::Outcome;
 use ots_base::OutOfMemory;
 use ots_lines::put_calendars;
 use ots_outputs::PrintedText;
 use ots_outside::Sink;
 use ots_printer::Printer;
+use ots_stamp::Batch;
 use ots_tree::{Detached, Tree};
-use ots_upgrade::{Batch, Outcome};
 use std::alloc::Global;
 use std::marker::Model;
 

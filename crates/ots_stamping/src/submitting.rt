@@ -1,18 +1,19 @@
 //! Calendars are asked to timestamp the root over files, and that is written.
 ghost use Rattle.std.specs.Prelude.{◌≡◌, ◌≤◌, ◌⊎◌, [], ◌∷◌, length, map, IfOk, OnErr};
 ghost use Rattle.ots_client_endings.specs.Runs.{Finishes, at};
+ghost use Rattle.ots_stamp.specs.Stamped.{AreSoundBelow, good_trees};
 ghost use Rattle.ots_stamping.specs.Answered.{AnswersTo, EndsStamping, Submits};
-ghost use Rattle.ots_upgrade.specs.Stamped.{AreSoundBelow, good_trees};
 
 use crate::replies::{CalendarLines, Replies, Stamped};
 use crate::submission::Submission;
 use crate::write_stamps::make_stamps;
+use ots_asking::Outcome;
 use ots_base::OutOfMemory;
 use ots_canon::canon;
 use ots_client_endings::refuse_after;
 use ots_client_text::Status;
 use ots_outside::{Dialer, Shelf, Sink};
-use ots_upgrade::{Batch, Outcome, Target, gather_good};
+use ots_stamp::{Batch, Target, gather_good};
 use std::alloc::Global;
 
 /// Asks calendars to timestamp the root over files with their nonces, and writes what comes of it. Where memory ran out

@@ -7,9 +7,9 @@ ghost use Rattle.ots_client_text.specs.Lines.{proof_name, wrote_text};
 ghost use Rattle.ots_client_text.specs.declared.status.Status.TheVariants.{Done};
 ghost use Rattle.ots_detached.specs.File.{file_of};
 ghost use Rattle.ots_outputs.specs.Printed.{SinkStays};
+ghost use Rattle.ots_stamp.specs.Stamped.{good_trees};
 ghost use Rattle.ots_stamping.specs.Answered.{acts_at, acts_of_stamped, name_at};
 ghost use Rattle.ots_stamping.specs.Stamp.{calendars_text};
-ghost use Rattle.ots_upgrade.specs.Stamped.{good_trees};
 
 use crate::replies::{CalendarLines, Stamped};
 use ots_base::OutOfMemory;

@@ -1,11 +1,11 @@
 -- Pairs, each with what came of asking for it.
 use Rattle.std.proofs.Common.{◌≡◌, ℕ, zero, suc, List, [], ◌∷◌, ◌++◌, length, map, Option, Some, refl, sym, ap, ◌∙◌, arith}
 use Rattle.std.specs.List.{slice_get}
+use Rattle.ots_asking.specs.declared.outcome.Outcome.{Outcome}
 use Rattle.ots_pending.specs.Pairs.{PairAt}
 use Rattle.ots_upgrade.specs.AskedList.{asked_at, asked_with}
 use Rattle.ots_upgrade.specs.Upgrading.{tree_of, trees_of}
 use Rattle.ots_upgrade.specs.declared.asking.AskedAt.{AskedAt}
-use Rattle.ots_upgrade.specs.declared.outcome.Outcome.{Outcome}
 
 asked_length : (pairs : List PairAt) (outcomes : List (Option Outcome)) → length outcomes ≡ length pairs → length (asked_with pairs outcomes) ≡ length pairs
 asked_length [] outcomes same = refl

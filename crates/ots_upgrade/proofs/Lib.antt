@@ -1,12 +1,4 @@
 pub mod AskedWith
-pub mod Conversing
-pub mod FormBelow
-pub mod Founded
-pub mod Gathered
 pub mod OneList
-pub mod OneOutcome
 pub mod Pairwise
-pub mod Provable
-pub mod Questions
-pub mod WayLemmas
 pub mod WithinLimit

@@ -11,14 +11,14 @@ use Rattle.ots_tree.specs.declared.token.Token.{Token}
 use Rattle.ots_pending.specs.Completed.{AreSoundFor, IsSoundFor}
 use Rattle.ots_pending.specs.Pairs.{PairAt}
 use Rattle.ots_upgrade.specs.AskedList.{asked_with}
-use Rattle.ots_upgrade.specs.Conversation.{Converse, ConverseUpTo, Question}
-use Rattle.ots_upgrade.specs.Outcome.{IsSoundOutcome}
+use Rattle.ots_asking.specs.Conversation.{Converse, ConverseUpTo, Question}
+use Rattle.ots_asking.specs.Outcome.{IsSoundOutcome}
 use Rattle.ots_upgrade.specs.Upgrading.{outcomes, question_for, questions, tree_of, trees_of, AreAskedPairs, AsksFor}
 use Rattle.ots_upgrade.specs.declared.asking.AskedAt.{AskedAt}
-use Rattle.ots_upgrade.specs.declared.outcome.Outcome.{Outcome}
-use Rattle.ots_upgrade.specs.declared.outcome.Outcome.TheVariants as outcome
+use Rattle.ots_asking.specs.declared.outcome.Outcome.{Outcome}
+use Rattle.ots_asking.specs.declared.outcome.Outcome.TheVariants as outcome
 use Rattle.ots_upgrade.proofs.AskedWith.{asked_append, trees_same}
-use Rattle.ots_upgrade.proofs.Questions.{breaks_off_later, nothing_asked}
+use Rattle.ots_asking.proofs.Questions.{breaks_off_later, nothing_asked}
 
 -- ---- lists
 

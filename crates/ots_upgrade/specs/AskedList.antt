@@ -1,8 +1,8 @@
 -- How a list of asked pairs is seen, for its code.
 use Rattle.std.specs.Prelude.{List, Option, map, zip}
+use Rattle.ots_asking.specs.declared.outcome.Outcome.{Outcome}
 use Rattle.ots_pending.specs.Pairs.{PairAt}
 use Rattle.ots_upgrade.specs.declared.asking.AskedAt.{AskedAt}
-use Rattle.ots_upgrade.specs.declared.outcome.Outcome.{Outcome}
 
 -- a pair, and what came of asking for it
 abbrev pub asked_at : PairAt × Option Outcome → AskedAt

@@ -1,8 +1,5 @@
+pub use Rattle.ots_asking.specs.Conversation
+pub use Rattle.ots_asking.specs.Outcome
+pub use Rattle.ots_stamp.specs.Stamping
 pub mod AskedList
-pub mod Batch
-pub mod Conversation
-pub mod Outcome
-pub mod Stamped
-pub mod Stamping
 pub mod Upgrading
-pub mod Ways

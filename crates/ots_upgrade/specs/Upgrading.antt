@@ -5,6 +5,10 @@ use Rattle.std.specs.Prelude.{is_some, bytes_eq}
 use Rattle.std.specs.List.{filter_map}
 use Rattle.std.specs.Option.{option_map}
 use Rattle.ots_address.specs.Address.{AddressParts}
+use Rattle.ots_asking.specs.Conversation.{Converse, ConverseUpTo, Question}
+use Rattle.ots_asking.specs.Outcome.{IsSoundOutcome}
+use Rattle.ots_asking.specs.declared.outcome.Outcome.{Outcome}
+use Rattle.ots_asking.specs.declared.outcome.Outcome.TheVariants as outcome
 use Rattle.ots_http.specs.declared.asking.Asked.TheVariants.{Get}
 use Rattle.ots_outside.specs.Dialer.{DialerTold}
 use Rattle.ots_pending.specs.Completed.{IsCompleted}
@@ -12,11 +16,7 @@ use Rattle.ots_pending.specs.Pairs.{PairAt, ArePairs}
 use Rattle.ots_tree.specs.declared.token.Token.{Token}
 use Rattle.ots_tree.specs.declared.detached.Detached.{Detached}
 use Rattle.ots_tree.specs.Wire.{spelled}
-use Rattle.ots_upgrade.specs.Conversation.{Converse, ConverseUpTo, Question}
-use Rattle.ots_upgrade.specs.Outcome.{IsSoundOutcome}
 use Rattle.ots_upgrade.specs.declared.asking.AskedAt.{AskedAt}
-use Rattle.ots_upgrade.specs.declared.outcome.Outcome.{Outcome}
-use Rattle.ots_upgrade.specs.declared.outcome.Outcome.TheVariants as outcome
 use Rattle.ots_upgrade.specs.declared.upgrading.Upgraded.{Upgraded}
 use Rattle.ots_upgrade.specs.declared.upgrading.UpgradedWithin.{UpgradedWithin}
 

@@ -5,7 +5,7 @@ ghost use Rattle.std.specs.Option.{option_copied};
 ghost use Rattle.ots_upgrade.specs.AskedList.{asked_with};
 ghost use Rattle.ots_upgrade.specs.declared.asking.AskedAt.{AskedAt};
 
-use crate::outcome::Outcome;
+use ots_asking::Outcome;
 use ots_attest::Uri;
 use ots_ops::Message;
 use ots_pending::Pairs;

@@ -2,22 +2,21 @@
 ghost use Rattle.std.specs.Prelude.{◌≡◌, ◌≤◌, ◌<◌, ℕ, List, [], ◌∷◌, length, map, Some, IfOk, IfSome, OnErr};
 ghost use Rattle.std.specs.List.{filter_map, slice_get};
 ghost use Rattle.std.specs.Option.{option_copied, option_map};
+ghost use Rattle.ots_asking.specs.Conversation.{ConverseUpTo};
 ghost use Rattle.ots_base.specs.declared.limits.TheConstants.{MAX_OPERATIONS};
 ghost use Rattle.ots_ops.specs.HashOp.{digest_length};
 ghost use Rattle.ots_pending.specs.Completed.{AreSoundFor, IsCompleted};
 ghost use Rattle.ots_pending.specs.Pairs.{AreAskable, ArePairs, PairAt};
 ghost use Rattle.ots_tree.specs.Sound.{IsSoundPre};
 ghost use Rattle.ots_upgrade.specs.AskedList.{asked_with};
-ghost use Rattle.ots_upgrade.specs.Conversation.{ConverseUpTo};
 ghost use Rattle.ots_upgrade.specs.Upgrading.{address_of, questions, to_get, tree_of, AsksFor, AsksIf};
 ghost use Rattle.ots_upgrade.specs.Upgrading.{AsksUpTo, CompletesWithin, HasTree, UpgradesProof, UpgradesUpTo};
 ghost use Rattle.ots_upgrade.specs.Upgrading.{UpgradesWithin};
 
 use crate::asking::AskedList;
-use crate::conversation::converse;
 use crate::laws::one_list_of_pairs;
-use crate::outcome::Outcome;
 use ots_address::Address;
+use ots_asking::{Outcome, converse};
 use ots_base::OutOfMemory;
 use ots_http::Asked;
 use ots_ops::Message;

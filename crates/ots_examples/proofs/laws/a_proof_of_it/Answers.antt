@@ -7,10 +7,10 @@ use Rattle.ots_examples.proofs.Cycle.{files_cycle, over_fits}
 use Rattle.ots_examples.proofs.laws.a_proof_of_it.Goals as goal
 use Rattle.ots_headers.specs.HeaderTable.{root_at}
 use Rattle.ots_merkle.specs.CalendarTree.{root}
+use Rattle.ots_stamp.specs.Stamped.{leaves}
 use Rattle.ots_store.specs.Order.{records_of}
 use Rattle.ots_store.specs.Records.{Record}
 use Rattle.ots_store.specs.declared.anchor.Anchor.{Anchor}
-use Rattle.ots_upgrade.specs.Stamped.{leaves}
 use Rattle.ots_verdicts.specs.Confirmed.{IsConfirmed}
 use Rattle.ots_verdicts.specs.declared.verdicts.Chain.TheVariants as chain
 

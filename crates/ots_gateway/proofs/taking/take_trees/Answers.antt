@@ -1,5 +1,5 @@
 use Rattle.std.proofs.Common.{[], ◌<◌, length, set, sym, ap, ◌∙◌, arith}
-use Rattle.ots_upgrade.specs.declared.outcome.Outcome.TheVariants.{TooLong, Tree}
+use Rattle.ots_asking.specs.declared.outcome.Outcome.TheVariants.{TooLong, Tree}
 use Rattle.ots_gateway.proofs.Taken.{count_more, count_none, length_made, step_none, step_over, step_taken, whole_more}
 use Rattle.ots_gateway.proofs.taking.take_trees.Goals as goal
 use Rattle.ots_gateway.proofs.taking.take_trees.Goals.{in-Tree+in-Some, in-Tree+in-None+in-Tree-1, in-Tree+in-None+in-Unreachable-1, in_default}

@@ -1,6 +1,6 @@
 use Rattle.std.proofs.Common.{◌≡◌, ◌≤◌, ◌+◌, ◌++◌, drop, length, take}
 use Rattle.ots_base.specs.declared.limits.TheConstants.{MAX_REPLY_BODY}
-use Rattle.ots_upgrade.specs.Stamped.{good_trees}
+use Rattle.ots_stamp.specs.Stamped.{good_trees}
 use Rattle.ots_gateway.specs.Taking.{taking}
 use Rattle.ots_gateway.proofs.taking.take_trees.Given as goal
 

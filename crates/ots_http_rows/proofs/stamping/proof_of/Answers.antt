@@ -1,5 +1,5 @@
 use Rattle.std.proofs.Common.{subst}
-use Rattle.ots_upgrade.specs.Stamped.{IsGatheredBelow}
+use Rattle.ots_stamp.specs.Stamped.{IsGatheredBelow}
 use Rattle.ots_http_rows.proofs.stamping.proof_of.Goals as goal
 
 -- What was gathered is sound below the root.

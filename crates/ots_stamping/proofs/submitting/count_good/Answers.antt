@@ -1,6 +1,6 @@
 use Rattle.std.proofs.Common.{[], ◌∷◌, length, ap, ◌∙◌, arith}
 use Rattle.std.proofs.lemmas.List.{take_all}
-use Rattle.ots_upgrade.specs.Stamped.{good_trees}
+use Rattle.ots_stamp.specs.Stamped.{good_trees}
 use Rattle.ots_stamping.proofs.Counting.{count_next}
 use Rattle.ots_stamping.proofs.submitting.count_good.Goals as goal
 

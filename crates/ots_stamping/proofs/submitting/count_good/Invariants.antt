@@ -1,5 +1,5 @@
 use Rattle.std.proofs.Common.{◌≡◌, ◌≤◌, length, take}
-use Rattle.ots_upgrade.specs.Stamped.{good_trees}
+use Rattle.ots_stamp.specs.Stamped.{good_trees}
 use Rattle.ots_stamping.proofs.submitting.count_good.Given as goal
 
 -- So many of the first ones are good.

@@ -1,7 +1,7 @@
 use Rattle.std.proofs.Common.{◌≡◌, List, length, inr, ap, subst, sym, rules, ◌∙◌}
 use Rattle.std.proofs.lemmas.List.{length-map}
 use Rattle.std.specs.Prelude.{IfOk}
-use Rattle.ots_upgrade.specs.declared.target.Target.{Target}
+use Rattle.ots_stamp.specs.declared.target.Target.{Target}
 use Rattle.ots_client_endings.specs.Runs.{Finishes, at}
 use Rattle.ots_stamping.proofs.Submitted.{all_asked, as_many_heard, finishes_as}
 use Rattle.ots_stamping.specs.Answered.{AnswersTo, EndsStamping, Submits}

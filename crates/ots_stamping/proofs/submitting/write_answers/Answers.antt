@@ -7,8 +7,8 @@ use Rattle.ots_client_text.specs.declared.status.Status.TheVariants.{Done, TooFe
 use Rattle.ots_client_endings.proofs.Finished.{acts_finish, both_finish, ending}
 use Rattle.ots_stamping.specs.Answered.{EndsStamping, enough, too_few}
 use Rattle.ots_stamping.specs.Stamp.{calendars_text, stamp_acts}
-use Rattle.ots_upgrade.specs.Stamped.{AreSoundBelow, GathersAny, IsGatheredBelow, good_trees}
-use Rattle.ots_upgrade.specs.declared.outcome.Outcome.{Outcome}
+use Rattle.ots_stamp.specs.Stamped.{AreSoundBelow, GathersAny, IsGatheredBelow, good_trees}
+use Rattle.ots_asking.specs.declared.outcome.Outcome.{Outcome}
 use Rattle.ots_stamping.proofs.submitting.write_answers.Goals as goal
 use Rattle.ots_stamping.proofs.submitting.write_answers.Goals.{in_default-via-in-Some+else-got-submission, in_default-via-in_default}
 

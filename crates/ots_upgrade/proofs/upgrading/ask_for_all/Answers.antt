@@ -1,6 +1,6 @@
 use Rattle.std.proofs.Common.{arith, rules}
+use Rattle.ots_asking.proofs.Questions.{nothing_asked, on_err}
 use Rattle.ots_upgrade.proofs.Pairwise.{all_asked, asks_next, breaks_off_in}
-use Rattle.ots_upgrade.proofs.Questions.{nothing_asked, on_err}
 use Rattle.ots_upgrade.specs.Upgrading.{questions}
 use Rattle.ots_upgrade.proofs.upgrading.ask_for_all.Goals as goal
 

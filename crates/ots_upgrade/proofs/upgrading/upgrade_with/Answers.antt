@@ -1,7 +1,7 @@
 use Rattle.std.proofs.Common.{refl}
+use Rattle.ots_asking.proofs.Questions.{nothing_asked, on_err}
 use Rattle.ots_upgrade.proofs.AskedWith.{trees_same}
 use Rattle.ots_upgrade.proofs.Pairwise.{all_asked, sound_outcomes}
-use Rattle.ots_upgrade.proofs.Questions.{nothing_asked, on_err}
 use Rattle.ots_upgrade.specs.Upgrading.{questions}
 use Rattle.ots_upgrade.proofs.upgrading.upgrade_with.Goals as goal
 

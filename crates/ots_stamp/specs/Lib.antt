@@ -1,0 +1,4 @@
+pub mod Batch
+pub mod Stamped
+pub mod Stamping
+pub mod Ways

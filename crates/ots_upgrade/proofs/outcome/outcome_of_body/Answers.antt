@@ -1,7 +1,0 @@
-use Rattle.std.proofs.Common.{refl}
-use Rattle.ots_upgrade.specs.Outcome.{more}
-use Rattle.ots_upgrade.proofs.outcome.outcome_of_body.Goals as goal
-
--- src/outcome.rt:62:17
-pub returns-then-used-body-clause-outcome : goal.returns-then-used-body-clause-outcome
-returns-then-used-body-clause-outcome c = more _ _ c.in-Ok.ensures.ok c.if-used-body.true refl

@@ -1,9 +1,0 @@
-//! The mirror `otsmirror` once more, whose stored run is refused before the journal is opened.
-#![tactic(auto)]
-
-use ots_mirror_program::run_program;
-use std::process::ExitCode;
-
-fn main(rt: HostRuntime) -> ExitCode {
-    run_program(&rt)
-}
