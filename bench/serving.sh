@@ -1,18 +1,20 @@
 #!/bin/sh
-# Measures `otsd serve` beside a plain threaded server of std that appends and syncs once a request.
+# Measures `otsd serve` beside a plain threaded server of std that appends and syncs once a request, and beside the
+# same server where it is careful: its workers wait for connections one at a time, each connection has a time limit
+# for each way, and before it is closed its writing half is shut and what still comes is read, as by `otsd`.
 #
 #     bench/serving.sh OTSD [REQUESTS]
 #
-# OTSD is the built program. For POST and then GET, and for 1, 4, 16 and 64 clients with as many workers, both servers
+# OTSD is the built program. For POST and then GET, and for 1, 4, 16 and 64 clients with as many workers, all servers
 # run at once, on the same disk, and are asked in turn, five times each. It prints the medians of how many requests a
-# second each answered and of the 99th percentile in milliseconds, and what part of the plain server's requests
+# second each answered and of the 99th percentile in milliseconds, and what part of the others' requests
 # `otsd` answers. It needs rustc, speaks to 127.0.0.1 alone, and is run by hand.
 set -eu
 otsd=$1
 requests=${2:-2000}
 top=$(cd "$(dirname "$0")" && pwd)
 work=$(mktemp -d -p "${BENCH_FOLDER:-$PWD}")
-trap 'kill ${server:-} ${plain:-} 2>/dev/null || true; rm -rf "$work"' EXIT
+trap 'kill ${server:-} ${plain:-} ${careful:-} 2>/dev/null || true; rm -rf "$work"' EXIT
 rustc -O -o "$work/plain" "$top/serving/plain.rs"
 rustc -O -o "$work/load" "$top/serving/load.rs"
 printf 'kkkkkkkkkkkkkkkkkkkkkkkkkkkkkkkk' > "$work/key"
@@ -35,26 +37,32 @@ median() {
 
 for kind in post get; do
     for clients in 1 4 16 64; do
-        port=$((port + 2))
+        port=$((port + 3))
         "$otsd" "$work/journal-$port" serve --key "$work/key" --uri "http://127.0.0.1:$port" \
             --port "$port" --workers "$clients" > "$work/out-otsd-$port" &
         server=$!
         "$work/plain" "$work/file-$port" "$((port + 1))" "$clients" > "$work/out-plain-$port" &
         plain=$!
+        "$work/plain" "$work/careful-$port" "$((port + 2))" "$clients" careful > "$work/out-careful-$port" &
+        careful=$!
         wait_for "$work/out-otsd-$port"
         wait_for "$work/out-plain-$port"
-        rm -f "$work/otsd-figures" "$work/plain-figures"
+        wait_for "$work/out-careful-$port"
+        rm -f "$work/otsd-figures" "$work/plain-figures" "$work/careful-figures"
         for time in 1 2 3 4 5; do
             "$work/load" "$port" "$kind" "$clients" "$requests" >> "$work/otsd-figures"
             "$work/load" "$((port + 1))" "$kind" "$clients" "$requests" >> "$work/plain-figures"
+            "$work/load" "$((port + 2))" "$kind" "$clients" "$requests" >> "$work/careful-figures"
         done
-        kill "$server" "$plain"
-        wait "$server" "$plain" 2>/dev/null || true
-        for which in otsd plain; do
+        kill "$server" "$plain" "$careful"
+        wait "$server" "$plain" "$careful" 2>/dev/null || true
+        for which in otsd plain careful; do
             printf '%s %s clients, %s: %s a second, 99th percentile %s ms\n' "$kind" "$clients" "$which" \
                 "$(median "$work/$which-figures" 1)" "$(median "$work/$which-figures" 2)"
         done
-        printf '%s %s clients: %s of the plain server\n' "$kind" "$clients" \
-            "$(awk "BEGIN { printf \"%.2f\", $(median "$work/otsd-figures" 1) / $(median "$work/plain-figures" 1) }")"
+        for which in plain careful; do
+            printf '%s %s clients: %s of the %s server\n' "$kind" "$clients" "$(awk "BEGIN {
+                printf \"%.2f\", $(median "$work/otsd-figures" 1) / $(median "$work/$which-figures" 1) }")" "$which"
+        done
     done
 done

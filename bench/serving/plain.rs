@@ -1,15 +1,23 @@
 //! A plain threaded server beside which `otsd serve` is measured: it appends 56 bytes and syncs once a
 //! POST, and answers each GET from a map.
 //!
-//!     plain FILE PORT WORKERS
+//!     plain FILE PORT WORKERS [careful]
+//!
+//! A careful one keeps to what `otsd` keeps to in the network: one worker at a time waits for a connection, each
+//! connection has a time limit for each way, and before it is closed its writing half is shut and what still
+//! comes is read.
 
 use std::collections::HashMap;
 use std::env;
 use std::fs::File;
 use std::io::{self, Read, Write};
-use std::net::{TcpListener, TcpStream};
+use std::net::{Shutdown, TcpListener, TcpStream};
 use std::sync::{Arc, Mutex};
 use std::thread;
+use std::time::Duration;
+
+/// How long a careful server waits in one call.
+const LIMIT: Duration = Duration::from_secs(1);
 
 struct Calendar {
     file: File,
@@ -71,10 +79,28 @@ fn serve(stream: &mut TcpStream, calendar: &Mutex<Calendar>) -> io::Result<()> {
     reply(stream, "200 OK", "application/octet-stream", &[7; 68])
 }
 
+/// The next connection of a careful server.
+fn accept_carefully(listener: &Mutex<TcpListener>) -> io::Result<TcpStream> {
+    let (stream, _) = listener.lock().unwrap().accept()?;
+    stream.set_read_timeout(Some(LIMIT))?;
+    stream.set_write_timeout(Some(LIMIT))?;
+    Ok(stream)
+}
+
+/// Reads what still comes until the client closes.
+fn finish(mut stream: TcpStream) {
+    let mut piece = [0; 512];
+    if stream.shutdown(Shutdown::Write).is_ok() {
+        while matches!(stream.read(&mut piece), Ok(count) if count > 0) {}
+    }
+}
+
 fn main() -> io::Result<()> {
     let words: Vec<String> = env::args().collect();
     let file = File::options().create(true).append(true).open(&words[1])?;
     let listener = Arc::new(TcpListener::bind(("127.0.0.1", words[2].parse().unwrap()))?);
+    let one_by_one = Arc::new(Mutex::new(listener.try_clone()?));
+    let is_careful = words.get(4).is_some_and(|word| word == "careful");
     let calendar = Arc::new(Mutex::new(Calendar {
         file,
         known: HashMap::new(),
@@ -82,9 +108,14 @@ fn main() -> io::Result<()> {
     println!("listening {}", words[2]);
     let workers: Vec<_> = (0..words[3].parse().unwrap())
         .map(|_| {
-            let (listener, calendar) = (listener.clone(), calendar.clone());
+            let (listener, one_by_one, calendar) = (listener.clone(), one_by_one.clone(), calendar.clone());
             thread::spawn(move || loop {
-                if let Ok((mut stream, _)) = listener.accept() {
+                if is_careful {
+                    if let Ok(mut stream) = accept_carefully(&one_by_one) {
+                        let _ = serve(&mut stream, &calendar);
+                        finish(stream);
+                    }
+                } else if let Ok((mut stream, _)) = listener.accept() {
                     let _ = serve(&mut stream, &calendar);
                 }
             })

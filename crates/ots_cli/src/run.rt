@@ -25,8 +25,8 @@ use std::alloc::Global;
 ///
 /// It opens the files that the command reads, in order, each only once all before it are there and
 /// accepted, creates its outputs last, and changes no other name. `stamp` and `upgrade` read their
-/// list of calendars before any file. `stamp` draws a nonce for each file. Both ask calendars, each
-/// in a conversation of its own, before they make an output. The other commands leave the dialer as
+/// list of calendars before any file, and ask calendars, each in a conversation of its own, before
+/// they make an output. `stamp` draws a nonce for each file. The other commands leave the dialer as
 /// it is, and all but `stamp` the nonces.
 pub fn run_client<S: Shelf, K: Sink, D: Dialer, N: Nonces>(
     alloc: Global,
