@@ -1,6 +1,9 @@
 # Completion of the words of ots, of Gahopiki, for bash.
+#
+# It is put as gahopiki-ots, and a link ots leads to it where the program of that name is ours. It completes for the command
+# whose name it was read under, so that the words of another project's ots stay that project's.
 
-_ots() {
+_gahopiki_ots() {
     local word=${COMP_WORDS[COMP_CWORD]} before=${COMP_WORDS[COMP_CWORD - 1]}
     local command=${COMP_WORDS[1]} options=
     COMPREPLY=()
@@ -23,4 +26,4 @@ _ots() {
     *) mapfile -t COMPREPLY < <(compgen -f -- "$word") ;;
     esac
 }
-complete -o filenames -F _ots ots
+complete -o filenames -F _gahopiki_ots "$(basename "${BASH_SOURCE[0]}" .bash)"

@@ -13,7 +13,9 @@ segwit   prints the block that the tests have, its ids and its stripped transact
 
 Without a word it does the first three. It ends with status 1 on a difference. Where the library is missing it says
 so and ends with status 0. It needs rt, and is run by hand; the library is Debian's python3-bitcoinlib. The program
-is built in a folder of its own, outside the repository, from interop/blocks/main.rt.in.
+is built in a folder of its own, outside the repository, from interop/blocks/main.rt.in. The three comparisons take some
+20 seconds on four processors with other work beside (this script's part was measured: 7 for whole, 6 for changed, 4 for
+cut). Before them rt proves ots_block and the crates below it in that folder, which takes longer and was not measured.
 """
 
 import collections

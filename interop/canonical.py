@@ -7,7 +7,9 @@ It works on trees of the reference library's operations and attestations, in whi
 they stand in a file; the library itself joins them when it reads. Small random trees with many equal siblings,
 and the large proofs of bench/canonical/proofs.py. For each large proof it prints the SHA-256 of each result.
 Every output must be the same, byte for byte. It needs the built program (./run ots) and Debian's
-python3-opentimestamps.
+python3-opentimestamps, is run by hand, and takes some six minutes on four processors with other work beside:
+two seconds for the random trees, a minute for each of the proofs of 4 MiB with chains of long appends or of hashes,
+two and a half for the one of 19,000 chains of hashes. All but some ten seconds of it is this script's own.
 """
 
 import hashlib

@@ -7,16 +7,21 @@
 # man/otsgate.1: the same of their literal blocks. The programs have to be built (./run ots, otsd, otsmirror, otsgate); xxd, openssl and curl have to be there. It ends with 0 where
 # all is as written, with 1 on a difference, and with 70 where the program is not there.
 # Where PREFIX is given, as where a package was unpacked, the programs of PREFIX/bin run, by that path, the commands of the
-# man pages below PREFIX/share/man.
+# man pages below PREFIX/share/man. The client there is gahopiki-ots: another program may be called ots.
 set -u
 
 top=$(CDPATH='' cd -- "$(dirname -- "$0")/.." && pwd) || exit 70
 bin=$top/build
 prefix=${1:+$(CDPATH='' cd -- "$1" && pwd)} || exit 70
 [ -z "$prefix" ] || bin=$prefix/bin
+# The file of a program in that folder.
+file_of() {
+    if [ -n "$prefix" ] && [ "$1" = ots ]; then echo gahopiki-ots; else echo "$1"; fi
+}
+
 for program in ots otsd otsmirror otsgate; do
-    if [ ! -x "$bin/$program" ]; then
-        echo "$bin/$program is not there: ./run $program builds build/$program" >&2
+    if [ ! -x "$bin/$(file_of $program)" ]; then
+        echo "$bin/$(file_of $program) is not there: ./run $program builds build/$program" >&2
         exit 70
     fi
 done
@@ -83,7 +88,7 @@ make_folder() {
     cp "$top/examples/coinbase" "$1/file"
     cp "$top/examples/coinbase.ots" "$1/file.ots"
     for program in ots otsd otsmirror otsgate; do
-        ln -s "$bin/$program" "$1/bin/$program"
+        ln -s "$bin/$(file_of $program)" "$1/bin/$program"
     done
     for script in run install; do
         printf '#!/bin/sh\nexec "%s/%s" "$@"\n' "$top" "$script" >"$1/$script"
@@ -129,7 +134,7 @@ cd "$top" || exit 70
 if [ -n "$prefix" ]; then
     mkdir "$work/pages" || exit 70
     for program in ots otsd otsmirror otsgate; do
-        gzip -dc "$prefix/share/man/man1/$program.1.gz" >"$work/pages/$program.1" || exit 70
+        gzip -dc "$prefix/share/man/man1/$(file_of $program).1.gz" >"$work/pages/$program.1" || exit 70
         try_page "$work/pages/$program.1" examples
     done
 else

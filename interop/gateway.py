@@ -1,7 +1,7 @@
 #!/usr/bin/python3
 """Runs `otsgate` over real sockets before two calendars, `otsd serve`, with clients of its own and `ots stamp`.
 
-    interop/gateway.py [--clients NUMBER] [--round NUMBER]
+    interop/gateway.py [--clients NUMBER] [--round NUMBER] [--otsgate FILE]
 
 Two calendars serve on ports of 127.0.0.1, and a gateway that needs a tree of both. NUMBER clients, 64 where none is
 given, send a random digest each, as POST /digest, in rounds of 16 where none is given; another client is `ots stamp`.
@@ -15,7 +15,15 @@ proof that `ots stamp` wrote is completed by `ots upgrade` and confirmed by `ots
 
 Where the reference library is there (python3-opentimestamps), its RemoteCalendar is one of the clients of each round;
 what it got is completed by the library at both calendars, and the library confirms it with both headers.
-It runs build/ots, build/otsd and build/otsgate (`./run NAME` builds each), prints what it did, and ends with status 1
+
+Then peers that mean ill, which take some 45 seconds:
+- 8 links that say nothing are a round of 8: it is over within 13 seconds, for all of them have the same 10;
+- of three calendars the middle one lets in and says nothing, and two are needed: the clients have their trees within 23
+  seconds, for each calendar is given 20;
+- 8 clients that have their reply and do not close: the gateway closes them within 3 seconds of the last reply, for all of
+  them have the same second;
+- a signal to end, while 7 of a round of 8 are there: each of them gets an end and no reply.
+It runs build/ots, build/otsd and build/otsgate or FILE (`./run NAME` builds each), prints what it did, and ends with status 1
 at the first difference. It is run by hand.
 """
 
@@ -49,6 +57,8 @@ TOP = os.path.dirname(os.path.dirname(os.path.abspath(__file__)))
 OTS, OTSD, OTSGATE = (os.path.join(TOP, 'build', name) for name in ('ots', 'otsd', 'otsgate'))
 MOST_BODY = 10_000
 HEIGHT = 800_000
+REQUEST = b'POST /digest HTTP/1.1\r\nHost: x\r\nContent-Length: 32\r\n\r\n'
+otsgate = OTSGATE
 
 
 def fail(text):
@@ -121,7 +131,7 @@ class Gateway:
 
     def __init__(self, calendars, least, port, most, accept):
         self.calendars, self.port = calendars, port
-        words = [OTSGATE, '--calendars', ','.join(one.uri for one in calendars), '--min', str(least), '--port',
+        words = [otsgate, '--calendars', ','.join(one.uri for one in calendars), '--min', str(least), '--port',
                  str(port), '--round', str(most), '--accept', str(accept)]
         self.process = subprocess.Popen(words, stdout=subprocess.PIPE)
         atexit.register(self.process.kill)
@@ -343,13 +353,107 @@ def causes(folder, rng):
     print('503 upstream, 404 and 405 where they are due')
 
 
+class Silent:
+    """A calendar that lets in and says nothing."""
+
+    def __init__(self):
+        self.socket = socket.create_server(('127.0.0.1', 0))
+        self.uri = f'http://127.0.0.1:{self.socket.getsockname()[1]}'
+
+
+def calendars_of(folder, rng, names):
+    """Calendars that serve."""
+    made = [Calendar(folder, name, free_port()) for name in names]
+    for one in made:
+        with open(os.path.join(folder, one.name + '.key'), 'wb') as out:
+            out.write(rng.randbytes(32))
+        one.start()
+    return made
+
+
+def within(what, began, most):
+    """Says how long it took, and ends where that was longer."""
+    took = time.monotonic() - began
+    if took > most:
+        fail(f'{what}: {took:.1f} s, and not within {most}')
+    print(f'{what}: {took:.1f} s of {most}', flush=True)
+
+
+def sent(port, digests):
+    """Clients that have sent a digest each."""
+    links = [socket.create_connection(('127.0.0.1', port), timeout=60) for _ in digests]
+    for one, digest in zip(links, digests):
+        one.sendall(REQUEST + digest)
+    return links
+
+
+def read_whole(link):
+    """All that comes of a link up to its end, which may be a reset."""
+    got = b''
+    try:
+        while piece := link.recv(65536):
+            got += piece
+    except ConnectionResetError:
+        pass
+    return got
+
+
+def ill(folder, rng):
+    """Peers that mean ill, on either side."""
+    calendars = calendars_of(folder, rng, ('fifth', 'sixth'))
+    # silent links
+    gateway = Gateway(calendars, 2, free_port(), 8, 8)
+    began = time.monotonic()
+    links = [socket.create_connection(('127.0.0.1', gateway.port)) for _ in range(8)]
+    same('its lines of silent links', gateway.end(), 'round 0\n')
+    within('a round of 8 links that say nothing', began, 13)
+    for one in links:
+        one.close()
+    # a silent calendar
+    silent = Silent()
+    gateway = Gateway([calendars[0], silent, calendars[1]], 2, free_port(), 2, 2)
+    began = time.monotonic()
+    digests = [rng.randbytes(32) for _ in range(2)]
+    replies = at_once([lambda digest=digest: stamped(gateway.port, digest) for digest in digests])
+    within('two trees of three calendars, of which one says nothing', began, 23)
+    check_round([check_reply(digest, body, [one.uri for one in calendars]) for digest, body in zip(digests, replies)])
+    same('its lines with a silent calendar', gateway.end(),
+         f'{calendars[0].uri} ok\n{silent.uri} unreachable\n{calendars[1].uri} ok\nround 2\n')
+    # clients that do not close
+    gateway = Gateway(calendars, 2, free_port(), 8, 8)
+    links = sent(gateway.port, [rng.randbytes(32) for _ in range(8)])
+    for one in links:
+        if b' 200 ' not in read_whole(one)[:20]:
+            fail('a client that does not close has no reply')
+    began = time.monotonic()
+    gateway.end()
+    within('the end of a round of 8 clients that do not close', began, 3)
+    for one in links:
+        one.close()
+    # a signal
+    gateway = Gateway(calendars, 2, free_port(), 8, 16)
+    links = sent(gateway.port, [rng.randbytes(32) for _ in range(7)])
+    time.sleep(1)
+    began = time.monotonic()
+    gateway.process.send_signal(signal.SIGTERM)
+    same('how it ends by a signal', gateway.process.wait(60), -signal.SIGTERM)
+    same('what the clients of its round get', {read_whole(one) for one in links}, {b''})
+    same('its lines by then', gateway.process.stdout.read(), b'')
+    within('the end by a signal, with 7 of a round of 8 there', began, 3)
+    for calendar in calendars:
+        calendar.stop()
+
+
 def main():
+    global otsgate
     parser = argparse.ArgumentParser()
     parser.add_argument('--seed', type=int, default=1)
     parser.add_argument('--clients', type=int, default=64)
     parser.add_argument('--round', type=int, default=16)
+    parser.add_argument('--otsgate', default=OTSGATE)
     words = parser.parse_args()
-    for program in OTS, OTSD, OTSGATE:
+    otsgate = words.otsgate
+    for program in OTS, OTSD, otsgate:
         if not os.access(program, os.X_OK):
             print(f'{program} is not there: ./run {os.path.basename(program)} builds it', file=sys.stderr)
             sys.exit(70)
@@ -357,6 +461,7 @@ def main():
     with tempfile.TemporaryDirectory() as folder:
         whole(folder, rng, words.clients, words.round)
         causes(folder, rng)
+        ill(folder, rng)
     print('no difference')
 
 

@@ -12,9 +12,9 @@ one is not so. With --silent there are calendars besides that say nothing, which
 those cases run whose lines have one of them.
 
 It runs build/ots, build/otsd, build/otsmirror and build/otsgate (`./run NAME` builds each), or those of another folder,
-speaks to 127.0.0.1 alone, and is run by hand, on Linux. Closed streams, failing syncs, failing accepts and clients that
-mean ill, and a system without random bytes, are tried by closed_output.sh, failing_sync.sh, failing_accept.py,
-hostile.py and failing_random.py.
+speaks to 127.0.0.1 alone, and is run by hand, on Linux. Closed streams, failing syncs, outputs whose calls fail, limits on
+the size of files, failing accepts, clients that mean ill, and a system without random bytes, are tried by closed_output.sh,
+failing_sync.sh, failing_outputs.py, file_limits.py, failing_accept.py, hostile.py and failing_random.py.
 """
 
 import argparse

@@ -126,14 +126,21 @@ class Calendar:
             return self.port
         self.stop()
         write(self.folder, 'served', data)
-        with socket.socket() as one:
-            one.bind(('127.0.0.1', 0))
-            self.port = one.getsockname()[1]
-        self.process = subprocess.Popen([OTSD, 'served', 'serve', '--key', 'key', '--uri', 'http://127.0.0.1:1', '--port', str(self.port)],
-                                        cwd=self.folder, stdout=subprocess.PIPE)
-        assert self.process.stdout.readline().startswith(b'listening')
-        self.journal = data
-        return self.port
+        # Between its naming and its use another process may take a port: then the next one is tried.
+        for _ in range(20):
+            with socket.socket() as one:
+                one.bind(('127.0.0.1', 0))
+                self.port = one.getsockname()[1]
+            words = ['served', 'serve', '--key', 'key', '--uri', 'http://127.0.0.1:1', '--port', str(self.port)]
+            self.process = subprocess.Popen([OTSD, *words], cwd=self.folder, stdout=subprocess.PIPE)
+            first = self.process.stdout.readline()
+            if first == f'listening {self.port}\n'.encode():
+                self.journal = data
+                return self.port
+            self.stop()
+            if first != b'accept fault\n':
+                sys.exit(f'otsd does not serve: {first!r}')
+        sys.exit('otsd finds each port taken')
 
     def stop(self):
         if self.process:

@@ -7,7 +7,7 @@ use ots_calendar_commands::{DaemonStatus, run_calendar};
 use ots_file::{FileDisk, SystemFile};
 use ots_io::{DirShelf, RngNonces, StdSink, SystemClock, TcpAccepter};
 use ots_program_words::{first_word, read_words};
-use ots_standard_streams::StandardStreams;
+use ots_standard_streams::{StandardOutput, StandardStreams};
 use rand::rngs::SysRng;
 use std::alloc::{AllocError, Global};
 use std::io;
@@ -50,7 +50,7 @@ fn run(
 ) -> Result<DaemonStatus, AllocError> {
     let disk = FileDisk::new(SystemFile::new(rt, first_word(alloc, words)?));
     let mut shelf = DirShelf::new(rt, alloc);
-    let mut out = StdSink::new(io::writer(rt));
+    let mut out = StdSink::new(StandardOutput::new(rt, io::writer(rt)));
     let (status, _returned) = run_calendar(
         threads,
         alloc,
@@ -58,7 +58,7 @@ fn run(
         disk,
         &mut shelf,
         &mut out,
-        TcpAccepter::new(rt),
+        TcpAccepter::new(rt, alloc),
         SystemClock::new(rt),
         RngNonces::new(SysRng::new(rt)),
     );

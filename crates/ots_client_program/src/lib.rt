@@ -6,7 +6,7 @@
 use ots_cli::{Status, run_client};
 use ots_io::{DirShelf, RngNonces, StdSink, TcpDialer};
 use ots_program_words::read_words;
-use ots_standard_streams::StandardStreams;
+use ots_standard_streams::{StandardOutput, StandardStreams};
 use rand::rngs::SysRng;
 use std::alloc::{AllocError, Global};
 use std::io;
@@ -35,7 +35,7 @@ pub fn run_words(rt: &HostRuntime, alloc: Global, words: &[String]) -> Status {
 /// Runs the client over the real objects.
 fn run(rt: &HostRuntime, alloc: Global, words: &[String]) -> Status {
     let mut shelf = DirShelf::new(rt, alloc);
-    let mut out = StdSink::new(io::writer(rt));
+    let mut out = StdSink::new(StandardOutput::new(rt, io::writer(rt)));
     let mut dialer = TcpDialer::new(rt, alloc);
     let mut nonces = RngNonces::new(SysRng::new(rt));
     run_client(alloc, words, &mut shelf, &mut out, &mut dialer, &mut nonces)

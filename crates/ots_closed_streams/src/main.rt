@@ -1,6 +1,9 @@
-//! Both programs started without standard streams: nothing that they print gets into a file, and what
-//! was stored stays. The status is the number of the first check that fails, from 1, and 0 where all
-//! hold.
+//! The four programs started without standard output, and then without any standard stream: nothing
+//! that they print gets into a file or a socket, and what was stored stays. The status is the number of
+//! the first check that fails, from 1, and 0 where all hold.
+//!
+//! What a process opens gets the lowest descriptor that is free. So where output alone is closed the
+//! first file would take its descriptor, and where all are closed the first socket after a journal.
 #![tactic(auto)]
 
 use ots_file::{FileDisk, SystemFile};
@@ -14,9 +17,7 @@ use std::thread::Threads;
 const WRITE_FAULT: u8 = 7;
 
 fn main(rt: HostRuntime) -> ExitCode {
-    for descriptor in 0..3 {
-        let _ = libc::close(descriptor);
-    }
+    let _ = libc::close(1);
     let failed = match first_failed(&rt, &rt) {
         Ok(failed) => failed,
         Err(AllocError) => u8::MAX,
@@ -28,8 +29,8 @@ fn first_failed(
     rt: &HostRuntime,
     threads: &(impl Threads + Wait + Sync),
 ) -> Result<u8, AllocError> {
-    // Each journal has one record. `tip` and `batch` print once theirs is stored, `serve` before it
-    // serves.
+    // Each journal has one record. `tip` and `batch` print once theirs is stored, the mirror when its
+    // journal is open, `serve` and the gateway before they serve.
     if !stores(rt, threads, "list.journal list", 1)? {
         return Ok(1);
     }
@@ -40,25 +41,37 @@ fn first_failed(
     if !stores(rt, threads, words, 2)? {
         return Ok(3);
     }
-    let words = "serve.journal serve --key key --uri http://127.0.0.1:1 --port 47799";
-    if !stores(rt, threads, words, 1)? {
-        return Ok(4);
-    }
     if client(rt, "info in.ots")? != WRITE_FAULT {
-        return Ok(5);
+        return Ok(4);
     }
     // The line of a calendar is printed before a proof is made.
     let words = "stamp --calendars http://127.0.0.1:1 --min 1 digests";
     if client(rt, words)? != WRITE_FAULT || fs::read(rt, "digests.ots").is_ok() {
-        return Ok(6);
+        return Ok(5);
     }
     let words = "upgrade --calendars http://127.0.0.1:1 in.ots upgraded.ots";
     if client(rt, words)? != WRITE_FAULT || fs::read(rt, "upgraded.ots").is_ok() {
-        return Ok(7);
+        return Ok(6);
     }
     // It prints nothing.
     if client(rt, "canon in.ots canon.ots")? != 0 || !are_same(rt, "in.ots", "canon.ots") {
+        return Ok(7);
+    }
+    if mirror(rt, "list.journal http://127.0.0.1:1 --rounds 1")? != WRITE_FAULT
+        || count(rt, String::from_str(rt.alloc(), "list.journal")?) != Some(1)
+    {
         return Ok(8);
+    }
+    for descriptor in [0, 2] {
+        let _ = libc::close(descriptor);
+    }
+    let words = "serve.journal serve --key key --uri http://127.0.0.1:1 --port 47799";
+    if !stores(rt, threads, words, 1)? {
+        return Ok(9);
+    }
+    let words = "--calendars http://127.0.0.1:1 --min 1 --port 47798 --round 1 --accept 1";
+    if gateway(rt, threads, words)? != WRITE_FAULT {
+        return Ok(10);
     }
     Ok(0)
 }
@@ -92,6 +105,18 @@ fn count(rt: &HostRuntime, name: String) -> Option<u64> {
 fn client(rt: &HostRuntime, words: &str) -> Result<u8, AllocError> {
     let words = split(rt, words)?;
     Ok(ots_client_program::run_words(rt, rt.alloc(), &words).number())
+}
+
+/// What the mirror ends with.
+fn mirror(rt: &HostRuntime, words: &str) -> Result<u8, AllocError> {
+    let words = split(rt, words)?;
+    Ok(ots_mirror_program::run_words(rt, rt.alloc(), &words).number())
+}
+
+/// What the gateway ends with.
+fn gateway(rt: &HostRuntime, wait: &impl Wait, words: &str) -> Result<u8, AllocError> {
+    let words = split(rt, words)?;
+    Ok(ots_gateway_program::run_words(rt, wait, rt.alloc(), &words).number())
 }
 
 fn split(rt: &HostRuntime, words: &str) -> Result<Vec<String>, AllocError> {

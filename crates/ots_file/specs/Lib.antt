@@ -4,6 +4,7 @@ pub mod FileDisk
 pub mod MemoryFile
 pub mod Note
 pub mod Props
+pub mod Record
 pub mod Runs
 pub mod Supposed
 pub mod SystemFile

@@ -1,5 +1,6 @@
 -- What the record of a system's file notes.
-use Rattle.std.specs.Prelude.{ℕ, zero, suc, Bool, List, slice_index, ◌==◌}
+use Rattle.std.specs.Prelude.{ℕ, zero, suc, Bool, List, [], ◌∷◌, slice_index, ◌==◌}
+use Rattle.ots_real.specs.CallRecord.{Note}
 use Rattle.ots_file.specs.Events.{FileEvent}
 use Rattle.ots_file.specs.Events.FileEvent.{opened, folder_synced, pages_dropped, measured, got, wrote, synced}
 
@@ -17,3 +18,7 @@ abbrev pub event_of : List ℕ → List ℕ → FileEvent
 event_of numbers bytes =
     event_from (slice_index numbers 0) (slice_index numbers 1) (slice_index numbers 2)
     (slice_index numbers 3 == 1) bytes
+
+abbrev pub events_from : List Note → List FileEvent
+events_from [] = []
+events_from (note ∷ earlier) = event_of note.numbers note.bytes ∷ events_from earlier

@@ -4,6 +4,7 @@ ghost use Rattle.std.specs.List.{list_any};
 ghost use Rattle.ots_disk.specs.Disk.{put};
 ghost use Rattle.ots_file.specs.Events.{replay, has_failed_sync, IsHonest};
 ghost use Rattle.ots_file.specs.Props.{honest_prop};
+ghost use Rattle.ots_file.specs.Record.{events_of};
 
 use crate::FileCalls;
 use crate::record::Record;
@@ -38,11 +39,11 @@ pub struct MemoryFile {
     gave_up: bool,
     log: Record,
     ghost some: { 0 < most },
-    ghost truthful: { IsHonest first.items log.events } by { honest_prop first.items log.events },
-    ghost read: { is_settled ≡ true → bytes.items ≡ (replay first.items log.events).bytes },
-    ghost whole: { gave_up ≡ false → target.items ≡ (replay first.items log.events).bytes },
-    ghost kept: { has_failed_sync log.events ≡ false → gave_up ≡ false },
-    ghost durable: { has_failed_sync log.events ≡ false → device.items ≡ (replay first.items log.events).durable },
+    ghost truthful: { IsHonest first.items (events_of log) } by { honest_prop first.items (events_of log) },
+    ghost read: { is_settled ≡ true → bytes.items ≡ (replay first.items (events_of log)).bytes },
+    ghost whole: { gave_up ≡ false → target.items ≡ (replay first.items (events_of log)).bytes },
+    ghost kept: { has_failed_sync (events_of log) ≡ false → gave_up ≡ false },
+    ghost durable: { has_failed_sync (events_of log) ≡ false → device.items ≡ (replay first.items (events_of log)).durable },
     ghost longer: { length device.items ≤ length target.items },
 }
 
@@ -89,7 +90,7 @@ impl MemoryFile {
 }
 
 impl FileCalls for MemoryFile {
-    ghost history = { λ f. f.log.events };
+    ghost history = { λ f. events_of f.log };
 
     ghost folder = { λ _. [] };
 

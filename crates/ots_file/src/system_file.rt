@@ -4,6 +4,7 @@ ghost use Rattle.std.specs.Path.{path_buf_bytes};
 use crate::FileCalls;
 use crate::record::Record;
 use ots_outside::Failed;
+use ots_real::size_limit;
 use std::fs::{File, OpenOptions};
 use std::io::ErrorKind;
 use std::os::fd::AsRawFd;
@@ -23,7 +24,9 @@ const MAX_PLACE: u64 = (1 << 63) - 1;
 /// name. Its folder is the one that the resolved name stands in. A second hard link is not refused.
 /// The system's lock on the file is taken, and held until the value is dropped or opened anew.
 ///
-/// A call that a signal cut short is made again, and only its last answer is noted. Nothing is done
+/// A call that a signal cut short is made again, and only its last answer is noted. A write that would
+/// begin at the size up to which the system lets a file grow fails, and the system is not asked: it
+/// would end the process by a signal. Nothing is done
 /// here for the standard streams: descriptors 0 to 2 are taken before any file is opened, by the
 /// program, so that nothing that is meant for one of them lands in the file.
 #[derive(Drop)]
@@ -54,7 +57,9 @@ impl<R: Files<File = File> + AllocGlobal> SystemFile<R> {
 }
 
 impl<R: Files<File = File> + AllocGlobal> FileCalls for SystemFile<R> {
-    ghost history = { λ f. f.log.events };
+    ghost use Rattle.ots_file.specs.Record.{events_of};
+
+    ghost history = { λ f. events_of f.log };
 
     ghost folder = { λ f. path_buf_bytes f.folder };
 
@@ -206,6 +211,9 @@ fn write(file: &Option<File>, place: u64, piece: &[u8]) -> io::Result<usize>
 {
     if place > MAX_PLACE {
         return Err(io::Error::from(ErrorKind::InvalidInput));
+    }
+    if place >= size_limit() {
+        return Err(io::Error::from(ErrorKind::FileTooLarge));
     }
     let file = held(file)?;
     for _ in 0..u64::MAX {

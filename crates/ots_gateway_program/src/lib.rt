@@ -6,7 +6,7 @@ use ots_gateway_run::run_gateway;
 use ots_gateway_words::GateStatus;
 use ots_io::{RngNonces, StdSink, TcpAccepter, TcpDialer};
 use ots_program_words::read_words;
-use ots_standard_streams::StandardStreams;
+use ots_standard_streams::{StandardOutput, StandardStreams};
 use rand::rngs::SysRng;
 use std::alloc::{AllocError, Global};
 use std::io;
@@ -44,9 +44,9 @@ fn run(rt: &HostRuntime, wait: &impl Wait, alloc: Global, words: &[String]) -> G
         wait,
         alloc,
         words,
-        &mut TcpAccepter::new(rt),
-        &mut TcpDialer::new(rt, alloc),
+        &mut TcpAccepter::for_rounds(rt, alloc),
+        &mut TcpDialer::for_rounds(rt, alloc),
         &mut RngNonces::new(SysRng::new(rt)),
-        &mut StdSink::new(io::writer(rt)),
+        &mut StdSink::new(StandardOutput::new(rt, io::writer(rt))),
     )
 }

@@ -7,5 +7,5 @@ mod limits;
 
 pub use limits::{
     limits_of_calendars, limits_of_commands, limits_of_conversations, limits_of_journals,
-    limits_of_memory, limits_of_proofs,
+    limits_of_memory, limits_of_proofs, limits_of_time,
 };

@@ -1,5 +1,5 @@
 //! The laws.
-ghost use Rattle.std.specs.Prelude.{◌≡◌};
+ghost use Rattle.std.specs.Prelude.{◌≡◌, pos};
 ghost use Rattle.ots_address.specs.declared.limits.TheConstants.{DEFAULT_PORT, MAX_CALENDARS, MAX_HOST};
 ghost use Rattle.ots_base.specs.declared.limits.TheConstants.{MAX_ARGUMENT, MAX_HEADER_FILE, MAX_HEXLIFIED};
 ghost use Rattle.ots_base.specs.declared.limits.TheConstants.{MAX_MESSAGE};
@@ -14,6 +14,10 @@ ghost use Rattle.ots_http.specs.declared.limits.TheConstants.{MAX_FIELDS, MAX_HE
 ghost use Rattle.ots_journal.specs.declared.limits.TheConstants.{EMPTY_JOURNAL, MAX_ENTRY_PAYLOAD, MAX_GROUP};
 ghost use Rattle.ots_journal.specs.declared.limits.TheConstants.{MAX_JOURNAL, MIN_ENTRY_PAYLOAD};
 ghost use Rattle.ots_outside.specs.declared.small_bytes.TheConstants.{MAX_DIGEST};
+ghost use Rattle.ots_real.specs.declared.conversation.TheConstants.{CONNECT_SECONDS, CONVERSATION_SECONDS};
+ghost use Rattle.ots_real.specs.declared.conversation.TheConstants.{DRAIN_BYTES, DRAIN_SECONDS, LISTEN_QUEUE, MAX_HELD};
+ghost use Rattle.ots_real.specs.declared.conversation.TheConstants.{ROUND_CONVERSATION_SECONDS};
+ghost use Rattle.ots_real.specs.declared.conversation.TheConstants.{REPLY_SECONDS, REQUEST_SECONDS, WAIT_SECONDS};
 ghost use Rattle.ots_reader.specs.declared.token_reader.TheConstants.{TOKEN_READER_BYTES};
 ghost use Rattle.ots_round.specs.declared.hmac.TheConstants.{MAX_KEY};
 ghost use Rattle.ots_round.specs.declared.round.TheConstants.{COMMITMENT};
@@ -67,6 +71,20 @@ pub fn limits_of_conversations()
     ensures round { gateway.MAX_ROUND ≡ 1024 }
     ensures links { gateway.MAX_ACCEPT ≡ 4294967295 }
     ensures gateway_port { gateway.MAX_PORT ≡ 65535 }
+{}
+
+/// Of the time, in seconds, that a peer is waited for, and of how many wait.
+pub fn limits_of_time()
+    ensures request { REQUEST_SECONDS ≡ 10 }
+    ensures reply { REPLY_SECONDS ≡ 10 }
+    ensures connect { CONNECT_SECONDS ≡ 10 }
+    ensures conversation { CONVERSATION_SECONDS ≡ 60 }
+    ensures round { ROUND_CONVERSATION_SECONDS ≡ 20 }
+    ensures wait { WAIT_SECONDS ≡ 1 }
+    ensures drain { DRAIN_SECONDS ≡ 1 }
+    ensures drained { DRAIN_BYTES ≡ 8192 }
+    ensures held { MAX_HELD ≡ 16384 }
+    ensures queue { LISTEN_QUEUE ≡ pos 4096 }
 {}
 
 /// Of journals and their records.

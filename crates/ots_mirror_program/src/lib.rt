@@ -6,7 +6,7 @@ use ots_file::{FileDisk, SystemFile};
 use ots_io::{StdSink, TcpDialer};
 use ots_mirror::{MirrorStatus, run_mirror};
 use ots_program_words::{first_word, read_words};
-use ots_standard_streams::StandardStreams;
+use ots_standard_streams::{StandardOutput, StandardStreams};
 use std::alloc::{AllocError, Global};
 use std::io;
 use std::process::ExitCode;
@@ -34,7 +34,7 @@ pub fn run_words(rt: &HostRuntime, alloc: Global, words: &[String]) -> MirrorSta
 /// Runs the mirror over the real objects.
 fn run(rt: &HostRuntime, alloc: Global, words: &[String]) -> Result<MirrorStatus, AllocError> {
     let disk = FileDisk::new(SystemFile::new(rt, first_word(alloc, words)?));
-    let mut out = StdSink::new(io::writer(rt));
+    let mut out = StdSink::new(StandardOutput::new(rt, io::writer(rt)));
     let mut dialer = TcpDialer::new(rt, alloc);
     let (status, _disk) = run_mirror(alloc, words, disk, &mut out, &mut dialer);
     Ok(status)

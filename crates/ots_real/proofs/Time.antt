@@ -38,7 +38,7 @@ tried_more s t u a b c x y z result call tried = record {
 pub time_answered : {S Answer Failure : Type 0} (s t u : Option S) (a b c x y z : TimeLimit) (result : Result Answer Failure) → KeepsTime t u b c y z result → Tried s t a b x y → KeepsTime s u a c x z result
 time_answered s t u a b c x y z result call tried = record {
   runs = runs_trans a b c (tried.runs) (call.runs);
-  running = call.running;
+  begun = call.begun;
   other_way = rw (call.other_way) (tried.other_way);
   stays_open = rw (call.stays_open) (tried.stays_open);
   closed = λ is. call.closed (none_stays s t (tried.stays_open) is);
@@ -47,7 +47,7 @@ time_answered s t u a b c x y z result call tried = record {
 pub time_failed : {S Answer Failure : Type 0} (s t : Option S) (a b x y : TimeLimit) (failure : Failure) → Tried s t a b x y → KeepsTime {Answer = Answer} s t a b x y (Err failure)
 time_failed s t a b x y failure tried = record {
   runs = tried.runs;
-  running = search rules;
+  begun = search rules;
   other_way = tried.other_way;
   stays_open = tried.stays_open;
   closed = λ is. search rules;

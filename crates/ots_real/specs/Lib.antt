@@ -1,7 +1,11 @@
 pub mod AcceptError
 pub mod Counting
 pub mod DirShelf
+pub mod FileCalls
+pub mod FileLog
+pub mod NewFile
 pub mod OpenFile
+pub mod CallRecord
 pub mod RngNonces
 pub mod SlotTable
 pub mod Sockets

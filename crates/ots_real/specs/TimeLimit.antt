@@ -38,12 +38,12 @@ pub record IsUnbegun (whole : Duration) (limit : TimeLimit) : Type 0 where
   pub length : limit_length limit ≡ whole
   pub began : limit_began limit ≡ None
 
--- It has begun, and the socket has a timeout for a call.
-pub record IsRunning (limit : TimeLimit) : Type 0 where
-  pub began : IsSome (limit_began limit)
-  pub timeout : IsSome (limit_timeout limit)
-
 -- A call keeps the length of its limit, and when it began; one that had not begun it may begin.
 pub record Runs (old new : TimeLimit) : Type 0 where
   pub length : limit_length new ≡ limit_length old
   pub began : IsSome (limit_began old) → limit_began new ≡ limit_began old
+
+-- It has begun, and is no longer than this.
+pub record BeganWithin (whole : Duration) (limit : TimeLimit) : Type 0 where
+  pub length : as_nanos (limit_length limit) ≤ as_nanos whole
+  pub began : IsSome (limit_began limit)

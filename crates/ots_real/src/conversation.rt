@@ -4,8 +4,8 @@ ghost use Rattle.ots_real.specs.TimeLimit.{IsLeft};
 
 use std::time::Duration;
 
-/// The most seconds that a request takes, from our first read of it to the last. A peer that sends
-/// nothing, or a byte now and then, is cut off after them, so that none holds a worker for long: a
+/// The most seconds that a request takes, from the accept of its connection on. A peer that sends
+/// nothing, or a byte now and then, is waited for no longer, so that none holds a worker for long: a
 /// request to a calendar is some hundred bytes, and comes within two round trips. The limit is this
 /// project's.
 pub const REQUEST_SECONDS: u64 = 10;
@@ -19,12 +19,17 @@ pub const REPLY_SECONDS: u64 = 10;
 /// this is more than a request and a reply take. The limit is this project's.
 pub const CONVERSATION_SECONDS: u64 = 60;
 
+/// The most seconds that a gateway's conversation with a calendar lasts. Its clients wait a minute for
+/// all of a round, so that two calendars that are silent fit into it. The limit is this project's.
+pub const ROUND_CONVERSATION_SECONDS: u64 = 20;
+
 /// The most seconds that one address of a host is given to answer a connect. The limit is this
 /// project's.
 pub const CONNECT_SECONDS: u64 = 10;
 
-/// The most seconds that a finished link waits for the end of what its peer sends. A peer whose reply
-/// has come closes at once, so this is a few round trips. The limit is this project's.
+/// The most seconds that a finished link waits for the end of what its peer sends, from its finish on.
+/// A peer whose reply has come closes at once, so this is a few round trips. The limit is this
+/// project's.
 pub const DRAIN_SECONDS: u64 = 1;
 
 /// The most bytes that a finished link reads and drops of what its peer still sends, as the rest of
@@ -35,6 +40,16 @@ pub const DRAIN_BYTES: usize = 8_192;
 /// as long as its limit isn't over, so a socket mostly has one timeout from its first call on: setting
 /// another is a call of the system.
 pub const WAIT_SECONDS: u64 = 1;
+
+/// How many connections may wait in the system's queue of a listening socket, until they are accepted:
+/// more than come at once in a burst. The kernel has a cap of its own, `net.core.somaxconn`. The limit
+/// is this project's.
+pub const LISTEN_QUEUE: i32 = 4_096;
+
+/// The most connections that are held while they have sent no whole head, where the limit on open
+/// files allows so many: looking at all of them is to take less than a millisecond. The limit is this
+/// project's.
+pub const MAX_HELD: usize = 16_384;
 
 /// The least that a call waits, in milliseconds. A time limit of 0 would mean none to the system.
 const LEAST_WAIT: u64 = 1;

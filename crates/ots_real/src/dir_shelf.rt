@@ -1,16 +1,20 @@
-ghost use Rattle.std.specs.Prelude.{◌≡◌, ◌≢◌, ◌<◌, ℕ, length, IfOk, OnErr, IsErrOf, IsTrue};
+ghost use Rattle.std.specs.Prelude.{◌≡◌, ◌≢◌, ◌<◌, ◌∷◌, [], ℕ, length, IfOk, OnOk, OnErr, IsErrOf, IsTrue};
 ghost use Rattle.std.specs.Io.{ReadsAtMost, WritesAtMost};
-ghost use Rattle.std.specs.Io.KnownBytes.{ReadConsumes, WriteAppends};
+ghost use Rattle.std.specs.Io.KnownBytes.{ReadConsumes};
 ghost use Rattle.ots_base.specs.Cause.{CountsWhere, HasCause, HasCauseWhere};
 ghost use Rattle.ots_outside.specs.Shelf.{closed, OnlyOpening, OnlyReading, OnlyWriting, is_reading, is_writing};
 ghost use Rattle.ots_outside.specs.Shelf.{left_of, Creates, Opens, SameButNames, SameButSlot, Stays};
 ghost use Rattle.ots_outside.specs.Streams.{Reads};
 ghost use Rattle.ots_real.specs.Counting.{count_after, count_after_create, count_after_open};
-ghost use Rattle.ots_real.specs.DirShelf.{files_told, file_faults, file_at};
+ghost use Rattle.ots_real.specs.DirShelf.{files_told, file_faults, file_at, calls_at};
+ghost use Rattle.ots_real.specs.FileCalls.{folder_of, is_durable, Writes};
+ghost use Rattle.ots_real.specs.FileCalls.FileCall.{created, folder_synced};
+ghost use Rattle.ots_real.specs.NewFile.{AppendsSome};
 ghost use Rattle.ots_real.specs.OpenFile.{left_in, taken_in};
 
+use crate::StdSource;
+use crate::new_file::{NewFile, NotCreated};
 use crate::open_file::OpenFile;
-use crate::{StdSink, StdSource};
 use ots_outside::{Count, CreateError, Failed, OpenError, Shelf, Slot};
 use std::alloc::Global;
 use std::fs::File;
@@ -21,8 +25,16 @@ use std::rt::Files;
 /// nothing of what they hold, and counts each fault.
 ///
 /// `create` makes a new file and never overwrites one: a name that is there is `Exists`, also
-/// where it came between a test and the call. A write goes to the file at once, and one that takes
-/// nothing of a piece that isn't empty is a fault. A call that a signal cut short is made again.
+/// where it came between a test and the call. The folder in which the name stands is synced then,
+/// and the file after each write, before the call answers: so whatever the device says, `create` or
+/// `write` passes on as a fault, and what was written stays when power goes. A folder that can't be
+/// opened, and so not be synced, gets no file. After a fault of `write` each further write of the
+/// slot is one.
+///
+/// A write that takes nothing of a piece that isn't empty is a fault, and so is one that would begin
+/// at [`size_limit`](crate::size_limit) or past it. A call that a signal cut short is made again.
+/// `close` has no answer: after the sync of the last write an error of the system's has nothing left
+/// to tell.
 #[derive(Drop)]
 pub struct DirShelf<R: Files> {
     rt: R,
@@ -116,6 +128,8 @@ impl<R: Files> Shelf for DirShelf<R> {
     fn create(&mut self, name: &str) -> Result<Slot, CreateError>
         ensures ok { IfOk result (λ slot. Creates name.now slot.0 (files_told self.old) (files_told self.new)) }
         ensures err { OnErr result (Stays (files_told self.old) (files_told self.new)) }
+        ensures made { IfOk result
+            (λ slot. calls_at self.new slot.0 ≡ folder_synced (folder_of name.now) ∷ created name.now ∷ []) }
         ensures cause { HasCauseWhere (IsErrOf result CreateError.Failed) (file_faults self.old).writing
             (file_faults self.new).writing }
         ensures counted { (file_faults self.new).writing ≡ count_after_create (file_faults self.old).writing result }
@@ -132,14 +146,13 @@ impl<R: Files> Shelf for DirShelf<R> {
             self.short.rise();
             return Err(CreateError::OutOfMemory);
         }
-        match File::create_new(&self.rt, name) {
+        match NewFile::create(&self.rt, name) {
             Ok(file) => {
-                let writing = OpenFile::Writing(StdSink::new(file));
-                self.files.push(writing).unwrap();
+                self.files.push(OpenFile::Writing(file)).unwrap();
                 Ok(Slot(slot))
             }
-            Err(error) if error.kind() == ErrorKind::AlreadyExists => Err(CreateError::Exists),
-            Err(_) => {
+            Err(NotCreated::Exists) => Err(CreateError::Exists),
+            Err(NotCreated::Failed) => {
                 self.write_faults.rise();
                 Err(CreateError::Failed)
             }
@@ -150,8 +163,10 @@ impl<R: Files> Shelf for DirShelf<R> {
         requires { IsTrue (is_writing ((files_told self.old).slots slot.0)) }
         ensures bound { WritesAtMost result piece.now }
         ensures some { 0 < length piece.now → IfOk result (λ count. 0 < count) }
-        ensures file { WriteAppends (taken_in R.File.contents (file_at self.old slot.0))
+        ensures file { AppendsSome (taken_in R.File.contents (file_at self.old slot.0))
             (taken_in R.File.contents (file_at self.new slot.0)) result piece.now }
+        ensures calls { Writes (calls_at self.old slot.0) (calls_at self.new slot.0) result }
+        ensures durable { OnOk result (IsTrue (is_durable (calls_at self.new slot.0))) }
         ensures cause { HasCause (file_faults self.old).writing (file_faults self.new).writing result }
         ensures counted { (file_faults self.new).writing ≡ count_after (file_faults self.old).writing result }
         ensures counts { OnlyWriting (file_faults self.old) (file_faults self.new) }

@@ -12,9 +12,9 @@
 //! | `Nonces` | [`RngNonces`], over any random source |
 //! | `Clock` | [`SystemClock`] |
 //!
-//! A connection that was accepted has one time limit for its request, from its first read on, and one
+//! A connection that was accepted has one time limit for its request, from its accept on, and one
 //! for the reply, from its first write on; a host that is called has one for the whole conversation.
-//! So nobody holds a worker by sending nothing, and none pays for what this process waits itself. A
+//! A connection is handed out once it has spoken, so nobody holds a worker by sending nothing. A
 //! link that is finished is closed, once the peer can have read the reply.
 //!
 //! They tell nothing of what they hold. Of them it is proved that they are safe, that they return,
@@ -23,9 +23,15 @@
 #![tactic(auto)]
 
 mod accept_error;
+mod call_record;
 mod conversation;
 mod counted;
 mod dir_shelf;
+mod file_log;
+mod file_size;
+mod held;
+mod looking;
+mod new_file;
 mod open_file;
 mod reserve;
 mod rng_nonces;
@@ -38,11 +44,13 @@ mod tcp_link;
 mod time_limit;
 mod timed_stream;
 
+pub use call_record::CallRecord;
 pub use conversation::{
-    CONNECT_SECONDS, CONVERSATION_SECONDS, DRAIN_BYTES, DRAIN_SECONDS, REPLY_SECONDS,
-    REQUEST_SECONDS,
+    CONNECT_SECONDS, CONVERSATION_SECONDS, DRAIN_BYTES, DRAIN_SECONDS, LISTEN_QUEUE, MAX_HELD,
+    REPLY_SECONDS, REQUEST_SECONDS, ROUND_CONVERSATION_SECONDS,
 };
 pub use dir_shelf::DirShelf;
+pub use file_size::size_limit;
 pub use rng_nonces::RngNonces;
 pub use std_sink::StdSink;
 pub use std_source::StdSource;

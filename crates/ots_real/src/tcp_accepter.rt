@@ -5,15 +5,19 @@ ghost use Rattle.ots_outside.specs.Accepter.{IfAccepted, accepted_after};
 ghost use Rattle.ots_real.specs.Counting.{count_after};
 ghost use Rattle.ots_real.specs.Sockets.{accept_count, accept_faults, is_listening, link_faults, read_limit};
 ghost use Rattle.ots_real.specs.Sockets.{reply_limit, request_limit, write_limit};
-ghost use Rattle.ots_real.specs.TimeLimit.{IsUnbegun};
+ghost use Rattle.ots_real.specs.TimeLimit.{BeganWithin, IsUnbegun};
 
 use crate::accept_error::AcceptError;
-use crate::conversation::{REPLY_SECONDS, REQUEST_SECONDS};
+use crate::conversation::{LISTEN_QUEUE, REPLY_SECONDS, REQUEST_SECONDS};
+use crate::held::{Held, Spoken};
+use crate::tcp_link::Drained;
 use crate::{TcpLink, TimeLimit};
 use ots_outside::{Accepter, Count, Failed};
+use std::alloc::Global;
 use std::io::ErrorKind;
 use std::net::{Ipv4Addr, Net, OpenListener, TcpListener};
-use std::time::{Clock, Duration};
+use std::os::fd::AsRawFd;
+use std::time::{Clock, Duration, Instant};
 use std::{io, thread};
 
 /// How many tries of one accept may fail in a row, before that is a fault.
@@ -39,13 +43,21 @@ const MAX_PAUSES: u64 = SHORTNESS_SECONDS * 1_000 / SHORTNESS_PAUSE;
 /// descriptors, buffers or memory are short it waits for other connections to give them back, and
 /// counts a fault only after [`SHORTNESS_SECONDS`] of that in a row.
 ///
-/// Each connection has one time limit for its request, which begins with our first read, and one
-/// for the reply, which begins with our first write, so that a peer that sends or takes nothing, or
-/// hardly anything, is cut off, and none is for what this process waits itself.
+/// **A connection is held until it has spoken**, so that one which says nothing takes no worker: until
+/// the head of a request has come, its end, or an error; at most for the time of a request, and while
+/// there are descriptors for others, else the oldest is handed out as if its time were over. It counts
+/// as accepted when it is handed out. Holding is done inside `accept`.
+///
+/// Each connection has one time limit for its request, which begins when the system accepts it, and
+/// one for the reply, which begins with our first write, so that a peer that sends or takes nothing, or
+/// hardly anything, is cut off. What has come is read also after the limit.
 #[derive(Drop)]
 pub struct TcpAccepter<R: Net + Clock + Copy> {
     rt: R,
     listener: Option<R::Listener>,
+    held: Held<R::Stream>,
+    served: usize,
+    drained: Drained,
     request_limit: Duration,
     reply_limit: Duration,
     accepted: Count,
@@ -55,7 +67,7 @@ pub struct TcpAccepter<R: Net + Clock + Copy> {
 impl<R: Net + Clock + Copy> TcpAccepter<R> {
     /// An accepter that doesn't listen yet, whose requests have [`REQUEST_SECONDS`] and whose
     /// replies have [`REPLY_SECONDS`].
-    pub fn new(rt: R) -> TcpAccepter<R>
+    pub fn new(rt: R, alloc: Global) -> TcpAccepter<R>
         ensures accepted { accept_count result ≡ 0 }
         ensures faults { accept_faults result ≡ 0 }
         ensures request { as_nanos (request_limit result) ≡ REQUEST_SECONDS * 1_000_000_000 }
@@ -64,11 +76,25 @@ impl<R: Net + Clock + Copy> TcpAccepter<R> {
     {
         let request = Duration::from_secs(REQUEST_SECONDS);
         let reply = Duration::from_secs(REPLY_SECONDS);
-        TcpAccepter::with_limits(rt, request, reply)
+        TcpAccepter::with_limits(rt, alloc, request, reply)
+    }
+
+    /// The same for a server of rounds, each of which finishes all its links and then gives them back:
+    /// what their peers still send is dropped when they are given back, in the same second for all.
+    pub fn for_rounds(rt: R, alloc: Global) -> TcpAccepter<R>
+        ensures accepted { accept_count result ≡ 0 }
+        ensures faults { accept_faults result ≡ 0 }
+        ensures request { as_nanos (request_limit result) ≡ REQUEST_SECONDS * 1_000_000_000 }
+        ensures reply { as_nanos (reply_limit result) ≡ REPLY_SECONDS * 1_000_000_000 }
+        ensures listening { is_listening result ≡ false }
+    {
+        let mut accepter = TcpAccepter::new(rt, alloc);
+        accepter.drained = Drained::WhenGivenBack;
+        accepter
     }
 
     /// An accepter that doesn't listen yet, whose requests and replies have these limits.
-    pub fn with_limits(rt: R, request: Duration, reply: Duration) -> TcpAccepter<R>
+    pub fn with_limits(rt: R, alloc: Global, request: Duration, reply: Duration) -> TcpAccepter<R>
         ensures accepted { accept_count result ≡ 0 }
         ensures faults { accept_faults result ≡ 0 }
         ensures request { request_limit result ≡ request }
@@ -78,6 +104,9 @@ impl<R: Net + Clock + Copy> TcpAccepter<R> {
         TcpAccepter {
             rt,
             listener: None,
+            held: Held::new(alloc),
+            served: 0,
+            drained: Drained::AtOnce,
             request_limit: request,
             reply_limit: reply,
             accepted: Count::new(),
@@ -85,24 +114,72 @@ impl<R: Net + Clock + Copy> TcpAccepter<R> {
         }
     }
 
-    /// The next connection, whose limits have not begun.
-    fn next(&self) -> io::Result<TcpLink<R, R::Stream>>
-        ensures fresh { IfOk result (λ link. link_faults link ≡ 0) }
-        ensures request { IfOk result (λ link. IsUnbegun (request_limit self.now) (read_limit link)) }
-        ensures reply { IfOk result (λ link. IsUnbegun (reply_limit self.now) (write_limit link)) }
+    /// A link over a connection that has spoken.
+    fn link(&self, spoken: Spoken<R::Stream>) -> TcpLink<R, R::Stream>
+        ensures fresh { link_faults result ≡ 0 }
+        ensures request { BeganWithin (request_limit self.now) (read_limit result) }
+        ensures reply { IsUnbegun (reply_limit self.now) (write_limit result) }
     {
-        let Some(listener) = &self.listener else {
-            return Err(io::Error::from(ErrorKind::NotConnected));
+        let reads = if spoken.is_over {
+            TimeLimit::over(spoken.began)
+        } else {
+            TimeLimit::since(spoken.began, self.request_limit)
         };
-        let stream = next_stream(&self.rt, listener)?;
-        let reads = TimeLimit::new(self.request_limit);
         let writes = TimeLimit::new(self.reply_limit);
-        Ok(TcpLink::new(self.rt, stream, reads, writes))
+        TcpLink::accepted(self.rt, spoken.stream, reads, writes, self.drained)
+    }
+}
+
+/// The next connection that has spoken, with as many served already.
+fn next_spoken<L: OpenListener + AsRawFd>(
+    clock: &impl Clock,
+    listener: &L,
+    held: &mut Held<L::Stream>,
+    limit: Duration,
+    served: usize,
+) -> io::Result<Spoken<L::Stream>>
+where
+    L::Stream: AsRawFd,
+{
+    for _ in 0..u64::MAX {
+        let comes = held.is_empty() || held.wait(listener, limit, Instant::now(clock)?);
+        if let Some(spoken) = held.next(limit, Instant::now(clock)?) {
+            return Ok(spoken);
+        }
+        if comes && let Some(spoken) = take_next(clock, listener, held, served)? {
+            return Ok(spoken);
+        }
+    }
+    Err(io::Error::from(ErrorKind::TimedOut))
+}
+
+/// Takes the connection that comes next, and holds it: one that is to be served, if there is one. Where the
+/// system is short, that is the oldest which is held.
+fn take_next<L: OpenListener>(
+    clock: &impl Clock,
+    listener: &L,
+    held: &mut Held<L::Stream>,
+    served: usize,
+) -> io::Result<Option<Spoken<L::Stream>>>
+where
+    L::Stream: AsRawFd,
+{
+    let pauses = if held.is_empty() { MAX_PAUSES } else { 0 };
+    match next_stream(clock, listener, pauses) {
+        Ok(stream) => Ok(held.hold(stream, Instant::now(clock)?, served)),
+        Err(error) => match held.oldest(true) {
+            Some(spoken) if AcceptError::of(&error) == AcceptError::Short => Ok(Some(spoken)),
+            _ => Err(error),
+        },
     }
 }
 
 /// The next connection that isn't lost while it is taken.
-fn next_stream<L: OpenListener>(clock: &impl Clock, listener: &L) -> io::Result<L::Stream> {
+fn next_stream<L: OpenListener>(
+    clock: &impl Clock,
+    listener: &L,
+    most_pauses: u64,
+) -> io::Result<L::Stream> {
     let mut pauses = 0;
     for _ in 0..MAX_TRIES {
         let error = match listener.accept() {
@@ -111,7 +188,7 @@ fn next_stream<L: OpenListener>(clock: &impl Clock, listener: &L) -> io::Result<
         };
         match AcceptError::of(&error) {
             AcceptError::OfOneConnection => pauses = 0,
-            AcceptError::Short if pauses < MAX_PAUSES => {
+            AcceptError::Short if pauses < most_pauses => {
                 pauses += 1;
                 thread::sleep(clock, Duration::from_millis(SHORTNESS_PAUSE));
             }
@@ -148,6 +225,9 @@ where
     {
         match TcpListener::bind(&self.rt, (Ipv4Addr::UNSPECIFIED, port)) {
             Ok(listener) => {
+                // A second listen(2) on the socket lengthens the queue of 128 that std asks for. Where it
+                // fails the socket listens all the same.
+                libc::net::listen(listener.as_raw_fd(), LISTEN_QUEUE);
                 self.listener = Some(listener);
                 Ok(())
             }
@@ -161,7 +241,7 @@ where
     fn accept(&mut self) -> Result<Option<TcpLink<R, R::Stream>>, Failed>
         ensures some { IfOk result IsSome }
         ensures fresh { IfAccepted result (λ link. link_faults link ≡ 0) }
-        ensures request { IfAccepted result (λ link. IsUnbegun (request_limit self.old) (read_limit link)) }
+        ensures request { IfAccepted result (λ link. BeganWithin (request_limit self.old) (read_limit link)) }
         ensures reply { IfAccepted result (λ link. IsUnbegun (reply_limit self.old) (write_limit link)) }
         ensures request_stays { request_limit self.new ≡ request_limit self.old }
         ensures reply_stays { reply_limit self.new ≡ reply_limit self.old }
@@ -169,10 +249,16 @@ where
         ensures cause { HasCause (accept_faults self.old) (accept_faults self.new) result }
         ensures counted { accept_faults self.new ≡ count_after (accept_faults self.old) result }
     {
-        match self.next() {
-            Ok(link) => {
+        let Some(listener) = &self.listener else {
+            self.faults.rise();
+            return Err(Failed);
+        };
+        let limit = self.request_limit;
+        match next_spoken(&self.rt, listener, &mut self.held, limit, self.served) {
+            Ok(spoken) => {
                 self.accepted.rise();
-                Ok(Some(link))
+                self.served = self.served.saturating_add(1);
+                Ok(Some(self.link(spoken)))
             }
             Err(_) => {
                 self.faults.rise();
@@ -182,7 +268,8 @@ where
     }
 
     fn give_back(&mut self, link: TcpLink<R, R::Stream>) {
-        drop(link);
+        self.served = self.served.saturating_sub(1);
+        link.drain(self.rt);
     }
 
     fn accepted(&self) -> u64 {

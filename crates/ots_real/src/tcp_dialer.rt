@@ -9,7 +9,9 @@ ghost use Rattle.ots_real.specs.Counting.{count_after, count_after_connect};
 ghost use Rattle.ots_real.specs.TcpDialer.{dialer_told, dial_faults, dial_limit, link_at, of_stream};
 ghost use Rattle.ots_real.specs.TcpDialer.{HasOneLimit};
 
-use crate::conversation::{CONNECT_SECONDS, CONVERSATION_SECONDS, time_left};
+use crate::conversation::{
+    CONNECT_SECONDS, CONVERSATION_SECONDS, ROUND_CONVERSATION_SECONDS, time_left,
+};
 use crate::{TcpLink, TimeLimit};
 use ots_outside::{Count, DialError, Dialer, Failed, Link, Slot};
 use std::alloc::Global;
@@ -40,6 +42,16 @@ impl<R: Net + Clock + Copy> TcpDialer<R> {
         ensures limit { as_nanos (dial_limit result) ≡ CONVERSATION_SECONDS * 1_000_000_000 }
     {
         TcpDialer::with_limit(rt, alloc, Duration::from_secs(CONVERSATION_SECONDS))
+    }
+
+    /// The same for a gateway's rounds, whose conversations have [`ROUND_CONVERSATION_SECONDS`], since the
+    /// clients of a round wait for all of them.
+    pub fn for_rounds(rt: R, alloc: Global) -> TcpDialer<R>
+        ensures slots { (k : ℕ) → (dialer_told result).slots k ≡ unconnected }
+        ensures faults { dial_faults result ≡ 0 }
+        ensures limit { as_nanos (dial_limit result) ≡ ROUND_CONVERSATION_SECONDS * 1_000_000_000 }
+    {
+        TcpDialer::with_limit(rt, alloc, Duration::from_secs(ROUND_CONVERSATION_SECONDS))
     }
 
     /// A dialer with no slot in use, whose conversations have this limit.

@@ -6,7 +6,7 @@ ghost use Rattle.ots_real.specs.Counting.{count_after};
 ghost use Rattle.ots_real.specs.Sockets.{link_faults, link_stream, open_bytes, read_limit, write_limit, KeepsTime};
 
 use crate::TimeLimit;
-use crate::timed_stream::{TimedStream, is_cut_short};
+use crate::timed_stream::{Ending, Late, TimedStream, is_cut_short};
 use ots_outside::{Count, Failed, Link};
 use std::io::{Read, Write};
 use std::net::OpenStream;
@@ -20,23 +20,36 @@ use std::time::Clock;
 /// Its reads have a time limit, and its writes one: the first read begins the one and the first
 /// write the other, where they had not begun before. What happens between these calls, as a wait
 /// for other work of this process, counts to a limit only once that has begun. A peer that sends or
-/// takes nothing is cut off at most a tenth of the limit, and at most a second, after its end.
+/// takes nothing is cut off at most a tenth of the limit, and at most a second, after its end. A link
+/// that was accepted still reads after its limit what has come by then, and waits for nothing.
 ///
-/// `finish` closes the connection. So that no reset takes a reply that the peer hasn't read yet, it
-/// first says that nothing more is written, and reads and drops what the peer still sends, up to its
-/// end, [`DRAIN_BYTES`](crate::DRAIN_BYTES) or [`DRAIN_SECONDS`](crate::DRAIN_SECONDS). A link that
-/// counts a fault is closed at once.
+/// `finish` says that nothing more is written. So that no reset takes a reply that the peer hasn't read
+/// yet, what the peer still sends is read and dropped, up to its end, [`DRAIN_BYTES`](crate::DRAIN_BYTES)
+/// or [`DRAIN_SECONDS`](crate::DRAIN_SECONDS) after that, and then the connection is closed: at once, or
+/// when the link is given back, so that many links have these seconds together. A link that counts a
+/// fault is closed at once.
 ///
 /// What a stream that knows its bytes has left and holds is `S.remaining` and `S.contents` of the
 /// stream: clauses of `read` and `write` here say what became of them.
 #[derive(Drop)]
 pub struct TcpLink<C: Clock, S: Read + Write + OpenStream> {
     stream: TimedStream<C, S>,
+    drained: Drained,
+    ending: Option<Ending<S>>,
     faults: Count,
 }
 
+/// When what a finished peer still sends is read and dropped.
+#[derive(Clone, Copy)]
+pub enum Drained {
+    /// By `finish`.
+    AtOnce,
+    /// When the link is given back.
+    WhenGivenBack,
+}
+
 impl<C: Clock, S: Read + Write + OpenStream + Drop> TcpLink<C, S> {
-    /// A link over this stream, whose reads and writes have these limits by this clock.
+    /// A link that was called, whose reads and writes have these limits by this clock.
     pub fn new(clock: C, stream: S, reads: TimeLimit, writes: TimeLimit) -> TcpLink<C, S>
         ensures stream { link_stream result ≡ Some stream }
         ensures faults { link_faults result ≡ 0 }
@@ -44,8 +57,41 @@ impl<C: Clock, S: Read + Write + OpenStream + Drop> TcpLink<C, S> {
         ensures writes { write_limit result ≡ writes }
     {
         TcpLink {
-            stream: TimedStream::new(clock, stream, reads, writes),
+            stream: TimedStream::new(clock, stream, reads, writes, Late::Fails),
+            drained: Drained::AtOnce,
+            ending: None,
             faults: Count::new(),
+        }
+    }
+
+    /// The same of a link that was accepted.
+    pub fn accepted(
+        clock: C,
+        stream: S,
+        reads: TimeLimit,
+        writes: TimeLimit,
+        drained: Drained,
+    ) -> TcpLink<C, S>
+        ensures stream { link_stream result ≡ Some stream }
+        ensures faults { link_faults result ≡ 0 }
+        ensures reads { read_limit result ≡ reads }
+        ensures writes { write_limit result ≡ writes }
+    {
+        TcpLink {
+            stream: TimedStream::new(clock, stream, reads, writes, Late::TakesWhatCame),
+            drained,
+            ending: None,
+            faults: Count::new(),
+        }
+    }
+}
+
+impl<C: Clock + Copy, S: Read + Write + OpenStream + Drop> TcpLink<C, S> {
+    /// Drops what the peer still sends, where `finish` left that for now, and closes the connection.
+    pub fn drain(self, clock: C) {
+        let TcpLink { ending, .. } = self;
+        if let Some(ending) = ending {
+            ending.drain(&clock);
         }
     }
 }
@@ -114,10 +160,16 @@ impl<C: Clock, S: Read + Write + OpenStream + Drop> Link for TcpLink<C, S> {
         ensures reads { read_limit self.new ≡ read_limit self.old }
         ensures writes { write_limit self.new ≡ write_limit self.old }
     {
-        if self.faults.value() == 0 {
-            self.stream.finish();
-        } else {
+        if self.faults.value() != 0 {
             self.stream.close();
+            return;
+        }
+        let Some(ending) = self.stream.end() else {
+            return;
+        };
+        match self.drained {
+            Drained::AtOnce => ending.drain(self.stream.clock()),
+            Drained::WhenGivenBack => self.ending = Some(ending),
         }
     }
 }

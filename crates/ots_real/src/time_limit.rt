@@ -1,6 +1,6 @@
 //! The time limit of one way of a conversation, which is its reads or its writes.
 ghost use Rattle.std.specs.Prelude.{◌≡◌, ◌≤◌, ◌-◌, ◌/◌, ◌↔◌, ◌<◌, None, Some, IsTrue, IfOk, IfSome, IsSome, OnOk};
-ghost use Rattle.std.specs.Prelude.{max, min};
+ghost use Rattle.std.specs.Prelude.{is_some, max, min};
 ghost use Rattle.std.specs.Duration.{as_nanos};
 ghost use Rattle.ots_real.specs.TimeLimit.{began_by, limit_began, limit_length, limit_timeout, passed_at, IsLeft, Runs};
 
@@ -51,6 +51,15 @@ impl TimeLimit {
         }
     }
 
+    /// A limit that began then and is over.
+    pub fn over(began: Instant) -> TimeLimit
+        ensures length { as_nanos (limit_length result) ≡ 0 }
+        ensures began { limit_began result ≡ Some began }
+        ensures timeout { limit_timeout result ≡ None }
+    {
+        TimeLimit::since(began, Duration::ZERO)
+    }
+
     /// A limit of this length that has not begun, for further calls of the same way.
     pub(crate) fn renewed(&self, length: Duration) -> TimeLimit
         ensures length { limit_length result ≡ length }
@@ -75,6 +84,22 @@ impl TimeLimit {
         let began = self.began.unwrap_or(now);
         self.began = Some(began);
         time_left(self.length, now.duration_since(began))
+    }
+
+    /// Whether it has begun.
+    pub(crate) fn has_begun(&self) -> bool
+        ensures { result ≡ is_some (limit_began self.now) }
+    {
+        self.began.is_some()
+    }
+
+    /// Begins it now, if it has not begun.
+    pub(crate) fn begin(&mut self, clock: &impl Clock) -> io::Result<()>
+        ensures runs { Runs self.old self.new }
+        ensures timeout { limit_timeout self.new ≡ limit_timeout self.old }
+    {
+        self.left_at(Instant::now(clock)?);
+        Ok(())
     }
 
     /// What is left of it now. Where nothing is left that is `TimedOut`.

@@ -17,7 +17,7 @@ const DRAIN_PIECE: usize = 512;
 /// [`WAIT_SECONDS`](crate::conversation::WAIT_SECONDS), and no longer than what is left of its way's
 /// limit, or a tenth of that limit more, which saves calls of the system. A call that waited so long
 /// is [cut short](is_cut_short), and may be made again. Where nothing is left it is `TimedOut` at once,
-/// and the system isn't asked.
+/// and the system isn't asked, but by a read where [`Late`] says so.
 ///
 /// Once it is closed each call is `NotConnected`.
 #[derive(Drop)]
@@ -26,11 +26,35 @@ pub struct TimedStream<C: Clock, S: Read + Write + OpenStream> {
     stream: Option<S>,
     reads: TimeLimit,
     writes: TimeLimit,
+    late: Late,
+}
+
+/// What a read does after its time limit.
+#[derive(Clone, Copy)]
+pub enum Late {
+    /// It fails.
+    Fails,
+    /// It takes what has come, and fails only where it would wait: what was sent in time is read, also
+    /// where this process was busy with others till then.
+    TakesWhatCame,
+}
+
+/// A stream to which nothing more is written, and of which what still comes is to be dropped.
+#[derive(Drop)]
+pub struct Ending<S> {
+    stream: S,
+    reads: TimeLimit,
 }
 
 impl<C: Clock, S: Read + Write + OpenStream + Drop> TimedStream<C, S> {
     /// A stream whose reads and writes have these limits.
-    pub fn new(clock: C, stream: S, reads: TimeLimit, writes: TimeLimit) -> TimedStream<C, S>
+    pub fn new(
+        clock: C,
+        stream: S,
+        reads: TimeLimit,
+        writes: TimeLimit,
+        late: Late,
+    ) -> TimedStream<C, S>
         ensures stream { inner_stream result ≡ Some stream }
         ensures reads { inner_reads result ≡ reads }
         ensures writes { inner_writes result ≡ writes }
@@ -40,7 +64,12 @@ impl<C: Clock, S: Read + Write + OpenStream + Drop> TimedStream<C, S> {
             stream: Some(stream),
             reads,
             writes,
+            late,
         }
+    }
+
+    pub fn clock(&self) -> &C {
+        &self.clock
     }
 
     /// Closes the stream.
@@ -52,21 +81,47 @@ impl<C: Clock, S: Read + Write + OpenStream + Drop> TimedStream<C, S> {
         self.stream = None;
     }
 
-    /// Says that nothing more is written, reads and drops what the peer still sends, and closes the
-    /// stream. An error is dropped, since the peer that it comes of is gone.
-    pub fn finish(&mut self)
+    /// Says that nothing more is written, and gives the stream out, for what the peer still sends to be
+    /// dropped within [`DRAIN_SECONDS`] of now. An error is dropped, since the peer that it comes of is
+    /// gone; the stream is closed then.
+    pub fn end(&mut self) -> Option<Ending<S>>
         ensures closed { inner_stream self.new ≡ None }
         ensures reads { inner_reads self.new ≡ inner_reads self.old }
         ensures writes { inner_writes self.new ≡ inner_writes self.old }
     {
-        let Some(stream) = self.stream.take() else {
-            return;
-        };
-        if stream.shutdown(Shutdown::Write).is_ok() {
-            let reads = self.reads.renewed(Duration::from_secs(DRAIN_SECONDS));
-            drain(&mut TimedStream::new(&self.clock, stream, reads, self.writes));
+        let stream = self.stream.take()?;
+        if stream.shutdown(Shutdown::Write).is_err() {
+            return None;
+        }
+        let mut reads = self.reads.renewed(Duration::from_secs(DRAIN_SECONDS));
+        match reads.begin(&self.clock) {
+            Ok(()) => Some(Ending { stream, reads }),
+            Err(_) => None,
         }
     }
+}
+
+impl<S: Read + Write + OpenStream + Drop> Ending<S> {
+    /// Reads and drops what the peer still sends, within the time that is left, and closes the stream.
+    pub fn drain<C: Clock>(self, clock: &C) {
+        let late = Late::TakesWhatCame;
+        drain(&mut TimedStream::new(clock, self.stream, self.reads, self.reads, late));
+    }
+}
+
+/// Reads what has come, and fails where that is nothing.
+fn read_what_came<S: Read + OpenStream>(stream: &mut S, buf: &mut [u8]) -> io::Result<usize>
+    ensures bound { ReadsAtMost result buf.new }
+    ensures bytes { ReadConsumes (S.remaining stream.old) (S.remaining stream.new) result buf.new }
+{
+    stream.set_nonblocking(true)?;
+    let answer = match stream.read(buf) {
+        Err(error) if is_cut_short(&error) => Err(io::Error::from(ErrorKind::TimedOut)),
+        answer => answer,
+    };
+    // Writes wait again. Where that can't be set, they are made again till their own limit.
+    let _ = stream.set_nonblocking(false);
+    answer
 }
 
 /// Whether a call ended before its peer did anything, by a signal or since it waited as long as the
@@ -105,9 +160,17 @@ impl<C: Clock, S: Read + Write + OpenStream> Read for TimedStream<C, S> {
         let Some(stream) = &mut self.stream else {
             return Err(io::Error::from(ErrorKind::NotConnected));
         };
-        if let Some(timeout) = self.reads.new_timeout(&self.clock)? {
-            stream.set_read_timeout(Some(timeout))?;
-            self.reads.set_timeout(timeout);
+        match (self.reads.new_timeout(&self.clock), self.late) {
+            (Ok(None), _) => {}
+            (Ok(Some(timeout)), _) => {
+                stream.set_read_timeout(Some(timeout))?;
+                self.reads.set_timeout(timeout);
+            }
+            (Err(error), Late::TakesWhatCame)
+                if error.kind() == ErrorKind::TimedOut && self.reads.has_begun() => {
+                return read_what_came(stream, buf);
+            }
+            (Err(error), _) => return Err(error),
         }
         stream.read(buf)
     }

@@ -8,18 +8,23 @@ use std::time::Duration;
 /// More than the sockets of both ends hold, so that the end of it waits for its reader.
 pub const REPLY: usize = 1 << 18;
 
+/// A head that is whole, as an accepter waits for it.
+pub const HEAD: &[u8] = b"a\r\n\r\n";
+
 /// What a caller does.
 #[derive(Clone, Copy)]
 pub enum Caller {
-    /// It sends `abc`, and is to get `defgh` and then the end.
+    /// It sends a head, and is to get `defgh` and then the end.
     Asks,
-    /// The same, but it sends `abc` only after more than the second that one call of the system waits.
+    /// The same, but it sends the head only after more than a second.
     AsksLate,
     /// It sends nothing, and is to get the end.
     IsSilent,
     /// It sends a byte now and then, at most so many, and is to be cut off.
     Drips(u64),
-    /// It sends 4 KiB at once and reads the reply only later: all of it is to come.
+    /// The same after a head.
+    AsksAndDrips(u64),
+    /// It sends a head and 4 KiB at once and reads the reply only later: all of it is to come.
     SendsMuch,
 }
 
@@ -74,27 +79,28 @@ fn given_whole<L: Link>(link: &mut L) -> Option<usize> {
     None
 }
 
-/// Sends 4 KiB at once and reads the reply only later: whether all of it came.
+/// Sends a head and 4 KiB at once and reads the reply only later: whether all of it came.
 fn sends_much<L: Link>(rt: &HostRuntime, link: &mut L) -> bool {
-    let is_sent = takes(link, &[7; 4_096]);
+    let is_sent = takes(link, HEAD) && takes(link, &[7; 4_096]);
     thread::sleep(rt, Duration::from_millis(200));
     let given = given_whole(link);
     is_sent && given == Some(REPLY)
 }
 
-/// Sends `abc` after more than a second: whether `defgh` comes, and then the end.
+/// Sends a head after more than a second: whether `defgh` comes, and then the end.
 fn asks_late<L: Link>(rt: &HostRuntime, link: &mut L) -> bool {
     thread::sleep(rt, Duration::from_millis(1_300));
-    takes(link, b"abc") && gives(link, b"defgh")
+    takes(link, HEAD) && gives(link, b"defgh")
 }
 
 /// Whether a caller meets over a link what it is to meet.
 fn speaks<L: Link>(rt: &HostRuntime, link: &mut L, caller: Caller) -> bool {
     match caller {
-        Caller::Asks => takes(link, b"abc") && gives(link, b"defgh"),
+        Caller::Asks => takes(link, HEAD) && gives(link, b"defgh"),
         Caller::AsksLate => asks_late(rt, link),
         Caller::IsSilent => takes(link, b"") && gives(link, b""),
         Caller::Drips(most) => drips(rt, link, most),
+        Caller::AsksAndDrips(most) => takes(link, HEAD) && drips(rt, link, most),
         Caller::SendsMuch => sends_much(rt, link),
     }
 }

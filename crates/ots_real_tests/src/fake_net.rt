@@ -20,6 +20,8 @@ pub struct Outside {
     pace: u64,
     /// How many reads are still to wait in vain, each as long as the timeout of the reads lets it.
     vain: AtomicU64,
+    /// 1 where reads are to wait for nothing.
+    hurried: AtomicU64,
     timeout: AtomicU64,
     /// How many timeouts sockets were given, and how many bytes reads gave.
     timeouts: AtomicU64,
@@ -36,6 +38,7 @@ impl Outside {
             piece: 1_000,
             pace: 0,
             vain: AtomicU64::new(0),
+            hurried: AtomicU64::new(0),
             timeout: AtomicU64::new(0),
             timeouts: AtomicU64::new(0),
             given: AtomicU64::new(0),
@@ -56,6 +59,7 @@ impl Outside {
             piece,
             pace,
             vain: AtomicU64::new(vain),
+            hurried: AtomicU64::new(0),
             timeout: AtomicU64::new(0),
             timeouts: AtomicU64::new(0),
             given: AtomicU64::new(0),
@@ -156,6 +160,13 @@ impl<'a> OpenStream for FakeStream<'a> {
         Ok(())
     }
 
+    fn set_nonblocking(&self, nonblocking: bool) -> io::Result<()> {
+        self.outside
+            .hurried
+            .store(u64::from(nonblocking), Ordering::SeqCst);
+        Ok(())
+    }
+
     fn set_read_timeout(&self, timeout: Option<Duration>) -> io::Result<()> {
         let millis = timeout.map_or(0, |timeout| timeout.as_millis());
         let millis = u64::try_from(millis).unwrap_or(u64::MAX);
@@ -179,6 +190,10 @@ impl<'a> AsRawFd for FakeStream<'a> {
 impl<'a> Read for FakeStream<'a> {
     fn read(&mut self, buf: &mut [u8]) -> io::Result<usize> {
         let vain = self.outside.vain.load(Ordering::SeqCst);
+        let is_hurried = self.outside.hurried.load(Ordering::SeqCst) == 1;
+        if is_hurried && (vain > 0 || self.outside.pace > 0) {
+            return Err(io::Error::from(ErrorKind::WouldBlock));
+        }
         if vain > 0 {
             self.outside.vain.store(vain - 1, Ordering::SeqCst);
             self.outside

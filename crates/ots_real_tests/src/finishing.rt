@@ -40,7 +40,7 @@ pub fn sends_on<A: Accepter, R: Threads + Abort>(
     accepter: &mut A,
 ) -> Result<(), Fail> {
     let port = listen_from(accepter, 48_200)?;
-    let caller = begin(rt, host, port, Caller::Drips(300))?;
+    let caller = begin(rt, host, port, Caller::AsksAndDrips(300))?;
     let mut link = next_link(accepter)?;
     let passed = time_to_finish(&host, &mut link);
     // The connection is closed while the link is still held, and nothing more can be done with it.

@@ -9,6 +9,8 @@ mod cut_short;
 #[cfg(test)]
 mod failures;
 #[cfg(test)]
+mod fake_files;
+#[cfg(test)]
 mod fake_net;
 #[cfg(test)]
 mod files;
@@ -17,10 +19,14 @@ mod finishing;
 #[cfg(test)]
 mod folder;
 #[cfg(test)]
+mod holding;
+#[cfg(test)]
 mod limits;
 #[cfg(test)]
 mod lost;
 #[cfg(test)]
 mod sockets;
+#[cfg(test)]
+mod synced;
 #[cfg(test)]
 mod system;

@@ -1,6 +1,7 @@
 // The time limits of a link, and what finishing it does, by a clock and a network in memory.
 use super::fake_net::{FakeNet, Outside};
 use ots_io::{Accepter, Failed, Link, TcpAccepter};
+use std::alloc::Global;
 use std::process::Abort;
 use std::test::Fail;
 
@@ -10,6 +11,7 @@ enum Trial {
     Request,
     Retry,
     Silence,
+    Late,
     Reply,
     MuchLeft,
     SlowlyLeft,
@@ -46,8 +48,6 @@ fn expect_now(rt: &impl Abort, outside: &Outside, now: u64) {
 }
 
 fn request<L: Link>(rt: &impl Abort, outside: &Outside, link: &mut L) {
-    // What this process waits itself is in no limit.
-    outside.wait(60_000);
     read(rt, link, Ok(4));
     outside.wait(900);
     read(rt, link, Ok(4));
@@ -59,9 +59,22 @@ fn request<L: Link>(rt: &impl Abort, outside: &Outside, link: &mut L) {
     // The timeout of the socket, a second, ends no call over a second late.
     expect_timeouts(rt, outside, 1);
     outside.wait(1);
+    // After the limit what has come is read, and nothing is waited for.
+    read(rt, link, Ok(4));
+    expect_timeouts(rt, outside, 1);
+    outside.wait(60_000);
+    read(rt, link, Ok(4));
+    // What the reply may take has not begun.
+    write(rt, link, Ok(1));
+    expect_given(rt, outside, 24);
+}
+
+fn late<L: Link>(rt: &impl Abort, outside: &Outside, link: &mut L) {
+    // The limit began with the accept.
+    outside.wait(10_000);
     read(rt, link, Err(Failed));
-    // The system isn't asked.
-    expect_given(rt, outside, 16);
+    expect_now(rt, outside, 10_000);
+    expect_timeouts(rt, outside, 0);
 }
 
 fn retry<L: Link>(rt: &impl Abort, outside: &Outside, link: &mut L) {
@@ -88,7 +101,6 @@ fn reply<L: Link>(rt: &impl Abort, outside: &Outside, link: &mut L) {
     outside.wait(9_999);
     write(rt, link, Ok(1));
     outside.wait(1);
-    read(rt, link, Err(Failed));
     write(rt, link, Err(Failed));
     // A link that failed is closed at once.
     finish(link);
@@ -117,6 +129,7 @@ fn try_link<L: Link>(rt: &impl Abort, outside: &Outside, link: &mut L, trial: Tr
         Trial::Request => request(rt, outside, link),
         Trial::Retry => retry(rt, outside, link),
         Trial::Silence => silence(rt, outside, link),
+        Trial::Late => late(rt, outside, link),
         Trial::Reply => reply(rt, outside, link),
         Trial::MuchLeft => much_left(rt, outside, link),
         Trial::SlowlyLeft => slowly_left(rt, outside, link),
@@ -124,8 +137,8 @@ fn try_link<L: Link>(rt: &impl Abort, outside: &Outside, link: &mut L, trial: Tr
 }
 
 /// Tries this over the first link of an accepter with such a network.
-fn try_over(rt: &impl Abort, outside: &Outside, trial: Trial) -> Result<(), Fail> {
-    let mut accepter = TcpAccepter::new(FakeNet { outside });
+fn try_over(rt: &impl Abort, alloc: Global, outside: &Outside, trial: Trial) -> Result<(), Fail> {
+    let mut accepter = TcpAccepter::new(FakeNet { outside }, alloc);
     assert_eq!(rt; accepter.listen(1), Ok(()));
     let Ok(Some(mut link)) = accepter.accept() else {
         return Err(Fail::new("no connection"));
@@ -135,31 +148,70 @@ fn try_over(rt: &impl Abort, outside: &Outside, trial: Trial) -> Result<(), Fail
 }
 
 #[test]
-fn a_request_has_ten_seconds_from_its_first_read(rt: HostRuntime) -> Result<(), Fail> {
-    try_over(&rt, &Outside::sending(4, 0), Trial::Request)
+fn a_request_has_ten_seconds_from_its_accept(rt: HostRuntime) -> Result<(), Fail> {
+    try_over(&rt, rt.alloc(), &Outside::sending(4, 0), Trial::Request)
 }
 
 #[test]
 fn a_read_that_waited_a_second_is_made_again(rt: HostRuntime) -> Result<(), Fail> {
-    try_over(&rt, &Outside::silent(9, 4, 0), Trial::Retry)
+    try_over(&rt, rt.alloc(), &Outside::silent(9, 4, 0), Trial::Retry)
 }
 
 #[test]
 fn a_peer_that_is_silent_for_ten_seconds_is_cut_off(rt: HostRuntime) -> Result<(), Fail> {
-    try_over(&rt, &Outside::silent(11, 4, 0), Trial::Silence)
+    try_over(&rt, rt.alloc(), &Outside::silent(11, 4, 0), Trial::Silence)
+}
+
+#[test]
+fn a_silent_peers_limit_began_with_its_accept(rt: HostRuntime) -> Result<(), Fail> {
+    try_over(&rt, rt.alloc(), &Outside::silent(9, 4, 0), Trial::Late)
 }
 
 #[test]
 fn a_reply_has_ten_seconds_from_its_first_write(rt: HostRuntime) -> Result<(), Fail> {
-    try_over(&rt, &Outside::sending(4, 0), Trial::Reply)
+    try_over(&rt, rt.alloc(), &Outside::sending(4, 0), Trial::Reply)
 }
 
 #[test]
 fn a_finished_link_reads_eight_kib_at_most(rt: HostRuntime) -> Result<(), Fail> {
-    try_over(&rt, &Outside::sending(1_000, 0), Trial::MuchLeft)
+    try_over(
+        &rt,
+        rt.alloc(),
+        &Outside::sending(1_000, 0),
+        Trial::MuchLeft,
+    )
 }
 
 #[test]
 fn a_finished_link_reads_for_a_second_at_most(rt: HostRuntime) -> Result<(), Fail> {
-    try_over(&rt, &Outside::sending(1, 300), Trial::SlowlyLeft)
+    try_over(
+        &rt,
+        rt.alloc(),
+        &Outside::sending(1, 300),
+        Trial::SlowlyLeft,
+    )
+}
+
+/// Two links are finished, and then given back.
+fn end_round(rt: &impl Abort, alloc: Global, outside: &Outside) -> Result<(), Fail> {
+    let mut accepter = TcpAccepter::for_rounds(FakeNet { outside }, alloc);
+    assert_eq!(rt; accepter.listen(1), Ok(()));
+    let (Ok(Some(mut first)), Ok(Some(mut second))) = (accepter.accept(), accepter.accept()) else {
+        return Err(Fail::new("no connection"));
+    };
+    finish(&mut first);
+    finish(&mut second);
+    expect_given(rt, outside, 0);
+    accepter.give_back(first);
+    accepter.give_back(second);
+    Ok(())
+}
+
+#[test]
+fn the_links_of_a_round_end_within_one_second_together(rt: HostRuntime) -> Result<(), Fail> {
+    let outside = Outside::sending(1, 300);
+    end_round(&rt, rt.alloc(), &outside)?;
+    expect_given(&rt, &outside, 4);
+    expect_now(&rt, &outside, 1_200);
+    Ok(())
 }

@@ -1,6 +1,7 @@
 // Accepts that fail, by a network in memory.
 use super::fake_net::{FakeNet, Outside};
 use ots_io::{Accepter, Failed, TcpAccepter};
+use std::alloc::Global;
 use std::process::Abort;
 use std::test::Fail;
 
@@ -16,8 +17,8 @@ const SHORT: [i32; 4] = [12, 23, 24, 105];
 const LASTING: [i32; 7] = [9, 13, 14, 22, 38, 88, 9_999];
 
 /// Whether a connection is accepted and counted, by an accepter that listens or one that doesn't.
-fn accepts(outside: &Outside, is_listening: bool) -> Result<bool, Failed> {
-    let mut accepter = TcpAccepter::new(FakeNet { outside });
+fn accepts(alloc: Global, outside: &Outside, is_listening: bool) -> Result<bool, Failed> {
+    let mut accepter = TcpAccepter::new(FakeNet { outside }, alloc);
     if is_listening {
         accepter.listen(1)?;
     }
@@ -27,40 +28,40 @@ fn accepts(outside: &Outside, is_listening: bool) -> Result<bool, Failed> {
 
 /// Whether a connection is accepted where this many accepts of the system fail first, with the error
 /// of this number, and the time that it takes, in milliseconds.
-fn accept_after(number: i32, failures: u64) -> (bool, u64) {
+fn accept_after(alloc: Global, number: i32, failures: u64) -> (bool, u64) {
     let outside = Outside::failing(number, failures);
-    let is_accepted = accepts(&outside, true) == Ok(true);
+    let is_accepted = accepts(alloc, &outside, true) == Ok(true);
     (is_accepted, outside.now())
 }
 
 /// Whether a connection is accepted, and the time that it takes.
-fn expect(rt: &impl Abort, number: i32, failures: u64, accepted: (bool, u64)) {
-    assert_eq!(rt; accept_after(number, failures), accepted);
+fn expect(rt: &impl Abort, alloc: Global, number: i32, failures: u64, accepted: (bool, u64)) {
+    assert_eq!(rt; accept_after(alloc, number, failures), accepted);
 }
 
 #[test]
 fn an_accepter_that_does_not_listen_fails(rt: HostRuntime) -> Result<(), Fail> {
     let outside = Outside::failing(0, 0);
-    assert_eq!(rt; accepts(&outside, false), Err(Failed));
+    assert_eq!(rt; accepts(rt.alloc(), &outside, false), Err(Failed));
     Ok(())
 }
 
 #[test]
 fn a_lost_connection_is_passed_over(rt: HostRuntime) -> Result<(), Fail> {
     for number in PASSING {
-        expect(&rt, number, 3, (true, 0));
+        expect(&rt, rt.alloc(), number, 3, (true, 0));
     }
     // There is an end to it.
-    expect(&rt, 103, u64::MAX, (false, 0));
+    expect(&rt, rt.alloc(), 103, u64::MAX, (false, 0));
     Ok(())
 }
 
 #[test]
 fn a_shortness_is_waited_for(rt: HostRuntime) -> Result<(), Fail> {
     for number in SHORT {
-        expect(&rt, number, 3, (true, 30));
-        expect(&rt, number, 3_000, (true, 30_000));
-        expect(&rt, number, 3_001, (false, 30_000));
+        expect(&rt, rt.alloc(), number, 3, (true, 30));
+        expect(&rt, rt.alloc(), number, 3_000, (true, 30_000));
+        expect(&rt, rt.alloc(), number, 3_001, (false, 30_000));
     }
     Ok(())
 }
@@ -68,7 +69,7 @@ fn a_shortness_is_waited_for(rt: HostRuntime) -> Result<(), Fail> {
 #[test]
 fn any_other_error_is_a_fault(rt: HostRuntime) -> Result<(), Fail> {
     for number in LASTING {
-        expect(&rt, number, 1, (false, 0));
+        expect(&rt, rt.alloc(), number, 1, (false, 0));
     }
     Ok(())
 }

@@ -1,5 +1,5 @@
 // Both ends of a connection over loopback, in one process.
-use super::callers::{Caller, begin, gives_next, takes};
+use super::callers::{Caller, HEAD, begin, gives_next, takes};
 use super::finishing::{sends_on, unread};
 use ots_io::{Accepter, Failed, Link, TcpAccepter};
 use std::process::Abort;
@@ -54,9 +54,9 @@ pub fn finish<L: Link>(link: &mut L) {
     link.finish();
 }
 
-/// Whether a link gives `abc`, and takes `defgh` in reply.
+/// Whether a link gives a head, and takes `defgh` in reply.
 fn replies<L: Link>(link: &mut L) -> bool {
-    let replied = gives_next(link, b"abc") && takes(link, b"defgh");
+    let replied = gives_next(link, HEAD) && takes(link, b"defgh");
     link.finish();
     replied
 }
@@ -121,17 +121,18 @@ fn silence<A: Accepter, R: Threads + Abort>(
 ) -> Result<(), Fail> {
     let port = listen_from(accepter, 47_400)?;
     let caller = begin(rt, host, port, Caller::IsSilent)?;
+    let began = Instant::now(&host)?;
     let mut link = next_link(accepter)?;
-    // What passes before the first read is no part of the request's time.
-    thread::sleep(&host, Duration::from_millis(400));
+    let held = began.elapsed(&host);
+    // It was held for the request's time, of which nothing is left.
     let passed = time_to_fault(&host, &mut link);
-    // Nothing is left of it: the next read fails at once.
-    assert!(rt; fails_to_read(&mut link));
     accepter.give_back(link);
     let Some(passed) = passed? else {
         return Err(Fail::new("the peer was not cut off"));
     };
-    assert!(rt; passed > Duration::from_millis(250) && passed < Duration::from_secs(20));
+    let held = held?;
+    assert!(rt; held > Duration::from_millis(250) && held < Duration::from_secs(20));
+    assert!(rt; passed < Duration::from_millis(200));
     assert!(rt; caller.join(rt));
     Ok(())
 }
@@ -161,7 +162,7 @@ fn late_reply<A: Accepter, R: Threads + Abort>(
     let caller = begin(rt, host, port, Caller::Asks)?;
     let mut link = next_link(accepter)?;
     thread::sleep(&host, Duration::from_millis(400));
-    assert!(rt; gives_next(&mut link, b"abc") && takes(&mut link, b"defgh"));
+    assert!(rt; gives_next(&mut link, HEAD) && takes(&mut link, b"defgh"));
     thread::sleep(&host, Duration::from_millis(400));
     assert!(rt; fails_to_write(&mut link, b"i"));
     finish(&mut link);
@@ -199,9 +200,9 @@ pub fn try_over_tcp<R: Threads + Abort>(
         Some(limits) => {
             let request = Duration::from_millis(limits.request);
             let reply = Duration::from_millis(limits.reply);
-            TcpAccepter::with_limits(&host, request, reply)
+            TcpAccepter::with_limits(&host, host.alloc(), request, reply)
         }
-        None => TcpAccepter::new(&host),
+        None => TcpAccepter::new(&host, host.alloc()),
     };
     try_accepter(rt, host, &mut accepter, trial)
 }

@@ -38,7 +38,7 @@ fn with_digits(alloc: Global, prefix: &[u8], digits: &str) -> Result<Vec<u8>, Fa
 /// A port that nobody listens on.
 fn free_port(rt: &HostRuntime) -> Result<u16, Fail> {
     for port in 47_000..47_200 {
-        if TcpAccepter::new(rt).listen(port).is_ok() {
+        if TcpAccepter::new(rt, rt.alloc()).listen(port).is_ok() {
             return Ok(port);
         }
     }
@@ -100,7 +100,7 @@ fn one_round_over_a_real_socket(rt: HostRuntime) -> Result<(), Fail> {
     let caller = thread::spawn(&rt, move || ask(&rt, port))?;
     let number = format!(in rt.alloc(); "{port}")?;
     let words = serve_at(&number);
-    let ended = serve(&rt, &words, TcpAccepter::new(&rt))?;
+    let ended = serve(&rt, &words, TcpAccepter::new(&rt, rt.alloc()))?;
     let printed = format!(in rt.alloc(); "listening {port}\nserved 1\n")?;
     assert_eq!(rt; ended.status, 0);
     assert!(rt; ended.text.as_slice() == printed.as_bytes());

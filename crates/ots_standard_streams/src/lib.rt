@@ -1,33 +1,9 @@
-//! Descriptors 0, 1 and 2 are the standard streams', also where the program was started without them.
+//! The standard streams of a program: their descriptors are theirs, also where it was started without
+//! them, and what is printed into a file ends where files may grow no more.
 #![tactic(auto)]
 
-use std::fs::File;
-use std::io;
-use std::rt::Files;
+mod output;
+mod streams;
 
-const NULL_DEVICE: &str = "/dev/null";
-
-/// The standard descriptors, kept from every file and socket that is opened while this value is held.
-///
-/// What a process opens gets the lowest descriptor that is free (POSIX, "File Descriptor Allocation").
-/// Of a program that was started with standard output closed the first file would get descriptor 1,
-/// and what the program prints would be written into that file.
-#[derive(Drop)]
-pub struct StandardStreams {
-    _first: File,
-    _second: File,
-    _third: File,
-}
-
-impl StandardStreams {
-    /// Opens the null device three times, so that each standard descriptor that was free is taken. It
-    /// is opened for reading alone: printing to a stream that was closed still fails, as it did.
-    /// `Err` where the system has no null device or no descriptors left.
-    pub fn keep<R: Files<File = File>>(rt: &R) -> io::Result<StandardStreams> {
-        Ok(StandardStreams {
-            _first: File::open(rt, NULL_DEVICE)?,
-            _second: File::open(rt, NULL_DEVICE)?,
-            _third: File::open(rt, NULL_DEVICE)?,
-        })
-    }
-}
+pub use output::StandardOutput;
+pub use streams::StandardStreams;

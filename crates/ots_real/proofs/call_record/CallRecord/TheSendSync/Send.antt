@@ -1,7 +1,6 @@
 -- A record has no bytes and owns nothing.
-use denote.RattleType.{RattleType}
 use denote.Param.Send.{IsSend, owning_send, sendable}
-use Rattle.ots_file.specs.contracts.record.Record.{the_row, the_type}
+use Rattle.ots_real.specs.contracts.call_record.CallRecord.{the_row, the_type}
 
 pub send : IsSend the_row
 send = owning_send the_type (search sendable, tt) (λ d. tt) (λ k x w. tt)

@@ -1,4 +1,4 @@
--- Nothing runs: the loan of the record is opened, and closed with one event more.
+-- Nothing runs: the loan of the record is opened, and closed with one note more.
 use Rattle.std.proofs.Common.{◌<◌, ◌^◌, ℕ, List, [], ◌∷◌, length, refl, MutBor}
 use seplogic.Ra.Ura.{Ura}
 use mir.Syntax.{named}
@@ -28,29 +28,28 @@ use denote.Triple.Entry.{on_entry}
 use denote.Triple.Spec.{Meets, triple_of}
 use denote.Triple.Table.{entered}
 use denote.Triple.Walked.{says, Stays, stay_ref, stay_none_slice, walk_of, AllGo, Goes-ref, Goes-none_slice, Walks, ends_at, walked, walk_Meets}
-use Rattle.ots_file.specs.declared.record.Record.{Record}
-use Rattle.ots_file.specs.Note.{event_of}
-use Rattle.ots_file.specs.contracts.record.Record as owner
-use Rattle.ots_file.specs.contracts.record.Record.note.Key.{name as #note}
-use Rattle.ots_file.specs.contracts.record.Record.note as note
-use Rattle.ots_file.proofs.record.Record.note.Statement as claim
-use Rattle.ots_file.proofs.record.Record.note.Code as code
+use Rattle.ots_real.specs.declared.call_record.CallRecord.{CallRecord}
+use Rattle.ots_real.specs.contracts.call_record.CallRecord as owner
+use Rattle.ots_real.specs.contracts.call_record.CallRecord.note.Key.{name as #note}
+use Rattle.ots_real.specs.contracts.call_record.CallRecord.note as note
+use Rattle.ots_real.proofs.call_record.CallRecord.note.Statement as claim
+use Rattle.ots_real.proofs.call_record.CallRecord.note.Code as code
 
 -- the record, the numbers and the bytes
 abbrev Given : Type 0
-Given = MutBor Record × (Bor (List ℕ) × (Bor (List ℕ) × Unit {0}))
+Given = MutBor CallRecord × (Bor (List ℕ) × (Bor (List ℕ) × Unit {0}))
 
 abbrev lent : Stays (note.ended).signature.params (note.ended).kept
 lent = (stay_ref (0 ∷ []) tt (plain (λ _. owner.the_row)), (stay_none_slice (1 ∷ []) tt (plain (λ _. u64)) yes, (stay_none_slice (2 ∷ []) tt (plain (λ _. u8)) yes, tt)))
 
-module _ {M : Type 1} {𝓤 : Ura M} (𝓛 : Logic 𝓤) (at_mem : Memory → SProp 𝓤) (run : Routine → Fun 𝓤) (κ κ₁ κ₂ : Lft) (q q₁ q₂ : Share) (block offset : ℕ) (γ : GName) (before : Record) (numbers bytes : Bor (List ℕ)) where
+module _ {M : Type 1} {𝓤 : Ura M} (𝓛 : Logic 𝓤) (at_mem : Memory → SProp 𝓤) (run : Routine → Fun 𝓤) (κ κ₁ κ₂ : Lft) (q q₁ q₂ : Share) (block offset : ℕ) (γ : GName) (before : CallRecord) (numbers bytes : Bor (List ℕ)) where
   open 𝓛 use {H, A}
 
   abbrev given : Given
   given = (record { ref_ptr = (block, offset); ghost_name = γ; now = before }, (numbers, (bytes, tt)))
 
-  abbrev after : Record
-  after = record { marker = before.marker; events = event_of numbers.now bytes.now ∷ before.events }
+  abbrev after : CallRecord
+  after = record { marker = before.marker; notes = record { numbers = numbers.now; bytes = bytes.now } ∷ before.notes }
 
   abbrev places : List Val × (List Val × (List Val × Unit {0}))
   places = (vptr block offset ∷ [], (slice_val numbers.ref_ptr (length numbers.now) ∷ [], (slice_val bytes.ref_ptr (length bytes.now) ∷ [], tt)))

@@ -21,18 +21,18 @@ use denote.Triple.Entry.{on_entry}
 use denote.Triple.Spec.{Meets, triple_of}
 use denote.Triple.Table.{entered}
 use denote.Triple.Walked.{says, ends_at, walked, walk_Meets}
-use Rattle.ots_file.specs.declared.record.Record.{Record}
-use Rattle.ots_file.specs.contracts.record.Record as owner
-use Rattle.ots_file.specs.contracts.record.Record.new.Key.{name as #new}
-use Rattle.ots_file.specs.contracts.record.Record.new as new
-use Rattle.ots_file.proofs.record.Record.new.Statement as claim
-use Rattle.ots_file.proofs.record.Record.new.Code as code
+use Rattle.ots_real.specs.declared.call_record.CallRecord.{CallRecord}
+use Rattle.ots_real.specs.contracts.call_record.CallRecord as owner
+use Rattle.ots_real.specs.contracts.call_record.CallRecord.new.Key.{name as #new}
+use Rattle.ots_real.specs.contracts.call_record.CallRecord.new as new
+use Rattle.ots_real.proofs.call_record.CallRecord.new.Statement as claim
+use Rattle.ots_real.proofs.call_record.CallRecord.new.Code as code
 
 abbrev no_bytes : Val
 no_bytes = vstruct (vcons (vstruct vnil) vnil)
 
-abbrev empty : Record
-empty = record { marker = record {}; events = [] }
+abbrev empty : CallRecord
+empty = record { marker = record {}; notes = [] }
 
 makes : {M : Type 1} {𝓤 : Ura M} (𝓛 : Logic 𝓤) → (at_mem : Memory → SProp 𝓤) (run : Routine → Fun 𝓤) (𝓣 : Tables 𝓤 𝓛.H)
     → Meets 𝓛 new.signature (WpFn 𝓤 𝓛.H 𝓣.C 𝓣.Λ code.function) (new.spec 𝓛 at_mem run)
