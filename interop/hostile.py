@@ -21,26 +21,27 @@ and of the calendar the most memory, the most descriptors and the part of one pr
 where the middle one took longer than S seconds, the longest longer than L, the calendar used more than half of a processor,
 or it ended.
 
-Where nothing is said of them, S is a tenth of a second and L a second: clients that have not sent the head of a request
-take no worker, so it does not matter how many there are. It is the middle one that is held to a tenth, since a machine
-with other work lets the calendar itself wait. A reply also waits for two syncs of the disk: TMPDIR=/dev/shm puts the
-journal where they take no time. Where N clients that drip their body are as many as the W workers or more,
-both are N / W times 11 seconds and 2, since each holds a worker until 10 seconds after its accept.
+Where nothing is said of them, S is a tenth of a second and L a second: a client that has not sent the head of a request
+takes no worker. It is the middle one that is held to a tenth: a machine with other work lets the calendar itself wait, and
+N clients that came at the same moment are all given up at the same moment, which a reply waits for. A reply also waits for
+two syncs of the disk: TMPDIR=/dev/shm puts the journal where they take no time. Where N clients that drip their body are
+as many as the W workers or more, both are N / W times 11 seconds and 2, since each holds a worker until 10 seconds after
+its accept.
 
 With --proxy all of them go through nginx with examples/nginx.conf, the strangers from so many addresses of 127.0.1.0/24
 that the limit of one address holds none of them up: then S and L are a tenth of a second and a second for every kind.
 And before the strangers come it is tried that the limit holds: of 24 clients of one address that drip their body 8 are
 refused by 429.
 
-All kinds take some four minutes with 4 workers, and two and a half with the proxy. The strangers are a process of
-their own, with one thread.
+All kinds take some five minutes with 4 workers, and three with the proxy. The strangers are a process of their own, with
+one thread.
 
     interop/hostile.py --few-descriptors
 
 runs a calendar of 16 workers under `ulimit -n 64`, and one under `ulimit -n 20`, among 200 silent connections, each begun
 anew when it is closed. The limit leaves room to hold only some of them, so the oldest are closed early, long before their
-10 seconds: 20 digests among them, and 20 once they are gone, are answered within two seconds each. It takes some ten
-seconds.
+10 seconds: 20 digests among them, and 20 once they are gone, are answered within two seconds each. They are sent with the
+connect: a good client whose request came later would be closed early too. It takes some ten seconds.
 
     interop/hostile.py --burst N
 
@@ -54,6 +55,7 @@ need a limit on open files (`ulimit -Hn`) above that: the script raises its own 
 
 import argparse
 import atexit
+import contextlib
 import heapq
 import multiprocessing
 import os
@@ -83,9 +85,8 @@ DESCRIPTORS = 8192
 ADDRESS_LIMIT = 16
 
 
-def fail(text):
-    print(text)
-    sys.exit(1)
+class Wrong(Exception):
+    """What a program did otherwise than promised."""
 
 
 def free_port():
@@ -109,7 +110,7 @@ class Calendar:
             preexec_fn=lambda: resource.setrlimit(resource.RLIMIT_NOFILE, (limit, limit)))
         atexit.register(self.process.kill)
         if self.process.stdout.readline() != f'listening {self.port}\n'.encode():
-            fail('the calendar does not listen')
+            raise Wrong('the calendar does not listen')
         self.began, self.ticks = time.monotonic(), self.used()
 
     def used(self):
@@ -121,7 +122,7 @@ class Calendar:
     def see(self):
         """Has to be done now and then, for its most descriptors."""
         if self.process.poll() is not None:
-            fail(f'the calendar ended with {self.process.returncode}')
+            raise Wrong(f'the calendar ended with {self.process.returncode}')
         self.most_files = max(self.most_files, len(os.listdir(f'/proc/{self.process.pid}/fd')))
 
     def part(self):
@@ -135,19 +136,23 @@ class Calendar:
         return (f'the calendar had at most {memory} KiB and {self.most_files} descriptors, and used {self.part():.1%} of a '
                 'processor')
 
-    def stop(self):
+    def __enter__(self):
+        return self
+
+    def __exit__(self, *_):
         self.process.send_signal(signal.SIGTERM)
         self.process.wait(60)
 
 
+@contextlib.contextmanager
 def proxied(folder, port):
-    """nginx before this port, and its own port. What it includes is examples/nginx.conf, as Debian's nginx.conf includes
+    """nginx before this port, by its own port. What it includes is examples/nginx.conf, as Debian's nginx.conf includes
     a file of sites-enabled; only ports are others."""
     own = free_port()
     with open(os.path.join(TOP, 'examples', 'nginx.conf'), encoding='utf8') as file:
         site = file.read()
     if site.count('listen 80 ') != 1 or site.count('127.0.0.1:14788') != 1 or f'calendar_addresses {ADDRESS_LIMIT};' not in site:
-        fail('examples/nginx.conf is not as this script takes it')
+        raise Wrong('examples/nginx.conf is not as this script takes it')
     site = site.replace('listen 80 ', f'listen 127.0.0.1:{own} ').replace('127.0.0.1:14788', f'127.0.0.1:{port}')
     with open(os.path.join(folder, 'site'), 'w', encoding='utf8') as file:
         file.write(site)
@@ -157,15 +162,19 @@ def proxied(folder, port):
                    f'events {{ worker_connections 4096; }}\nhttp {{ include {folder}/site; }}\n')
     process = subprocess.Popen([shutil.which('nginx') or '/usr/sbin/nginx', '-p', folder, '-c', name, '-g', 'daemon off;'],
                                stderr=subprocess.DEVNULL)
-    atexit.register(process.wait)
-    atexit.register(process.terminate)
-    for _ in range(100):
-        try:
-            socket.create_connection(('127.0.0.1', own)).close()
-            return process, own
-        except OSError:
-            time.sleep(0.1)
-    return fail('nginx does not listen')
+    try:
+        for _ in range(100):
+            try:
+                socket.create_connection(('127.0.0.1', own)).close()
+                break
+            except OSError:
+                time.sleep(0.1)
+        else:
+            raise Wrong('nginx does not listen')
+        yield own
+    finally:
+        process.terminate()
+        process.wait()
 
 
 class Strangers:
@@ -263,9 +272,14 @@ class Hostile:
             target=lambda: Strangers(kinds, port, own_addresses, self.begun).run(), daemon=True)
         self.process.start()
 
-    def end(self):
+    def see(self):
         if not self.process.is_alive():
-            fail('the strangers ended')
+            raise Wrong('the strangers ended')
+
+    def __enter__(self):
+        return self
+
+    def __exit__(self, *_):
         self.process.terminate()
         self.process.join()
 
@@ -279,7 +293,7 @@ def stamped(port, rng, most):
             while piece := one.recv(65536):
                 reply += piece
     except OSError as error:
-        fail(f'a digest got {reply!r}, and after {time.monotonic() - began:.3f} s {error!r}')
+        raise Wrong(f'a digest got {reply!r}, and after {time.monotonic() - began:.3f} s {error!r}')
     see_reply(reply)
     return time.monotonic() - began
 
@@ -287,9 +301,9 @@ def stamped(port, rng, most):
 def see_reply(reply):
     head, _, body = reply.partition(b'\r\n\r\n')
     if b' 200 ' not in head.partition(b'\r\n')[0]:
-        fail(f'a digest got {reply!r}')
+        raise Wrong(f'a digest got {reply!r}')
     if f'content-length: {len(body)}'.encode() not in head.lower():
-        fail(f'a reply of {len(body)} bytes after {head!r}')
+        raise Wrong(f'a reply of {len(body)} bytes after {head!r}')
 
 
 def see_limit(port):
@@ -310,7 +324,7 @@ def see_limit(port):
             pass
         one.close()
     if refused != 8:
-        fail(f'of {len(links)} clients of one address {refused} are refused by 429, and not 8')
+        raise Wrong(f'of {len(links)} clients of one address {refused} are refused by 429, and not 8')
     print(f'of {len(links)} clients of one address that drip their body nginx refuses {refused} by 429', flush=True)
 
 
@@ -331,22 +345,19 @@ def among(folder, kind, words, rng):
     slow = count / words.workers * 11 + 2
     most = words.most or (slow if workers_held else 0.1)
     longest = words.longest or words.most or (slow if workers_held else 1)
-    calendar = Calendar(folder, words.otsd, words.workers)
-    port = calendar.port
-    if words.proxy:
-        nginx, port = proxied(folder, calendar.port)
-        see_limit(port)
-    alone = good_client(calendar, port, rng, 3, 20)
     kinds = [('silent', count), ('dripping', count)] if kind == 'both' else [(kind, count)]
-    hostile = Hostile(kinds, port, words.proxy)
-    time.sleep(2)
-    took = good_client(calendar, port, rng, words.seconds, longest * 3 + 10)
-    needs, part = calendar.needs(), calendar.part()
-    hostile.end()
-    calendar.stop()
-    if words.proxy:
-        nginx.terminate()
-        nginx.wait()
+    with contextlib.ExitStack() as stack:
+        calendar = stack.enter_context(Calendar(folder, words.otsd, words.workers))
+        port = calendar.port
+        if words.proxy:
+            port = stack.enter_context(proxied(folder, calendar.port))
+            see_limit(port)
+        alone = good_client(calendar, port, rng, 3, 20)
+        hostile = stack.enter_context(Hostile(kinds, port, words.proxy))
+        time.sleep(2)
+        took = good_client(calendar, port, rng, words.seconds, longest * 3 + 10)
+        hostile.see()
+        needs, part = calendar.needs(), calendar.part()
     who = ' and '.join(f'{number} {name}' for name, number in kinds)
     print(f'{words.workers} workers, {who} clients with {hostile.begun.value} connections{", through nginx" if words.proxy else ""}: '
           f'{len(took)} digests, a reply took {statistics.median(took):.3f} s of {most:g}, at most {max(took):.3f} s of {longest:g}, '
@@ -361,16 +372,14 @@ def among(folder, kind, words, rng):
 
 
 def few_descriptors(folder, otsd, descriptors, rng):
-    calendar = Calendar(folder, otsd, 16, descriptors)
-    hostile = Hostile([('silent', 200)], calendar.port, False)
-    time.sleep(2)
-    during = [stamped(calendar.port, rng, 30) for _ in range(20)]
-    calendar.see()
-    begun = hostile.begun.value
-    hostile.end()
-    after = [stamped(calendar.port, rng, 30) for _ in range(20)]
-    calendar.see()
-    calendar.stop()
+    with Calendar(folder, otsd, 16, descriptors) as calendar:
+        with Hostile([('silent', 200)], calendar.port, False) as hostile:
+            time.sleep(2)
+            during = [stamped(calendar.port, rng, 30) for _ in range(20)]
+            hostile.see()
+            begun = hostile.begun.value
+        after = [stamped(calendar.port, rng, 30) for _ in range(20)]
+        calendar.see()
     print(f'{descriptors} descriptors, 16 workers, 200 silent clients with {begun} connections: 20 digests among them, a reply took '
           f'{statistics.median(during):.3f} s, at most {max(during):.3f} s of 2; 20 after them, {statistics.median(after):.3f} s, at '
           f'most {max(after):.3f} s of 2', flush=True)
@@ -386,39 +395,39 @@ def overflows():
 
 def burst(folder, otsd, workers, count, rng):
     """So many good clients at once."""
-    calendar = Calendar(folder, otsd, workers)
-    selector, before, began = selectors.DefaultSelector(), overflows(), time.monotonic()
-    for _ in range(count):
-        one = socket.socket()
-        one.setblocking(False)
-        one.connect_ex(('127.0.0.1', calendar.port))
-        selector.register(one, selectors.EVENT_WRITE, (time.monotonic(), bytearray()))
-    connects, replies = [], []
-    while len(replies) < count:
-        events = selector.select(60)
-        if not events:
-            fail(f'{len(replies)} of {count} are answered')
-        for key, event in events:
-            (begun, reply), now = key.data, time.monotonic()
-            if event & selectors.EVENT_WRITE:
-                connects.append(now - begun)
-                key.fileobj.send(HEAD + rng.randbytes(32))
-                selector.modify(key.fileobj, selectors.EVENT_READ, key.data)
-                continue
-            piece = key.fileobj.recv(65536)
-            reply += piece
-            if not piece:
-                see_reply(bytes(reply))
-                replies.append(now - begun)
-                selector.unregister(key.fileobj)
-                key.fileobj.close()
-    calendar.see()
-    late = sum(one >= 0.9 for one in connects)
-    print(f'{workers} workers, {count} clients at once: all are answered in {time.monotonic() - began:.3f} s; a connect took '
-          f'{statistics.median(connects):.3f} s, at most {max(connects):.3f} s of 0.9, {late} longer than that; a reply took '
-          f'{statistics.median(replies):.3f} s, at most {max(replies):.3f} s; {overflows() - before} times a listening queue was '
-          f'full; {calendar.needs()}', flush=True)
-    calendar.stop()
+    with Calendar(folder, otsd, workers) as calendar:
+        selector, before, began = selectors.DefaultSelector(), overflows(), time.monotonic()
+        for _ in range(count):
+            one = socket.socket()
+            one.setblocking(False)
+            one.connect_ex(('127.0.0.1', calendar.port))
+            selector.register(one, selectors.EVENT_WRITE, (time.monotonic(), bytearray()))
+        connects, replies = [], []
+        while len(replies) < count:
+            events = selector.select(60)
+            if not events:
+                raise Wrong(f'{len(replies)} of {count} are answered')
+            for key, event in events:
+                (begun, reply), now = key.data, time.monotonic()
+                if event & selectors.EVENT_WRITE:
+                    connects.append(now - begun)
+                    key.fileobj.send(HEAD + rng.randbytes(32))
+                    selector.modify(key.fileobj, selectors.EVENT_READ, key.data)
+                    continue
+                piece = key.fileobj.recv(65536)
+                reply += piece
+                if not piece:
+                    see_reply(bytes(reply))
+                    replies.append(now - begun)
+                    selector.unregister(key.fileobj)
+                    key.fileobj.close()
+        took, full = time.monotonic() - began, overflows() - before
+        calendar.see()
+        late = sum(one >= 0.9 for one in connects)
+        print(f'{workers} workers, {count} clients at once: all are answered in {took:.3f} s; a connect took '
+              f'{statistics.median(connects):.3f} s, at most {max(connects):.3f} s of 0.9, {late} longer than that; a reply took '
+              f'{statistics.median(replies):.3f} s, at most {max(replies):.3f} s; {full} times a listening queue was full; '
+              f'{calendar.needs()}', flush=True)
     return late == 0
 
 
@@ -444,16 +453,20 @@ def main():
     multiprocessing.set_start_method('fork')
     rng = random.Random(1)
     if words.few_descriptors:
-        jobs = [lambda folder, count=count: few_descriptors(folder, words.otsd, count, rng) for count in (64, 20)]
+        jobs = [(f'{count} descriptors', lambda folder, count=count: few_descriptors(folder, words.otsd, count, rng))
+                for count in (64, 20)]
     elif words.burst:
-        jobs = [lambda folder: burst(folder, words.otsd, words.workers, words.burst, rng)]
+        jobs = [('a burst', lambda folder: burst(folder, words.otsd, words.workers, words.burst, rng))]
     else:
-        jobs = [lambda folder, kind=kind: among(folder, kind, words, rng)
+        jobs = [(kind, lambda folder, kind=kind: among(folder, kind, words, rng))
                 for kind in (COUNTS if words.kind == 'all' else [words.kind])]
     good = 0
-    for job in jobs:
+    for name, job in jobs:
         with tempfile.TemporaryDirectory() as folder:
-            good += job(folder)
+            try:
+                good += job(folder)
+            except Wrong as wrong:
+                print(f'{name}: {wrong}', flush=True)
     print(f'{good} of {len(jobs)} as promised')
     sys.exit(0 if good == len(jobs) else 1)
 

@@ -1,11 +1,10 @@
 //! Connections that are held until they have said what they want.
-ghost use Rattle.std.specs.Prelude.{◌<◌, length, IfSome};
-
 use crate::conversation::MAX_HELD;
 use crate::looking::{Heard, look};
 use libc::net::{POLLIN, POLLRDHUP, poll};
 use libc::types::{pollfd, rlimit};
 use std::alloc::Global;
+use std::collections::VecDeque;
 use std::os::fd::AsRawFd;
 use std::time::{Duration, Instant};
 
@@ -31,10 +30,25 @@ struct HeldStream<S> {
 }
 
 impl<S: AsRawFd> HeldStream<S> {
-    /// Whether it is to be looked at, for all that has come of it.
+    /// Whether it is to be looked at again, though nothing new is known of it.
     fn is_due(&self, now: Instant) -> bool {
         let age = now.duration_since(self.began);
         self.has_part && now.duration_since(self.looked) >= age / LOOK_PART
+    }
+
+    /// What a wait is to find of it. What has come and was looked at would end each wait at once, so of
+    /// one that has sent a part only its end is waited for.
+    fn awaited(&self) -> i16 {
+        if self.has_part { POLLRDHUP } else { POLLIN }
+    }
+
+    /// How long to wait at most, in milliseconds, for it to send more or to have been held for the limit.
+    fn wait(&self, limit: Duration, now: Instant) -> i32 {
+        if self.has_part {
+            LOOK_PAUSE
+        } else {
+            time_left(self.began, limit, now)
+        }
     }
 
     /// Looks at what has come: whether that is enough.
@@ -43,6 +57,12 @@ impl<S: AsRawFd> HeldStream<S> {
         self.has_part = heard == Heard::Part;
         self.looked = now;
         heard == Heard::Enough
+    }
+
+    /// The same where a wait found something of it: of one that has sent a part that is its end or an
+    /// error, which comes with the part again and again.
+    fn has_spoken_or_ended(&mut self, now: Instant) -> bool {
+        self.has_part || self.has_spoken(now)
     }
 }
 
@@ -59,7 +79,7 @@ pub struct Spoken<S> {
 /// The connections that are held, the oldest first.
 #[derive(Drop)]
 pub struct Held<S> {
-    streams: Vec<HeldStream<S>>,
+    streams: VecDeque<HeldStream<S>>,
     polled: Vec<pollfd>,
 }
 
@@ -67,7 +87,7 @@ impl<S: AsRawFd + Drop> Held<S> {
     /// No connection.
     pub fn new(alloc: Global) -> Held<S> {
         Held {
-            streams: Vec::new(alloc),
+            streams: VecDeque::new(alloc),
             polled: Vec::new(alloc),
         }
     }
@@ -93,24 +113,40 @@ impl<S: AsRawFd + Drop> Held<S> {
                 is_over: false,
             });
         }
-        self.streams.push(held).unwrap();
+        self.streams.push_back(held).unwrap();
         if self.streams.len() > most_held(served) {
-            self.oldest(true)
+            self.take(0, true)
         } else {
             None
         }
     }
 
-    /// The oldest connection.
-    pub fn oldest(&mut self, is_over: bool) -> Option<Spoken<S>> {
-        if self.streams.is_empty() {
-            return None;
-        }
-        Some(take(&mut self.streams, 0, is_over))
+    /// The oldest connection, as if its time were over.
+    pub fn oldest(&mut self) -> Option<Spoken<S>> {
+        self.take(0, true)
     }
 
-    /// Waits until a further connection comes or one that is held sends more, and no longer than till the
-    /// oldest has been held for the limit. It answers whether one comes.
+    /// The oldest connection, where it was held for the limit. Of those that came together each is
+    /// found so without another wait.
+    pub fn expired(&mut self, limit: Duration, now: Instant) -> Option<Spoken<S>> {
+        match self.streams.front() {
+            Some(held) if now.duration_since(held.began) >= limit => self.take(0, false),
+            _ => None,
+        }
+    }
+
+    /// Takes the connection at a place away.
+    fn take(&mut self, place: usize, is_over: bool) -> Option<Spoken<S>> {
+        let held = self.streams.remove(place)?;
+        Some(Spoken {
+            stream: held.stream,
+            began: held.began,
+            is_over,
+        })
+    }
+
+    /// Waits until a further connection comes or one that is held sends more or ends, and no longer than
+    /// till the oldest has been held for the limit. It answers whether one comes.
     pub fn wait<L: AsRawFd>(&mut self, listener: &L, limit: Duration, now: Instant) -> bool {
         self.polled.clear();
         if self
@@ -120,62 +156,32 @@ impl<S: AsRawFd + Drop> Held<S> {
         {
             return false;
         }
-        let _ = self.polled.push(readable(listener.as_raw_fd(), POLLIN));
+        let _ = self.polled.push(awaited(listener.as_raw_fd(), POLLIN));
         let mut wait = i32::MAX;
         for held in &self.streams {
-            // What has come and was looked at would end each wait at once.
-            let events = if held.has_part { POLLRDHUP } else { POLLIN };
-            let _ = self.polled.push(readable(held.stream.as_raw_fd(), events));
-            wait = wait.min(if held.has_part {
-                LOOK_PAUSE
-            } else {
-                time_left(held.began, limit, now)
-            });
+            let _ = self
+                .polled
+                .push(awaited(held.stream.as_raw_fd(), held.awaited()));
+            wait = wait.min(held.wait(limit, now));
         }
         poll(&mut self.polled, wait);
         has_come(&self.polled, 0)
     }
 
-    /// The first connection that has spoken; else the oldest, where it was held for the limit.
-    pub fn next(&mut self, limit: Duration, now: Instant) -> Option<Spoken<S>> {
-        if let Some(place) = first_spoken(&mut self.streams, &self.polled, now) {
-            return Some(take(&mut self.streams, place, false));
+    /// The first connection that has spoken, of those that the last wait found something of and those that
+    /// are due to be looked at.
+    pub fn spoken(&mut self, now: Instant) -> Option<Spoken<S>> {
+        for place in 0..self.streams.len() {
+            let is_found = has_come(&self.polled, place.saturating_add(1));
+            if let Some(held) = self.streams.get_mut(place)
+                && (is_found && held.has_spoken_or_ended(now)
+                    || held.is_due(now) && held.has_spoken(now))
+            {
+                return self.take(place, false);
+            }
         }
-        match self.streams.first() {
-            Some(held) if now.duration_since(held.began) >= limit => self.oldest(false),
-            _ => None,
-        }
+        None
     }
-}
-
-/// Takes the connection at a place away.
-fn take<S: Drop>(streams: &mut Vec<HeldStream<S>>, place: usize, is_over: bool) -> Spoken<S>
-    requires { place < length streams.old.items }
-{
-    let held = streams.remove(place);
-    Spoken {
-        stream: held.stream,
-        began: held.began,
-        is_over,
-    }
-}
-
-/// Where the first connection stands that has spoken, of those that the last wait found something of and
-/// those that are due to be looked at.
-fn first_spoken<S: AsRawFd>(
-    streams: &mut [HeldStream<S>],
-    polled: &[pollfd],
-    now: Instant,
-) -> Option<usize>
-    ensures { IfSome result (λ place. place < length streams.new) }
-{
-    for place in 0..streams.len() {
-        let held = &mut streams[place];
-        if (has_come(polled, place.saturating_add(1)) || held.is_due(now)) && held.has_spoken(now) {
-            return Some(place);
-        }
-    }
-    None
 }
 
 /// Whether a wait found at this place something of what it was asked for.
@@ -186,7 +192,7 @@ fn has_come(polled: &[pollfd], place: usize) -> bool {
     }
 }
 
-fn readable(fd: i32, events: i16) -> pollfd {
+fn awaited(fd: i32, events: i16) -> pollfd {
     pollfd {
         fd,
         events,

@@ -17,7 +17,7 @@ pub enum Heard {
     Nothing,
     /// Something, and no whole head.
     Part,
-    /// A whole head, more than a head may have, its end, or an error that the next read tells.
+    /// A whole head, what begins no head, more than a head may have, its end, or an error.
     Enough,
 }
 
@@ -42,7 +42,7 @@ fn look_within<S: AsRawFd>(stream: &S, buf: &mut [u8]) -> Option<Heard> {
             _ => Heard::Enough,
         });
     };
-    if count == 0 || has_head(&buf[..count]) {
+    if is_enough(&buf[..count]) {
         Some(Heard::Enough)
     } else if count < buf.len() {
         Some(Heard::Part)
@@ -51,7 +51,17 @@ fn look_within<S: AsRawFd>(stream: &S, buf: &mut [u8]) -> Option<Heard> {
     }
 }
 
-/// Whether a head ends in these bytes: a line that isn't empty, and then an empty one.
+/// Whether these bytes are all that is to be waited for: none, so that the peer has ended; what begins with
+/// no letter, as no method of HTTP does; or a head, which ends with an empty line after one that isn't.
+fn is_enough(bytes: &[u8]) -> bool {
+    match bytes.first() {
+        None => true,
+        Some(first) if !first.is_ascii_alphabetic() && !first.is_ascii_whitespace() => true,
+        Some(_) => has_head(bytes),
+    }
+}
+
+/// Whether a head ends in these bytes.
 fn has_head(bytes: &[u8]) -> bool {
     let mut has_line = false;
     let mut is_empty = true;

@@ -32,6 +32,10 @@ const SHORTNESS_PAUSE: u64 = 10;
 /// send and take nothing have given their descriptors back. The limit is this project's.
 const SHORTNESS_SECONDS: u64 = 30;
 
+/// How many connections are taken at most that came together, before those that are held are looked at
+/// again: each look is at all of them.
+const MAX_TAKEN: usize = 256;
+
 /// The pauses of that time.
 const MAX_PAUSES: u64 = SHORTNESS_SECONDS * 1_000 / SHORTNESS_PAUSE;
 
@@ -142,20 +146,32 @@ where
     L::Stream: AsRawFd,
 {
     for _ in 0..u64::MAX {
-        let comes = held.is_empty() || held.wait(listener, limit, Instant::now(clock)?);
-        if let Some(spoken) = held.next(limit, Instant::now(clock)?) {
+        if held.is_empty() {
+            // Nothing else can happen.
+            let stream = next_stream(clock, listener)?;
+            if let Some(spoken) = held.hold(stream, Instant::now(clock)?, served) {
+                return Ok(spoken);
+            }
+            continue;
+        }
+        let now = Instant::now(clock)?;
+        if let Some(spoken) = held.expired(limit, now) {
             return Ok(spoken);
         }
-        if comes && let Some(spoken) = take_next(clock, listener, held, served)? {
+        let comes = held.wait(listener, limit, now);
+        if let Some(spoken) = held.spoken(Instant::now(clock)?) {
+            return Ok(spoken);
+        }
+        if comes && let Some(spoken) = take_those_that_came(clock, listener, held, served)? {
             return Ok(spoken);
         }
     }
     Err(io::Error::from(ErrorKind::TimedOut))
 }
 
-/// Takes the connection that comes next, and holds it: one that is to be served, if there is one. Where the
-/// system is short, that is the oldest which is held.
-fn take_next<L: OpenListener>(
+/// Takes the connections that have come, at most [`MAX_TAKEN`] of them, and holds them: one that is to be
+/// served, if there is one.
+fn take_those_that_came<L: OpenListener>(
     clock: &impl Clock,
     listener: &L,
     held: &mut Held<L::Stream>,
@@ -164,22 +180,47 @@ fn take_next<L: OpenListener>(
 where
     L::Stream: AsRawFd,
 {
-    let pauses = if held.is_empty() { MAX_PAUSES } else { 0 };
-    match next_stream(clock, listener, pauses) {
-        Ok(stream) => Ok(held.hold(stream, Instant::now(clock)?, served)),
-        Err(error) => match held.oldest(true) {
-            Some(spoken) if AcceptError::of(&error) == AcceptError::Short => Ok(Some(spoken)),
-            _ => Err(error),
-        },
+    listener.set_nonblocking(true)?;
+    let taken = take_several(clock, listener, held, served);
+    listener.set_nonblocking(false)?;
+    taken
+}
+
+/// The same from a listener that waits for nothing. Where the system is short, the oldest that is held is
+/// to be served.
+fn take_several<L: OpenListener>(
+    clock: &impl Clock,
+    listener: &L,
+    held: &mut Held<L::Stream>,
+    served: usize,
+) -> io::Result<Option<Spoken<L::Stream>>>
+where
+    L::Stream: AsRawFd,
+{
+    for _ in 0..MAX_TAKEN {
+        let error = match listener.accept() {
+            Ok((stream, _)) => {
+                if let Some(spoken) = held.hold(stream, Instant::now(clock)?, served) {
+                    return Ok(Some(spoken));
+                }
+                continue;
+            }
+            Err(error) => error,
+        };
+        if error.kind() == ErrorKind::WouldBlock {
+            return Ok(None);
+        }
+        match AcceptError::of(&error) {
+            AcceptError::OfOneConnection => {}
+            AcceptError::Short => return Ok(held.oldest()),
+            AcceptError::Other => return Err(error),
+        }
     }
+    Ok(None)
 }
 
 /// The next connection that isn't lost while it is taken.
-fn next_stream<L: OpenListener>(
-    clock: &impl Clock,
-    listener: &L,
-    most_pauses: u64,
-) -> io::Result<L::Stream> {
+fn next_stream<L: OpenListener>(clock: &impl Clock, listener: &L) -> io::Result<L::Stream> {
     let mut pauses = 0;
     for _ in 0..MAX_TRIES {
         let error = match listener.accept() {
@@ -188,7 +229,7 @@ fn next_stream<L: OpenListener>(
         };
         match AcceptError::of(&error) {
             AcceptError::OfOneConnection => pauses = 0,
-            AcceptError::Short if pauses < most_pauses => {
+            AcceptError::Short if pauses < MAX_PAUSES => {
                 pauses += 1;
                 thread::sleep(clock, Duration::from_millis(SHORTNESS_PAUSE));
             }

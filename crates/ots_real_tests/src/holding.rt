@@ -116,6 +116,34 @@ fn what_came_in_time_is_read_after_it(rt: HostRuntime) -> Result<(), Fail> {
     Ok(())
 }
 
+/// The next link gives these bytes.
+fn take_bytes<A: Accepter>(rt: &impl Abort, accepter: &mut A, bytes: &[u8]) -> Result<(), Fail> {
+    let mut link = next_link(accepter)?;
+    assert!(rt; gives_next(&mut link, bytes));
+    accepter.give_back(link);
+    Ok(())
+}
+
+#[test]
+fn what_ends_or_begins_no_head_is_not_held(rt: HostRuntime) -> Result<(), Fail> {
+    let mut accepter = TcpAccepter::new(&rt, rt.alloc());
+    let port = listen_from(&mut accepter, 48_900)?;
+    let began = Instant::now(&rt)?;
+    for bytes in [b"ab", b"\x16\x03"] {
+        let mut streams = connect(&rt, port, 1)?;
+        for stream in &mut streams {
+            stream.write_all(bytes)?;
+        }
+        // The first one is closed, with a part of a head.
+        if bytes == b"ab" {
+            streams.clear();
+        }
+        take_bytes(&rt, &mut accepter, bytes)?;
+    }
+    assert!(rt; began.elapsed(&rt)? < Duration::from_secs(3));
+    Ok(())
+}
+
 #[test]
 fn three_hundred_connections_wait_in_the_queue(rt: HostRuntime) -> Result<(), Fail> {
     let mut accepter = TcpAccepter::new(&rt, rt.alloc());
