@@ -13,10 +13,12 @@ top=$(CDPATH='' cd -- "$(dirname -- "$0")/.." && pwd) || exit 70
 work=
 trap '[ -z "$work" ] || rm -rf "$work"' EXIT
 
-# The SHA-256 of each program of a folder, as NAME SUM, in the order of their names.
+# The SHA-256 of each program of a folder, as NAME SUM, in the order of their names. Of a package the client is gahopiki-ots.
 sums_of() {
     for program in $programs; do
-        echo "$program $(sha256sum < "$1/$program" | cut -d ' ' -f 1)"
+        file=$1/$program
+        [ "$program" != ots ] || [ ! -e "$1/gahopiki-ots" ] || file=$1/gahopiki-ots
+        echo "$program $(sha256sum < "$file" | cut -d ' ' -f 1)"
     done | sort
 }
 
