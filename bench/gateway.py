@@ -7,7 +7,8 @@ A gateway of up to SIZE links a round, 1,024 where none is given, stands before 
 connections of a round are begun and their digests sent before any reply is read, by one thread. What is printed for a
 quarter of SIZE and for SIZE: the seconds from the first connection to the last reply, in the middle of NUMBER rounds, 5
 where none is given, and the digests a second. The calendar alone is asked beside it, with 64 workers and as many
-connections at once.
+connections at once. Then two tiers stand before it: eight gateways of an eighth of SIZE links a round, and above them one with
+rounds of 4, of 8 and of 1, which all eight ask at the same time.
 
 Then the calendar is one in Python whose reply has 9,600 bytes, so that each reply of the gateway has almost 10,000,
 and the most memory that the gateway had (VmHWM of /proc) is printed, for a quarter of SIZE and for SIZE.
@@ -30,6 +31,7 @@ import time
 
 TOP = os.path.dirname(os.path.dirname(os.path.abspath(__file__)))
 OTSD, OTSGATE = (os.path.join(TOP, 'build', name) for name in ('otsd', 'otsgate'))
+BELOW = 8
 
 
 def free_port():
@@ -46,10 +48,15 @@ def begun(words, port, **how):
 
 
 def one_round(port, digests):
-    """The seconds until each of these digests, sent at once, has its reply."""
+    """The seconds until each of these digests, sent at once, has its reply, and the bytes of the longest."""
+    return one_round_of([(port, digest) for digest in digests])
+
+
+def one_round_of(sent):
+    """The same of digests that are each sent to a port."""
     began = time.monotonic()
     links = []
-    for digest in digests:
+    for port, digest in sent:
         link = socket.create_connection(('127.0.0.1', port))
         link.sendall(b'POST /digest HTTP/1.1\r\nHost: a\r\nContent-Length: 32\r\n\r\n' + digest)
         links.append(link)
@@ -91,12 +98,32 @@ def unknown(size):
     return b'\x00' + bytes(range(8)) + bytes([size & 0x7f | 0x80, size >> 7]) + bytes(size)
 
 
-def rounds_of(rng, calendar, size, rounds):
-    """The seconds of each round, the bytes of the longest reply and the gateway's memory."""
+def gateway_before(calendar, size, accept):
+    """A gateway with rounds of so many links, and its port."""
     port = free_port()
     words = [OTSGATE, '--calendars', calendar, '--min', '1', '--port', str(port), '--round', str(size), '--accept',
-             str(size * rounds)]
-    gateway = begun(words, port)
+             str(accept)]
+    return begun(words, port), port
+
+
+def tiers_of(rng, calendar, below, size, above, rounds):
+    """The seconds of each round of so many gateways below one whose rounds have `above` links."""
+    upper, port = gateway_before(calendar, above, below * rounds)
+    lower = [gateway_before(f'http://127.0.0.1:{port}', size, size * rounds) for _ in range(below)]
+    times, longest = [], 0
+    for _ in range(rounds):
+        seconds, most = one_round_of([(port, rng.randbytes(32)) for _ in range(size) for _, port in lower])
+        times.append(seconds)
+        longest = max(longest, most)
+    for gateway in [upper] + [gateway for gateway, _ in lower]:
+        assert gateway.wait(60) == 0
+        gateway.stdout.close()
+    return times, longest
+
+
+def rounds_of(rng, calendar, size, rounds):
+    """The seconds of each round, the bytes of the longest reply and the gateway's memory."""
+    gateway, port = gateway_before(calendar, size, size * rounds)
     times, longest, memory = [], 0, 0
     for _ in range(rounds):
         seconds, most = one_round(port, [rng.randbytes(32) for _ in range(size)])
@@ -138,6 +165,11 @@ def main():
         middle = statistics.median(times)
         print(f'the calendar alone, {words.size} connections at once: {middle * 1000:.0f} ms, {words.size / middle:.0f} '
               'digests a second')
+        for above in 4, BELOW, 1:
+            times, longest = tiers_of(rng, uri, BELOW, words.size // BELOW, above, words.rounds)
+            middle = statistics.median(times)
+            print(f'{BELOW} gateways with rounds of {words.size // BELOW} below one with rounds of {above}: {middle * 1000:.0f} ms, '
+                  f'at most {max(times) * 1000:.0f}, {words.size / middle:.0f} digests a second, replies of at most {longest} bytes')
         calendar.kill()
     server = http.server.ThreadingHTTPServer(('127.0.0.1', 0), Big)
     threading.Thread(target=server.serve_forever, daemon=True).start()

@@ -1,3 +1,4 @@
 pub mod Conversing
+pub mod KnownLaws
 pub mod OneOutcome
 pub mod Questions

@@ -37,7 +37,7 @@ module _ (laws : Laws) (n k : ℕ) (shape : IsShape n k) where
   one_body_fault body f g (more t one at less is) (more u other at' less' is') =
       is ∙ ap (λ (place : ℕ). record { place = place; reason = TrailingBytes }) (laws.one_tree n k body t u one other at at').1 ∙ sym is'
 
-  one_of_body : (body : List ℕ) (a b : Outcome) → IsOutcomeOfBody n k body a → IsOutcomeOfBody n k body b → a ≡ b
+  pub one_of_body : (body : List ℕ) (a b : Outcome) → IsOutcomeOfBody n k body a → IsOutcomeOfBody n k body b → a ≡ b
   one_of_body body (Tree t) (Tree u) p q = ap Tree (laws.one_tree n k body t u (length body) (length body) p q).0
   one_of_body body (Tree t) (BadReply g) p q = absurd (no_more body t g p q)
   one_of_body body (BadReply f) (Tree u) p q = absurd (no_more body u f q p)

@@ -24,7 +24,8 @@ pub data HasBodyFault (n k : ℕ) (body : List ℕ) (f : Fault) : Type 0 where
       → f ≡ record { place = used; reason = TrailingBytes }
       → HasBodyFault n k body f
 
--- the outcome of a good reply with this body
+-- The outcome of a good reply with this body, asked for below a message of n bytes and k operations: the whole of it is
+-- the tree, or it has the fault.
 abbrev pub IsOutcomeOfBody : ℕ → ℕ → List ℕ → Outcome → Type 0
 IsOutcomeOfBody n k body (Tree t) = IsTreeAt n k body t (length body)
 IsOutcomeOfBody n k body (BadReply f) = HasBodyFault n k body f

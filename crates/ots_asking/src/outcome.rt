@@ -52,8 +52,14 @@ pub fn outcome_of(
     }
 }
 
-/// The outcome of a good reply with this body: it is good where the whole body is a tree.
-fn outcome_of_body(alloc: Global, body: &[u8], shape: Shape) -> Result<Outcome, OutOfMemory>
+/// The outcome of a good reply with this body, in whatever way the body came. It is `Tree` where the whole
+/// body is a tree that may stand below a message and operations of this shape, a message of 1 to 4096
+/// bytes and at most 255 operations. Else it is `BadReply` with the body's fault, whose place counts bytes
+/// from the body's start; where bytes follow a tree, that is `TrailingBytes` at the first of them. No other
+/// outcome comes.
+///
+/// It reads the body once. `OutOfMemory` comes where there is no memory of `alloc` for the tree.
+pub fn outcome_of_body(alloc: Global, body: &[u8], shape: Shape) -> Result<Outcome, OutOfMemory>
     requires least { 1 ≤ shape.length }
     requires greatest { shape.length ≤ MAX_MESSAGE }
     requires depth { shape.depth ≤ MAX_OPERATIONS }

@@ -61,7 +61,7 @@ pub(crate) fn ask<T: Dialer>(
 /// bytes before or after, 34 bytes, and hash, 1 byte.
 fn way_bytes(depth: u32) -> u64
     requires least { 2 ≤ depth }
-    requires most { depth ≤ 22 }
+    requires most { depth ≤ 66 }
     ensures bytes { result ≡ way_bytes depth }
     ensures most { result ≤ MAX_REPLY_BODY }
 {

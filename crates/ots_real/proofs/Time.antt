@@ -39,6 +39,7 @@ pub time_answered : {S Answer Failure : Type 0} (s t u : Option S) (a b c x y z 
 time_answered s t u a b c x y z result call tried = record {
   runs = runs_trans a b c (tried.runs) (call.runs);
   begun = call.begun;
+  timeout = call.timeout;
   other_way = rw (call.other_way) (tried.other_way);
   stays_open = rw (call.stays_open) (tried.stays_open);
   closed = λ is. call.closed (none_stays s t (tried.stays_open) is);
@@ -48,6 +49,7 @@ pub time_failed : {S Answer Failure : Type 0} (s t : Option S) (a b x y : TimeLi
 time_failed s t a b x y failure tried = record {
   runs = tried.runs;
   begun = search rules;
+  timeout = search rules;
   other_way = tried.other_way;
   stays_open = tried.stays_open;
   closed = λ is. search rules;

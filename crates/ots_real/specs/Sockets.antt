@@ -1,7 +1,7 @@
 -- What the forms over sockets are seen as.
 use Rattle.std.specs.Prelude.{◌≡◌, ℕ, List, Bool, Option, None, Some, Result, OnOk, IsErr, IsSome, is_some}
 use Rattle.std.specs.declared.time.Duration.{Duration}
-use Rattle.ots_real.specs.TimeLimit.{limit_began, Runs}
+use Rattle.ots_real.specs.TimeLimit.{limit_began, limit_timeout, Runs}
 use Rattle.ots_real.specs.declared.time_limit.TimeLimit.{TimeLimit}
 use Rattle.ots_real.specs.declared.timed_stream.TimedStream.{TimedStream}
 use Rattle.ots_real.specs.declared.tcp_accepter.TcpAccepter.{TcpAccepter}
@@ -39,13 +39,15 @@ abbrev pub link_faults : {C S : Type 0} → TcpLink C S → ℕ
 link_faults link = link.faults
 
 -- What a call of a conversation does to its time: the limit of its own way runs, an answer comes only once it has
--- begun, the other way's limit stays, a stream stays open, and a closed one answers nothing.
+-- begun and the socket was given a timeout, the other way's limit stays, a stream stays open, and a closed one answers
+-- nothing.
 pub record KeepsTime {S Answer Failure : Type 0}
     (stream stream_after : Option S)
     (own own_after other other_after : TimeLimit)
     (result : Result Answer Failure) : Type 0 where
   pub runs : Runs own own_after
   pub begun : OnOk result (IsSome (limit_began own_after))
+  pub timeout : OnOk result (IsSome (limit_timeout own_after))
   pub other_way : other_after ≡ other
   pub stays_open : is_some stream_after ≡ is_some stream
   pub closed : stream ≡ None → IsErr result

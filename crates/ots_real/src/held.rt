@@ -20,6 +20,9 @@ const LOOK_PAUSE: i32 = 4;
 /// at some thirty times in all.
 const LOOK_PART: u32 = 4;
 
+/// The part of those that are held that goes where there are too many.
+const EVICTED_PART: usize = 16;
+
 /// A connection that has not sent a whole head.
 #[derive(Drop)]
 struct HeldStream<S> {
@@ -64,6 +67,22 @@ impl<S: AsRawFd> HeldStream<S> {
     fn has_spoken_or_ended(&mut self, now: Instant) -> bool {
         self.has_part || self.has_spoken(now)
     }
+
+    /// Whether it is to be served: it was held for the limit, or it has spoken, by what a wait found of it
+    /// or since it is due.
+    fn is_to_be_served(&mut self, is_found: bool, limit: Duration, now: Instant) -> bool {
+        now.duration_since(self.began) >= limit
+            || is_found && self.has_spoken_or_ended(now)
+            || self.is_due(now) && self.has_spoken(now)
+    }
+
+    fn spoken(self, is_over: bool) -> Spoken<S> {
+        Spoken {
+            stream: self.stream,
+            began: self.began,
+            is_over,
+        }
+    }
 }
 
 /// A connection that is to be served.
@@ -76,10 +95,14 @@ pub struct Spoken<S> {
     pub is_over: bool,
 }
 
-/// The connections that are held, the oldest first.
+/// The connections that have not been handed out. Whatever is to be served is found for all of them at once
+/// and handed out one by one, so that no look at all of them is made for each.
 #[derive(Drop)]
 pub struct Held<S> {
-    streams: VecDeque<HeldStream<S>>,
+    /// Those that have not spoken, the oldest first.
+    silent: VecDeque<HeldStream<S>>,
+    /// Those that are to be served, in the order in which that was found.
+    ready: VecDeque<Spoken<S>>,
     polled: Vec<pollfd>,
 }
 
@@ -87,62 +110,67 @@ impl<S: AsRawFd + Drop> Held<S> {
     /// No connection.
     pub fn new(alloc: Global) -> Held<S> {
         Held {
-            streams: VecDeque::new(alloc),
+            silent: VecDeque::new(alloc),
+            ready: VecDeque::new(alloc),
             polled: Vec::new(alloc),
         }
     }
 
+    /// Whether there is none that has not spoken.
     pub fn is_empty(&self) -> bool {
-        self.streams.is_empty()
+        self.silent.is_empty()
     }
 
-    /// Holds a connection that was accepted now, and answers one that is to be served, if there is one:
-    /// this one, where it has spoken already or there is no memory to hold it, or the oldest, where there
-    /// are too many beside the `served` ones.
-    pub fn hold(&mut self, stream: S, now: Instant, served: usize) -> Option<Spoken<S>> {
+    /// Whether so many connections are held, or more.
+    pub fn has(&self, most: usize) -> bool {
+        self.silent.len().saturating_add(self.ready.len()) >= most
+    }
+
+    /// The next connection of those that are known to be to be served.
+    pub fn ready(&mut self) -> Option<Spoken<S>> {
+        self.ready.pop_front()
+    }
+
+    /// Holds a connection that was accepted now, and answers it where it is to be served at once: where it
+    /// has spoken already, or there is no memory to hold it.
+    pub fn hold(&mut self, stream: S, now: Instant) -> Option<Spoken<S>> {
         let mut held = HeldStream {
             stream,
             began: now,
             looked: now,
             has_part: false,
         };
-        if held.has_spoken(now) || self.streams.reserve(1).is_err() {
-            return Some(Spoken {
-                stream: held.stream,
-                began: now,
-                is_over: false,
-            });
+        if held.has_spoken(now) {
+            return Some(held.spoken(false));
         }
-        self.streams.push_back(held).unwrap();
-        if self.streams.len() > most_held(served) {
-            self.take(0, true)
-        } else {
-            None
+        match self.silent.push_back(held) {
+            Ok(()) => None,
+            Err(refused) => Some(refused.value.spoken(false)),
         }
     }
 
-    /// The oldest connection, as if its time were over.
-    pub fn oldest(&mut self) -> Option<Spoken<S>> {
-        self.take(0, true)
-    }
-
-    /// The oldest connection, where it was held for the limit. Of those that came together each is
-    /// found so without another wait.
-    pub fn expired(&mut self, limit: Duration, now: Instant) -> Option<Spoken<S>> {
-        match self.streams.front() {
-            Some(held) if now.duration_since(held.began) >= limit => self.take(0, false),
-            _ => None,
+    /// Puts a connection after those that are to be served, and answers it where there is no memory for
+    /// that.
+    pub fn put(&mut self, spoken: Spoken<S>) -> Option<Spoken<S>> {
+        match self.ready.push_back(spoken) {
+            Ok(()) => None,
+            Err(refused) => Some(refused.value),
         }
     }
 
-    /// Takes the connection at a place away.
-    fn take(&mut self, place: usize, is_over: bool) -> Option<Spoken<S>> {
-        let held = self.streams.remove(place)?;
-        Some(Spoken {
-            stream: held.stream,
-            began: held.began,
-            is_over,
-        })
+    /// Answers the oldest connection as if its time were over, and puts a part of the next ones to those
+    /// that are to be served, as over too: where one place is wanted more mostly are, and each time a look
+    /// at all that are held was made.
+    pub fn evict(&mut self) -> Option<Spoken<S>> {
+        let oldest = self.silent.pop_front()?;
+        let more = self.silent.len() / EVICTED_PART;
+        if self.ready.reserve(more).is_ok() {
+            for next in self.silent.drain(..more) {
+                // There is room.
+                let _ = self.ready.push_back(next.spoken(true));
+            }
+        }
+        Some(oldest.spoken(true))
     }
 
     /// Waits until a further connection comes or one that is held sends more or ends, and no longer than
@@ -151,14 +179,14 @@ impl<S: AsRawFd + Drop> Held<S> {
         self.polled.clear();
         if self
             .polled
-            .reserve(self.streams.len().saturating_add(1))
+            .reserve(self.silent.len().saturating_add(1))
             .is_err()
         {
             return false;
         }
         let _ = self.polled.push(awaited(listener.as_raw_fd(), POLLIN));
         let mut wait = i32::MAX;
-        for held in &self.streams {
+        for held in &self.silent {
             let _ = self
                 .polled
                 .push(awaited(held.stream.as_raw_fd(), held.awaited()));
@@ -168,20 +196,29 @@ impl<S: AsRawFd + Drop> Held<S> {
         has_come(&self.polled, 0)
     }
 
-    /// The first connection that has spoken, of those that the last wait found something of and those that
-    /// are due to be looked at.
-    pub fn spoken(&mut self, now: Instant) -> Option<Spoken<S>> {
-        for place in 0..self.streams.len() {
+    /// Puts those that are to be served, of those that the last wait found something of, those that are due
+    /// to be looked at and those that were held for the limit, to the others that are. It answers one for
+    /// which there is no memory.
+    pub fn sort(&mut self, limit: Duration, now: Instant) -> Option<Spoken<S>> {
+        for place in 0..self.silent.len() {
+            let mut held = self.silent.pop_front()?;
             let is_found = has_come(&self.polled, place.saturating_add(1));
-            if let Some(held) = self.streams.get_mut(place)
-                && (is_found && held.has_spoken_or_ended(now)
-                    || held.is_due(now) && held.has_spoken(now))
-            {
-                return self.take(place, false);
+            if held.is_to_be_served(is_found, limit, now) {
+                if let Some(spoken) = self.put(held.spoken(false)) {
+                    return Some(spoken);
+                }
+            } else {
+                // There is room, since one was just taken from it.
+                let _ = self.silent.push_back(held);
             }
         }
         None
     }
+}
+
+/// Waits until a connection comes.
+pub fn wait_for_one<L: AsRawFd>(listener: &L) {
+    poll(&mut [awaited(listener.as_raw_fd(), POLLIN)], -1);
 }
 
 /// Whether a wait found at this place something of what it was asked for.
@@ -210,7 +247,7 @@ fn time_left(began: Instant, limit: Duration, now: Instant) -> i32 {
 
 /// How many connections may be held beside so many that are served: as many as the limit on open files
 /// allows, one at least, and [`MAX_HELD`] at most.
-fn most_held(served: usize) -> usize {
+pub fn most_held(served: usize) -> usize {
     let mut limit = rlimit {
         rlim_cur: 0,
         rlim_max: 0,

@@ -30,6 +30,7 @@ mod dir_shelf;
 mod file_log;
 mod file_size;
 mod held;
+mod inherited;
 mod looking;
 mod new_file;
 mod open_file;

@@ -9,7 +9,8 @@ ghost use Rattle.ots_real.specs.TimeLimit.{BeganWithin, IsUnbegun};
 
 use crate::accept_error::AcceptError;
 use crate::conversation::{LISTEN_QUEUE, REPLY_SECONDS, REQUEST_SECONDS};
-use crate::held::{Held, Spoken};
+use crate::held::{Held, Spoken, most_held, wait_for_one};
+use crate::inherited::Inherited;
 use crate::tcp_link::Drained;
 use crate::{TcpLink, TimeLimit};
 use ots_outside::{Accepter, Count, Failed};
@@ -61,6 +62,7 @@ pub struct TcpAccepter<R: Net + Clock + Copy> {
     listener: Option<R::Listener>,
     held: Held<R::Stream>,
     served: usize,
+    inherited: Inherited,
     drained: Drained,
     request_limit: Duration,
     reply_limit: Duration,
@@ -110,6 +112,7 @@ impl<R: Net + Clock + Copy> TcpAccepter<R> {
             listener: None,
             held: Held::new(alloc),
             served: 0,
+            inherited: Inherited::No,
             drained: Drained::AtOnce,
             request_limit: request,
             reply_limit: reply,
@@ -124,12 +127,16 @@ impl<R: Net + Clock + Copy> TcpAccepter<R> {
         ensures request { BeganWithin (request_limit self.now) (read_limit result) }
         ensures reply { IsUnbegun (reply_limit self.now) (write_limit result) }
     {
-        let reads = if spoken.is_over {
+        let mut reads = if spoken.is_over {
             TimeLimit::over(spoken.began)
         } else {
             TimeLimit::since(spoken.began, self.request_limit)
         };
-        let writes = TimeLimit::new(self.reply_limit);
+        let mut writes = TimeLimit::new(self.reply_limit);
+        if let Some(timeout) = self.inherited.timeout() {
+            reads.set_timeout(timeout);
+            writes.set_timeout(timeout);
+        }
         TcpLink::accepted(self.rt, spoken.stream, reads, writes, self.drained)
     }
 }
@@ -146,23 +153,21 @@ where
     L::Stream: AsRawFd,
 {
     for _ in 0..u64::MAX {
-        if held.is_empty() {
+        if let Some(spoken) = held.ready() {
+            return Ok(spoken);
+        }
+        let found = if held.is_empty() {
             // Nothing else can happen.
             let stream = next_stream(clock, listener)?;
-            if let Some(spoken) = held.hold(stream, Instant::now(clock)?, served) {
-                return Ok(spoken);
+            held.hold(stream, Instant::now(clock)?)
+        } else {
+            let comes = held.wait(listener, limit, Instant::now(clock)?);
+            match held.sort(limit, Instant::now(clock)?) {
+                None if comes => take_those_that_came(clock, listener, held, served)?,
+                found => found,
             }
-            continue;
-        }
-        let now = Instant::now(clock)?;
-        if let Some(spoken) = held.expired(limit, now) {
-            return Ok(spoken);
-        }
-        let comes = held.wait(listener, limit, now);
-        if let Some(spoken) = held.spoken(Instant::now(clock)?) {
-            return Ok(spoken);
-        }
-        if comes && let Some(spoken) = take_those_that_came(clock, listener, held, served)? {
+        };
+        if let Some(spoken) = found {
             return Ok(spoken);
         }
     }
@@ -170,7 +175,7 @@ where
 }
 
 /// Takes the connections that have come, at most [`MAX_TAKEN`] of them, and holds them: one that is to be
-/// served, if there is one.
+/// served at once, if there is one.
 fn take_those_that_came<L: OpenListener>(
     clock: &impl Clock,
     listener: &L,
@@ -180,27 +185,35 @@ fn take_those_that_came<L: OpenListener>(
 where
     L::Stream: AsRawFd,
 {
+    let most = most_held(served);
+    if held.has(most) {
+        return Ok(held.evict());
+    }
     listener.set_nonblocking(true)?;
-    let taken = take_several(clock, listener, held, served);
+    let taken = take_several(clock, listener, held, most);
     listener.set_nonblocking(false)?;
     taken
 }
 
-/// The same from a listener that waits for nothing. Where the system is short, the oldest that is held is
-/// to be served.
+/// The same from a listener that waits for nothing, up to so many that are held. Where the system is short,
+/// the oldest that is held is to be served.
 fn take_several<L: OpenListener>(
     clock: &impl Clock,
     listener: &L,
     held: &mut Held<L::Stream>,
-    served: usize,
+    most: usize,
 ) -> io::Result<Option<Spoken<L::Stream>>>
 where
     L::Stream: AsRawFd,
 {
     for _ in 0..MAX_TAKEN {
+        if held.has(most) {
+            return Ok(None);
+        }
         let error = match listener.accept() {
             Ok((stream, _)) => {
-                if let Some(spoken) = held.hold(stream, Instant::now(clock)?, served) {
+                let spoken = held.hold(stream, Instant::now(clock)?);
+                if let Some(spoken) = spoken.and_then(|spoken| held.put(spoken)) {
                     return Ok(Some(spoken));
                 }
                 continue;
@@ -212,7 +225,7 @@ where
         }
         match AcceptError::of(&error) {
             AcceptError::OfOneConnection => {}
-            AcceptError::Short => return Ok(held.oldest()),
+            AcceptError::Short => return Ok(held.evict()),
             AcceptError::Other => return Err(error),
         }
     }
@@ -220,7 +233,10 @@ where
 }
 
 /// The next connection that isn't lost while it is taken.
-fn next_stream<L: OpenListener>(clock: &impl Clock, listener: &L) -> io::Result<L::Stream> {
+fn next_stream<L: OpenListener + AsRawFd>(
+    clock: &impl Clock,
+    listener: &L,
+) -> io::Result<L::Stream> {
     let mut pauses = 0;
     for _ in 0..MAX_TRIES {
         let error = match listener.accept() {
@@ -228,7 +244,13 @@ fn next_stream<L: OpenListener>(clock: &impl Clock, listener: &L) -> io::Result<
             Err(error) => error,
         };
         match AcceptError::of(&error) {
-            AcceptError::OfOneConnection => pauses = 0,
+            AcceptError::OfOneConnection => {
+                pauses = 0;
+                if error.kind() == ErrorKind::WouldBlock {
+                    // The timeout that connections inherit ended the call.
+                    wait_for_one(listener);
+                }
+            }
             AcceptError::Short if pauses < MAX_PAUSES => {
                 pauses += 1;
                 thread::sleep(clock, Duration::from_millis(SHORTNESS_PAUSE));
@@ -269,6 +291,7 @@ where
                 // A second listen(2) on the socket lengthens the queue of 128 that std asks for. Where it
                 // fails the socket listens all the same.
                 libc::net::listen(listener.as_raw_fd(), LISTEN_QUEUE);
+                self.inherited = Inherited::asked_of(&listener);
                 self.listener = Some(listener);
                 Ok(())
             }
@@ -297,6 +320,7 @@ where
         let limit = self.request_limit;
         match next_spoken(&self.rt, listener, &mut self.held, limit, self.served) {
             Ok(spoken) => {
+                self.inherited.see(&spoken.stream);
                 self.accepted.rise();
                 self.served = self.served.saturating_add(1);
                 Ok(Some(self.link(spoken)))

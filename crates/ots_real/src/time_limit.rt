@@ -93,6 +93,13 @@ impl TimeLimit {
         self.began.is_some()
     }
 
+    /// Whether the socket has a timeout for a call of this way.
+    pub(crate) fn has_timeout(&self) -> bool
+        ensures { result ≡ is_some (limit_timeout self.now) }
+    {
+        self.timeout.is_some()
+    }
+
     /// Begins it now, if it has not begun.
     pub(crate) fn begin(&mut self, clock: &impl Clock) -> io::Result<()>
         ensures runs { Runs self.old self.new }

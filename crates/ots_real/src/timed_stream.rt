@@ -3,7 +3,7 @@ ghost use Rattle.std.specs.Io.{ReadsAtMost, WritesAtMost};
 ghost use Rattle.std.specs.Io.KnownBytes.{ReadConsumes, WriteAppends};
 ghost use Rattle.ots_real.specs.Sockets.{inner_reads, inner_stream, inner_writes, open_bytes, KeepsTime};
 
-use crate::conversation::{DRAIN_BYTES, DRAIN_SECONDS};
+use crate::conversation::{DRAIN_BYTES, DRAIN_SECONDS, WAIT_SECONDS};
 use crate::time_limit::TimeLimit;
 use std::io;
 use std::io::{ErrorKind, Read, Write};
@@ -168,6 +168,11 @@ impl<C: Clock, S: Read + Write + OpenStream> Read for TimedStream<C, S> {
             }
             (Err(error), Late::TakesWhatCame)
                 if error.kind() == ErrorKind::TimedOut && self.reads.has_begun() => {
+                if !self.reads.has_timeout() {
+                    let timeout = Duration::from_secs(WAIT_SECONDS);
+                    stream.set_read_timeout(Some(timeout))?;
+                    self.reads.set_timeout(timeout);
+                }
                 return read_what_came(stream, buf);
             }
             (Err(error), _) => return Err(error),

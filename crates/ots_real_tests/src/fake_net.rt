@@ -151,7 +151,8 @@ impl<'a> OpenListener for FakeListener<'a> {
 
 impl<'a> AsRawFd for FakeListener<'a> {
     fn as_raw_fd(&self) -> RawFd {
-        -1
+        // No process has so many descriptors: the system refuses it at once.
+        RawFd::MAX
     }
 }
 

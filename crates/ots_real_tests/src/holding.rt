@@ -1,5 +1,5 @@
 // Connections that are held until they have spoken, over loopback.
-use super::callers::{HEAD, gives_next};
+use super::callers::{HEAD, gives_next, takes};
 use super::sockets::{listen_from, next_link};
 use ots_io::{Accepter, Link, TcpAccepter};
 use std::io::Write;
@@ -10,6 +10,9 @@ use std::time::{Duration, Instant};
 
 /// The time of a request, in milliseconds.
 const LIMIT: u64 = 600;
+
+/// More bytes than the sockets of both ends hold.
+const MORE_THAN_SOCKETS_HOLD: usize = 1 << 23;
 
 /// Opens so many connections, which say nothing.
 fn connect(rt: &HostRuntime, port: u16, count: usize) -> Result<Vec<TcpStream>, Fail> {
@@ -141,6 +144,35 @@ fn what_ends_or_begins_no_head_is_not_held(rt: HostRuntime) -> Result<(), Fail> 
         take_bytes(&rt, &mut accepter, bytes)?;
     }
     assert!(rt; began.elapsed(&rt)? < Duration::from_secs(3));
+    Ok(())
+}
+
+/// The next link gives a head, and is cut off where its peer sends nothing more and takes nothing.
+fn take_stalled<A: Accepter>(rt: &impl Abort, accepter: &mut A, much: &[u8]) -> Result<(), Fail> {
+    let mut link = next_link(accepter)?;
+    assert!(rt; gives_next(&mut link, HEAD) && link.read(&mut [0]).is_err());
+    accepter.give_back(link);
+    let mut link = next_link(accepter)?;
+    assert!(rt; gives_next(&mut link, HEAD) && !takes(&mut link, much));
+    accepter.give_back(link);
+    Ok(())
+}
+
+#[test]
+fn each_of_several_stalled_connections_is_cut_off(rt: HostRuntime) -> Result<(), Fail> {
+    let limit = Duration::from_millis(LIMIT);
+    let mut accepter = TcpAccepter::with_limits(&rt, rt.alloc(), limit, limit);
+    let port = listen_from(&mut accepter, 49_200)?;
+    let much = vec![in rt.alloc(); b'a'; MORE_THAN_SOCKETS_HOLD]?;
+    let began = Instant::now(&rt)?;
+    // The first connection shows whether the others have their timeouts already.
+    for _ in 0..3 {
+        let mut streams = connect(&rt, port, 2)?;
+        speak(&mut streams)?;
+        take_stalled(&rt, &mut accepter, &much)?;
+    }
+    let passed = began.elapsed(&rt)?;
+    assert!(rt; passed >= Duration::from_secs(3) && passed < Duration::from_secs(20));
     Ok(())
 }
 

@@ -1,5 +1,5 @@
 -- Leaves that stand under one root, and the way from each to it.
-use Rattle.std.specs.Prelude.{◌≡◌, ◌≤◌, ◌<◌, ◌+◌, ◌⊎◌, ℕ, List, [], ◌∷◌, length, slice_index_or}
+use Rattle.std.specs.Prelude.{◌≡◌, ◌≤◌, ◌<◌, ◌+◌, ◌^◌, ℕ, List, ◌∷◌, length}
 use Rattle.ots_ops.specs.declared.op.Op.{Op}
 use Rattle.ots_ops.specs.declared.op.Op.TheVariants.{Append, Sha256}
 use Rattle.ots_merkle.specs.CalendarTree.{path, root}
@@ -16,18 +16,11 @@ way_from leaves i nonce = Append nonce ∷ Sha256 ∷ path leaves i
 
 -- ---- for the code
 
--- what is kept of leaves
-pub record KeepsWays (leaves : List (List ℕ)) (paths : List (List Op)) (top : List ℕ) (depth : ℕ) : Type 0 where
+-- what is kept of leaves: the leaves of a tree that has grown over them, its root, and how deep it is
+pub record KeepsWays (leaves grown : List (List ℕ)) (top : List ℕ) (depth : ℕ) : Type 0 where
   pub least : 1 ≤ length leaves
-  pub most : length leaves ≤ 1024
-  pub count : length paths ≡ length leaves
-  pub paths_are : (i : ℕ) → i < length leaves → slice_index_or paths i [] ≡ path leaves i
+  pub most : length leaves < 2 ^ 32
+  pub grown_is : grown ≡ leaves
   pub top_is : top ≡ root leaves
   pub depth_is : IsDepth leaves depth
-  pub shallow : depth ≤ 22
-
--- Two more than the length of the longest of the first `count` paths, and 0 where there is none.
-pub record IsLongest (paths : List (List Op)) (count longest : ℕ) : Type 0 where
-  pub most : (i : ℕ) → i < count → length (slice_index_or paths i []) + 2 ≤ longest
-  pub longest_is : ((count ≡ 0) × (longest ≡ 0)) ⊎ ((i : ℕ) × (i < count)
-      × (length (slice_index_or paths i []) + 2 ≡ longest))
+  pub shallow : depth ≤ 66

@@ -1,18 +1,18 @@
 //! Leaves under one root, and the ways to it.
-ghost use Rattle.std.specs.Prelude.{◌≡◌, ◌≤◌, ◌<◌, ◌+◌, ◌⊎◌, ◌∷◌, ◌++◌, ℕ, length, map, slice_index_or, [], IfOk};
+ghost use Rattle.std.specs.Prelude.{◌≡◌, ◌≤◌, ◌<◌, ◌+◌, ◌*◌, ◌/◌, ◌^◌, ◌∷◌, ◌++◌, ℕ, length, map, take, drop, [], IfOk};
 ghost use Rattle.std.specs.Prelude.{OnErr};
 ghost use Rattle.sha2.specs.Sha256.{sha256};
 ghost use Rattle.ots_asking.specs.Conversation.{Converse, ConverseUpTo};
 ghost use Rattle.ots_asking.specs.Outcome.{AreSound};
 ghost use Rattle.ots_merkle.specs.CalendarTree.{path, root};
 ghost use Rattle.ots_stamp.specs.Stamping.{to_stamp};
-ghost use Rattle.ots_stamp.specs.Ways.{IsDepth, IsLongest, way_from};
+ghost use Rattle.ots_stamp.specs.Ways.{IsDepth, way_from};
 
 use crate::stamping::stamp_with;
 use ots_address::Address;
 use ots_asking::Outcome;
 use ots_base::OutOfMemory;
-use ots_merkle::paths_and_root;
+use ots_growing_tree::{GrowingTree, RUN};
 use ots_ops::{Arg, Digest, Op, Ops};
 use ots_outside::Dialer;
 use sha2::{Digest as _, Sha256};
@@ -22,11 +22,14 @@ use std::marker::Model;
 /// Leaves that stand under one root, which alone calendars are sent, and the way from each to it. A
 /// leaf is SHA-256 of a digest with a nonce after it.
 ///
+/// It keeps the leaves, 32 bytes each, and of the tree over them some 3 bytes a leaf. A path is made
+/// when it is asked for.
+///
 /// Contracts see the list of the leaves.
 #[derive(Drop)]
 pub struct Ways {
     leaves: Vec<[u8; 32]>,
-    paths: Vec<Ops>,
+    tree: GrowingTree,
     root: Digest,
     depth: u32,
 }
@@ -39,24 +42,26 @@ impl Model for Ways {
 
     ghost view = { λ w. w.leaves.items };
 
-    ghost invariant = { λ w. KeepsWays w.leaves.items w.paths.items w.root w.depth };
+    ghost invariant = { λ w. KeepsWays w.leaves.items w.tree.leaves w.root w.depth };
 }
 
 impl Ways {
-    /// The ways of these leaves, at least one and at most 1024. It takes one hash an inner node of the
-    /// tree over them, and the memory of the steps: of n leaves n times the height.
+    /// The ways of these leaves, at least one and fewer than 2^32. It takes one hash an inner node of the
+    /// tree over them.
     pub fn new(alloc: Global, leaves: Vec<[u8; 32]>) -> Result<Ways, OutOfMemory>
         requires least { 1 ≤ length leaves.items }
-        requires most { length leaves.items ≤ 1024 }
+        requires most { length leaves.items < 2 ^ 32 }
         ensures { IfOk result (λ ways. ways ≡ leaves.items) }
     {
-        let (paths, root) = paths_and_root(alloc, &leaves)?;
-        let depth = depth_of(&paths) as u32;
+        let tree = tree_over(alloc, &leaves)?;
+        let root = tree.root().unwrap();
+        // The path of the first leaf is the longest.
+        let longest = tree.path(alloc, 0, run_of(&leaves, 0))?;
         Ok(Ways {
             leaves,
-            paths,
+            tree,
             root: Digest::new(&root).unwrap(),
-            depth,
+            depth: longest.items().len() as u32 + 2,
         })
     }
 
@@ -67,20 +72,23 @@ impl Ways {
         self.root
     }
 
-    /// How many operations the longest way from a digest to the root has.
+    /// How many operations the longest way from a digest to the root has: 2, and 2 for each level of the
+    /// tree above its leaves.
     pub fn depth(&self) -> u32
         ensures depth { IsDepth self.now result }
-        ensures most { result ≤ 22 }
+        ensures most { result ≤ 66 }
+        ensures shallow { (h : ℕ) → length self.now ≤ 2 ^ h → result ≤ 2 * h + 2 }
     {
         self.depth
     }
 
-    /// The path of a leaf: the operations from it to the root.
-    pub fn path(&self, i: usize) -> &[Op]
+    /// The path of a leaf: the operations from it to the root. It takes some 100 hashes at most, however
+    /// many leaves there are.
+    pub fn path(&self, alloc: Global, i: usize) -> Result<Ops, OutOfMemory>
         requires { i < length self.now }
-        ensures { result.now ≡ path self.now i }
+        ensures { IfOk result (λ ops. ops ≡ path self.now i) }
     {
-        self.paths[i].items()
+        self.tree.path(alloc, i, run_of(&self.leaves, i))
     }
 
     /// The way from the digest of a leaf to the root: the leaf's nonce is put after the digest, that is
@@ -89,13 +97,11 @@ impl Ways {
         requires { i < length self.now }
         ensures { IfOk result (λ ops. ops ≡ way_from self.now i nonce.now) }
     {
-        let nonce = Arg::copy_of(alloc, nonce)?;
+        let path = self.path(alloc, i)?;
         let mut ops = Ops::new(alloc);
-        ops.push(Op::Append(nonce))?;
+        ops.push(Op::Append(Arg::copy_of(alloc, nonce)?))?;
         ops.push(Op::Sha256)?;
-        for op in self.path(i) {
-            ops.push(op.copy()?)?;
-        }
+        ops.extend(path.items())?;
         Ok(ops)
     }
 
@@ -130,23 +136,24 @@ pub fn leaf_of(digest: &[u8], nonce: &[u8; 16]) -> [u8; 32]
     hasher.finalize()
 }
 
-/// Two more than the length of the longest of these paths.
-fn depth_of(paths: &[Ops]) -> usize
-    ensures { IsLongest paths.now (length paths.now) result }
+/// The tree over these leaves.
+fn tree_over(alloc: Global, leaves: &[[u8; 32]]) -> Result<GrowingTree, OutOfMemory>
+    requires { length leaves.now < 2 ^ 32 }
+    ensures { IfOk result (λ tree. tree.leaves ≡ leaves.now) }
 {
-    let mut longest = 0;
-    for ops in paths {
-        longest = longer(longest, ops);
+    let mut tree = GrowingTree::new(alloc)?;
+    tree.reserve(leaves.len())?;
+    for leaf in leaves {
+        tree.push(*leaf)?;
     }
-    longest
+    Ok(tree)
 }
 
-/// The greater of a number and two more than the length of these operations.
-fn longer(longest: usize, ops: &Ops) -> usize
-    ensures above { longest ≤ result }
-    ensures fits { length ops.now + 2 ≤ result }
-    ensures which { (result ≡ longest) ⊎ (result ≡ length ops.now + 2) }
+/// The leaves of the run of a leaf: `RUN` of them, or as many as there are.
+fn run_of(leaves: &[[u8; 32]], i: usize) -> &[[u8; 32]]
+    requires { i < length leaves.now }
+    ensures { result.now ≡ take RUN (drop (RUN * (i / RUN)) leaves.now) }
 {
-    let length = ops.items().len() + 2;
-    if longest < length { length } else { longest }
+    let rest = &leaves[RUN * (i / RUN)..];
+    &rest[..rest.len().min(RUN)]
 }

@@ -1,0 +1,3 @@
+pub mod CalendarUrl
+pub mod UrlList
+pub mod inner

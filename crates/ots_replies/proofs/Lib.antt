@@ -1,0 +1,9 @@
+pub mod Blanks
+pub mod Digits
+pub mod Shapes
+pub mod Stored
+pub mod Ordered
+pub mod Found
+pub mod Taken
+pub mod Whole
+pub mod Bad
