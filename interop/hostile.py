@@ -41,7 +41,8 @@ one thread.
 runs a calendar of 16 workers under `ulimit -n 64`, and one under `ulimit -n 20`, among 200 silent connections, each begun
 anew when it is closed. The limit leaves room to hold only some of them, so the oldest are closed early, long before their
 10 seconds: 20 digests among them, and 20 once they are gone, are answered within two seconds each. They are sent with the
-connect: a good client whose request came later would be closed early too. It takes some ten seconds.
+connect: a good client whose request came more than four milliseconds later could be closed early too. It takes some ten
+seconds.
 
     interop/hostile.py --burst N
 

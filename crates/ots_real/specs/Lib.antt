@@ -1,4 +1,5 @@
 pub mod AcceptError
+pub mod Ahead
 pub mod Counting
 pub mod DirShelf
 pub mod FileCalls

@@ -1,7 +1,8 @@
 //! Connections that are held until they have said what they want.
+use crate::ahead::Ahead;
 use crate::conversation::MAX_HELD;
-use crate::looking::{Heard, look};
-use libc::net::{POLLIN, POLLRDHUP, poll};
+use crate::heard::Heard;
+use libc::net::{POLLIN, poll};
 use libc::types::{pollfd, rlimit};
 use std::alloc::Global;
 use std::collections::VecDeque;
@@ -12,13 +13,12 @@ use std::time::{Duration, Instant};
 /// the listening socket, and a conversation with a calendar.
 const OTHER_FILES: usize = 32;
 
-/// The least time after which a connection that has sent a part of its head is looked at again, in
-/// milliseconds.
-const LOOK_PAUSE: i32 = 4;
+/// How long one that makes place for others is waited for, since it was accepted, in milliseconds: its head
+/// comes right after its connection, and a busy machine may be slower than that.
+const GRACE: u64 = 4;
 
-/// The part of its age after which such a connection is looked at again, so that one which drips is looked
-/// at some thirty times in all.
-const LOOK_PART: u32 = 4;
+/// The timeout of a wait that has none.
+const FOREVER: i32 = -1;
 
 /// The part of those that are held that goes where there are too many.
 const EVICTED_PART: usize = 16;
@@ -28,57 +28,28 @@ const EVICTED_PART: usize = 16;
 struct HeldStream<S> {
     stream: S,
     began: Instant,
-    looked: Instant,
-    has_part: bool,
+    heard: Heard,
 }
 
 impl<S: AsRawFd> HeldStream<S> {
-    /// Whether it is to be looked at again, though nothing new is known of it.
-    fn is_due(&self, now: Instant) -> bool {
-        let age = now.duration_since(self.began);
-        self.has_part && now.duration_since(self.looked) >= age / LOOK_PART
+    /// Takes what has come: whether it is to be served.
+    fn has_spoken(&mut self) -> bool {
+        self.heard.hear(&self.stream)
     }
 
-    /// What a wait is to find of it. What has come and was looked at would end each wait at once, so of
-    /// one that has sent a part only its end is waited for.
-    fn awaited(&self) -> i16 {
-        if self.has_part { POLLRDHUP } else { POLLIN }
-    }
-
-    /// How long to wait at most, in milliseconds, for it to send more or to have been held for the limit.
-    fn wait(&self, limit: Duration, now: Instant) -> i32 {
-        if self.has_part {
-            LOOK_PAUSE
-        } else {
-            time_left(self.began, limit, now)
+    /// Waits for it to send more, where it is young: whether it is to be served then.
+    fn has_spoken_soon(&mut self, now: Instant) -> bool {
+        let grace = Duration::from_millis(GRACE);
+        if now.duration_since(self.began) < grace {
+            let wait = time_left(self.began, grace, now);
+            poll(&mut [awaited(&self.stream)], wait);
         }
-    }
-
-    /// Looks at what has come: whether that is enough.
-    fn has_spoken(&mut self, now: Instant) -> bool {
-        let heard = look(&self.stream);
-        self.has_part = heard == Heard::Part;
-        self.looked = now;
-        heard == Heard::Enough
-    }
-
-    /// The same where a wait found something of it: of one that has sent a part that is its end or an
-    /// error, which comes with the part again and again.
-    fn has_spoken_or_ended(&mut self, now: Instant) -> bool {
-        self.has_part || self.has_spoken(now)
-    }
-
-    /// Whether it is to be served: it was held for the limit, or it has spoken, by what a wait found of it
-    /// or since it is due.
-    fn is_to_be_served(&mut self, is_found: bool, limit: Duration, now: Instant) -> bool {
-        now.duration_since(self.began) >= limit
-            || is_found && self.has_spoken_or_ended(now)
-            || self.is_due(now) && self.has_spoken(now)
+        self.has_spoken()
     }
 
     fn spoken(self, is_over: bool) -> Spoken<S> {
         Spoken {
-            stream: self.stream,
+            stream: Ahead::new(self.heard.into_bytes(), self.stream),
             began: self.began,
             is_over,
         }
@@ -88,7 +59,7 @@ impl<S: AsRawFd> HeldStream<S> {
 /// A connection that is to be served.
 #[derive(Drop)]
 pub struct Spoken<S> {
-    pub stream: S,
+    pub stream: Ahead<S>,
     /// When it was accepted.
     pub began: Instant,
     /// Whether it is to be served as if its time were over, since others want its place.
@@ -104,6 +75,7 @@ pub struct Held<S> {
     /// Those that are to be served, in the order in which that was found.
     ready: VecDeque<Spoken<S>>,
     polled: Vec<pollfd>,
+    alloc: Global,
 }
 
 impl<S: AsRawFd + Drop> Held<S> {
@@ -113,6 +85,7 @@ impl<S: AsRawFd + Drop> Held<S> {
             silent: VecDeque::new(alloc),
             ready: VecDeque::new(alloc),
             polled: Vec::new(alloc),
+            alloc,
         }
     }
 
@@ -137,10 +110,9 @@ impl<S: AsRawFd + Drop> Held<S> {
         let mut held = HeldStream {
             stream,
             began: now,
-            looked: now,
-            has_part: false,
+            heard: Heard::new(self.alloc),
         };
-        if held.has_spoken(now) {
+        if held.has_spoken() {
             return Some(held.spoken(false));
         }
         match self.silent.push_back(held) {
@@ -158,11 +130,14 @@ impl<S: AsRawFd + Drop> Held<S> {
         }
     }
 
-    /// Answers the oldest connection as if its time were over, and puts a part of the next ones to those
-    /// that are to be served, as over too: where one place is wanted more mostly are, and each time a look
-    /// at all that are held was made.
-    pub fn evict(&mut self) -> Option<Spoken<S>> {
-        let oldest = self.silent.pop_front()?;
+    /// Answers the oldest connection, as if its time were over where it has not spoken by now, and puts a part
+    /// of the next ones to those that are to be served, as over too: where one place is wanted more mostly are,
+    /// and each time a look at all that are held was made.
+    pub fn evict(&mut self, now: Instant) -> Option<Spoken<S>> {
+        let mut oldest = self.silent.pop_front()?;
+        if oldest.has_spoken_soon(now) {
+            return Some(oldest.spoken(false));
+        }
         let more = self.silent.len() / EVICTED_PART;
         if self.ready.reserve(more).is_ok() {
             for next in self.silent.drain(..more) {
@@ -184,26 +159,25 @@ impl<S: AsRawFd + Drop> Held<S> {
         {
             return false;
         }
-        let _ = self.polled.push(awaited(listener.as_raw_fd(), POLLIN));
-        let mut wait = i32::MAX;
+        let _ = self.polled.push(awaited(listener));
         for held in &self.silent {
-            let _ = self
-                .polled
-                .push(awaited(held.stream.as_raw_fd(), held.awaited()));
-            wait = wait.min(held.wait(limit, now));
+            let _ = self.polled.push(awaited(&held.stream));
         }
+        let wait = match self.silent.front() {
+            Some(oldest) => time_left(oldest.began, limit, now),
+            None => FOREVER,
+        };
         poll(&mut self.polled, wait);
         has_come(&self.polled, 0)
     }
 
-    /// Puts those that are to be served, of those that the last wait found something of, those that are due
-    /// to be looked at and those that were held for the limit, to the others that are. It answers one for
-    /// which there is no memory.
+    /// Puts those that are to be served, of those that the last wait found something of and those that were
+    /// held for the limit, to the others that are. It answers one for which there is no memory.
     pub fn sort(&mut self, limit: Duration, now: Instant) -> Option<Spoken<S>> {
         for place in 0..self.silent.len() {
             let mut held = self.silent.pop_front()?;
             let is_found = has_come(&self.polled, place.saturating_add(1));
-            if held.is_to_be_served(is_found, limit, now) {
+            if now.duration_since(held.began) >= limit || is_found && held.has_spoken() {
                 if let Some(spoken) = self.put(held.spoken(false)) {
                     return Some(spoken);
                 }
@@ -218,7 +192,7 @@ impl<S: AsRawFd + Drop> Held<S> {
 
 /// Waits until a connection comes.
 pub fn wait_for_one<L: AsRawFd>(listener: &L) {
-    poll(&mut [awaited(listener.as_raw_fd(), POLLIN)], -1);
+    poll(&mut [awaited(listener)], FOREVER);
 }
 
 /// Whether a wait found at this place something of what it was asked for.
@@ -229,10 +203,11 @@ fn has_come(polled: &[pollfd], place: usize) -> bool {
     }
 }
 
-fn awaited(fd: i32, events: i16) -> pollfd {
+/// What a wait is to find of a socket.
+fn awaited<S: AsRawFd>(socket: &S) -> pollfd {
     pollfd {
-        fd,
-        events,
+        fd: socket.as_raw_fd(),
+        events: POLLIN,
         revents: 0,
     }
 }

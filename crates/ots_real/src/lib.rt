@@ -23,15 +23,16 @@
 #![tactic(auto)]
 
 mod accept_error;
+mod ahead;
 mod call_record;
 mod conversation;
 mod counted;
 mod dir_shelf;
 mod file_log;
 mod file_size;
+mod heard;
 mod held;
 mod inherited;
-mod looking;
 mod new_file;
 mod open_file;
 mod reserve;

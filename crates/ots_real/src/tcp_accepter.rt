@@ -8,6 +8,7 @@ ghost use Rattle.ots_real.specs.Sockets.{reply_limit, request_limit, write_limit
 ghost use Rattle.ots_real.specs.TimeLimit.{BeganWithin, IsUnbegun};
 
 use crate::accept_error::AcceptError;
+use crate::ahead::Ahead;
 use crate::conversation::{LISTEN_QUEUE, REPLY_SECONDS, REQUEST_SECONDS};
 use crate::held::{Held, Spoken, most_held, wait_for_one};
 use crate::inherited::Inherited;
@@ -122,7 +123,7 @@ impl<R: Net + Clock + Copy> TcpAccepter<R> {
     }
 
     /// A link over a connection that has spoken.
-    fn link(&self, spoken: Spoken<R::Stream>) -> TcpLink<R, R::Stream>
+    fn link(&self, spoken: Spoken<R::Stream>) -> TcpLink<R, Ahead<R::Stream>>
         ensures fresh { link_faults result ≡ 0 }
         ensures request { BeganWithin (request_limit self.now) (read_limit result) }
         ensures reply { IsUnbegun (reply_limit self.now) (write_limit result) }
@@ -187,7 +188,7 @@ where
 {
     let most = most_held(served);
     if held.has(most) {
-        return Ok(held.evict());
+        return Ok(held.evict(Instant::now(clock)?));
     }
     listener.set_nonblocking(true)?;
     let taken = take_several(clock, listener, held, most);
@@ -225,7 +226,7 @@ where
         }
         match AcceptError::of(&error) {
             AcceptError::OfOneConnection => {}
-            AcceptError::Short => return Ok(held.evict()),
+            AcceptError::Short => return Ok(held.evict(Instant::now(clock)?)),
             AcceptError::Other => return Err(error),
         }
     }
@@ -265,7 +266,7 @@ impl<R: Net + Clock + Copy + Send> Accepter for TcpAccepter<R>
 where
     R::Stream: Send,
 {
-    type Link = TcpLink<R, R::Stream>;
+    type Link = TcpLink<R, Ahead<R::Stream>>;
 
     ghost use Rattle.std.specs.Prelude.{None};
     ghost use Rattle.ots_real.specs.Sockets.{accept_count, accept_faults};
@@ -302,7 +303,7 @@ where
         }
     }
 
-    fn accept(&mut self) -> Result<Option<TcpLink<R, R::Stream>>, Failed>
+    fn accept(&mut self) -> Result<Option<TcpLink<R, Ahead<R::Stream>>>, Failed>
         ensures some { IfOk result IsSome }
         ensures fresh { IfAccepted result (λ link. link_faults link ≡ 0) }
         ensures request { IfAccepted result (λ link. BeganWithin (request_limit self.old) (read_limit link)) }
@@ -332,7 +333,7 @@ where
         }
     }
 
-    fn give_back(&mut self, link: TcpLink<R, R::Stream>) {
+    fn give_back(&mut self, link: TcpLink<R, Ahead<R::Stream>>) {
         self.served = self.served.saturating_sub(1);
         link.drain(self.rt);
     }

@@ -59,12 +59,17 @@ fn take_spoken<A: Accepter>(
     Ok(())
 }
 
-/// Sends a head on each connection.
-fn speak(streams: &mut Vec<TcpStream>) -> Result<(), Fail> {
+/// Sends these bytes on each connection.
+fn send(streams: &mut Vec<TcpStream>, bytes: &[u8]) -> Result<(), Fail> {
     for stream in streams {
-        stream.write_all(HEAD)?;
+        stream.write_all(bytes)?;
     }
     Ok(())
+}
+
+/// Sends a head on each connection.
+fn speak(streams: &mut Vec<TcpStream>) -> Result<(), Fail> {
+    send(streams, HEAD)
 }
 
 /// The next link gives these bytes, and no more.
@@ -111,9 +116,7 @@ fn what_came_in_time_is_read_after_it(rt: HostRuntime) -> Result<(), Fail> {
     let mut accepter = TcpAccepter::with_limits(&rt, rt.alloc(), limit, limit);
     let port = listen_from(&mut accepter, 48_800)?;
     let mut streams = connect(&rt, port, 1)?;
-    for stream in &mut streams {
-        stream.write_all(b"ab")?;
-    }
+    send(&mut streams, b"ab")?;
     take_part(&rt, &mut accepter, b"ab")?;
     drop(streams);
     Ok(())
@@ -134,9 +137,7 @@ fn what_ends_or_begins_no_head_is_not_held(rt: HostRuntime) -> Result<(), Fail> 
     let began = Instant::now(&rt)?;
     for bytes in [b"ab", b"\x16\x03"] {
         let mut streams = connect(&rt, port, 1)?;
-        for stream in &mut streams {
-            stream.write_all(bytes)?;
-        }
+        send(&mut streams, bytes)?;
         // The first one is closed, with a part of a head.
         if bytes == b"ab" {
             streams.clear();
@@ -144,6 +145,26 @@ fn what_ends_or_begins_no_head_is_not_held(rt: HostRuntime) -> Result<(), Fail> 
         take_bytes(&rt, &mut accepter, bytes)?;
     }
     assert!(rt; began.elapsed(&rt)? < Duration::from_secs(3));
+    Ok(())
+}
+
+#[test]
+fn a_head_in_pieces_is_given_whole(rt: HostRuntime) -> Result<(), Fail> {
+    let mut accepter = TcpAccepter::new(&rt, rt.alloc());
+    let port = listen_from(&mut accepter, 49_400)?;
+    let much = vec![in rt.alloc(); b'a'; 2_500]?;
+    let mut slow = connect(&rt, port, 1)?;
+    send(&mut slow, b"GET / HTTP/1.1\r\nA: ")?;
+    send(&mut slow, &much)?;
+    let mut spoken = connect(&rt, port, 1)?;
+    speak(&mut spoken)?;
+    // The first one is held with the part that came.
+    take_spoken(&rt, &mut accepter, 0, 1)?;
+    send(&mut slow, b"b\r\n\r\nbody")?;
+    let mut link = next_link(&mut accepter)?;
+    assert!(rt; gives_next(&mut link, b"GET / HTTP/1.1\r\nA: ") && gives_next(&mut link, &much));
+    assert!(rt; gives_next(&mut link, b"b\r\n\r\nbody"));
+    accepter.give_back(link);
     Ok(())
 }
 
