@@ -1,0 +1,4 @@
+pub mod Files
+pub mod Drawing
+pub mod Writing
+pub mod Drafts

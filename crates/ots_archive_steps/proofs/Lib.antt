@@ -1,0 +1,5 @@
+pub mod Ending
+pub mod Turns
+pub mod Listed
+pub mod Lists
+pub mod Items

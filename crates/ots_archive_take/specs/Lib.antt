@@ -1,0 +1,5 @@
+pub mod Names
+pub mod Counting
+pub mod Making
+pub mod Taking
+pub mod Takes

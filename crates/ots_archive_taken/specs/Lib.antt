@@ -1,0 +1,4 @@
+pub mod As
+pub mod Given
+pub mod Taken
+pub mod inner

@@ -1,0 +1,4 @@
+-- What only the code and its proofs cite.
+pub mod Giving
+pub mod Making
+pub mod Telling

@@ -1,0 +1,9 @@
+pub mod AfterOps
+pub mod Founded
+pub mod Gathers
+pub mod Leads
+pub mod Lists
+pub mod OneDraft
+pub mod PostUris
+pub mod Takes
+pub mod Waiting

@@ -1,0 +1,2 @@
+pub mod RequestSet
+pub mod inner
