@@ -1,0 +1,6 @@
+mod Kept
+mod Turns
+mod Sheets
+mod Counts
+mod OneTotal
+mod Files

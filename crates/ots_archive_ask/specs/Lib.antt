@@ -1,0 +1,4 @@
+pub mod Total
+pub mod Sheet
+pub mod Asks
+pub mod inner
