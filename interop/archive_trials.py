@@ -15,7 +15,7 @@ sheets    SHEETS sheets of replies, each a good one in which bytes or lines were
           sum of what is there then. Each is taken exactly where it is how its replies are spelled, and what is told of
           one that is not taken, and of what was taken, is compared.
 
-It drives the programs of crates/ots_archive_rows and crates/ots_client_rows, as `rt run` or `rt ci` builds them there. All
+It drives the programs of crates/ots_archive_rows and crates/ots_client_rows, as `./run` builds them in build/. All
 that they answer is compared with the models of archive_model.py and client_rows.py too. It prints how often each came, and
 ends with status 1 at a difference. It is run by hand, and takes some minutes.
 """
@@ -32,7 +32,7 @@ from client_rows import PENDING, SHA256, Script, canonical, pending_pairs, spell
 from stamps import root, sha256
 from upgrades import BITCOIN, OTHER, counted, number, some_tree, spelled
 
-CRATES = os.path.join(os.path.dirname(os.path.dirname(os.path.abspath(__file__))), 'crates')
+BUILD = os.path.join(os.path.dirname(os.path.dirname(os.path.abspath(__file__))), 'build')
 
 CALENDARS = ['http://a.example', 'http://b.example:8080', 'http://c.example']
 OTHERS = ['https://d.example', 'http://later.example']
@@ -49,9 +49,9 @@ class Driver:
     """A program that runs rows, its model, and the lines for both."""
 
     def __init__(self, crate, model):
-        self.program = os.path.join(CRATES, crate, 'out', crate)
+        self.program = os.path.join(BUILD, crate)
         if not os.access(self.program, os.X_OK):
-            sys.exit(f'{self.program} is not there: rt run in crates/{crate} builds it')
+            sys.exit(f'{self.program} is not there: ./run {crate} < /dev/null builds it')
         self.model, self.lines = model, []
 
     def read(self, *lines):

@@ -3,8 +3,7 @@
 
     interop/memory_runs.py [WORD..]     the runs whose names have one of these words in them; without words, all
 
-runs the programs of crates/ots_client_rows, ots_store_rows and ots_calendar_rows, as `rt run` or `rt ci` builds them
-there, over the library of mirror_memory.py, in which one call of malloc or realloc fails: the first, then the second,
+runs the programs of crates/ots_client_rows, ots_store_rows, ots_calendar_rows and ots_archive_rows, as `./run` builds them, over the library of mirror_memory.py, in which one call of malloc or realloc fails: the first, then the second,
 up to the last. The scripts below name the bytes that the rows of these crates name. What a run is to answer with enough
 memory is said by the models of the rows.
 
@@ -22,12 +21,14 @@ import subprocess
 import sys
 import tempfile
 
+import archive_rows
 import calendar_rows
 import client_rows
 import store_rows
 from mirror_memory import LIBRARY
 
-CRATES = os.path.join(os.path.dirname(os.path.dirname(os.path.abspath(__file__))), 'crates')
+TOP = os.path.dirname(os.path.dirname(os.path.abspath(__file__)))
+CRATES = os.path.join(TOP, 'crates')
 ROW, WANT, READER, OTHER = 'the row', 'want of memory', 'the reader of the script', 'other'
 
 STAMP = 'ots stamp --calendars http://127.0.0.1:14788,http://127.0.0.1:14789 --min 1 a b c'
@@ -93,13 +94,35 @@ STORE = {
                                      'entries 1 01*44 ; 1 02*44\nstate',
 }
 
+# Scripts of the archive: what there is, one run, and what it is to have made.
+ARCHIVE = {
+    'archive: draft': 'file a "contents of a"\nfile b "contents of b"\noutput a.draft b.draft\nnonces $FIRST $SECOND\n'
+                      'otsarchive draft --calendars http://a.example,https://b.example a b',
+    'archive: draft of sums': 'file s $A "  a\\n" $B " *b\\n"\noutput a.draft b.draft\nnonces $FIRST $SECOND\n'
+                              'otsarchive draft --calendars http://a.example --sums s',
+    'archive: ask': 'file a.draft $DRAFT_OF_A\nfile p $HEAD_B 08 ff $AT_A $AT_B\noutput r\n'
+                    'otsarchive ask --calendars http://a.example,https://b.example r a.draft p x',
+    'archive: ask for sums': 'file a.draft $DRAFT_OF_A\nfile b.ots $HEAD_B 08 ff $AT_A $AT_B\nfile s $A "  a\\n" $B " *b\\n"\n'
+                             'output r\notsarchive ask --calendars http://a.example --sums s r',
+    'archive: take a draft': 'file a.draft $DRAFT_OF_A\noutput d/a.ots\n'
+                             'sheet r $POST_A " 200 " $LATER "\\n" $POST_B " 200 " $HASHED_TO_9 "\\n"\n'
+                             'otsarchive take --min 2 --into d r a.draft',
+    'archive: take a proof': 'file p $HEAD_B 08 ff $AT_A $AT_B\noutput d/p\n'
+                             'sheet r "get http://a.example " $MESSAGE_B " 200 " $BLOCK_7 "\\n"\n'
+                             'otsarchive take --min 1 --into d r p x',
+}
+
 
 # ---- scripts
+
+# How a line begins that names bytes.
+NAMING = ('let ', 'text ', 'sha256 ', 'hex ')
+
 
 def named(crate, script):
     """A script after the lines of its crate that name the bytes which it uses."""
     with open(os.path.join(CRATES, crate, 'stdin'), encoding='utf8') as lines:
-        naming = [line.rstrip('\n') for line in lines if line.startswith(('let ', 'text '))]
+        naming = [line.rstrip('\n') for line in lines if line.startswith(NAMING)]
     wanted, taken = set(re.findall(r'\$(\w+)', script)), []
     for line in reversed(naming):
         name = line.split()[1]
@@ -122,6 +145,13 @@ def of_calendar(script):
 
 def of_store(script):
     return store_rows.transcript(script)
+
+
+def of_archive(script):
+    model = archive_rows.ArchiveScript()
+    for line in script.splitlines():
+        model.read(line)
+    return ''.join(line + '\n' for line in model.said)
 
 
 # ---- what a run is to answer where it answers want of memory
@@ -184,6 +214,17 @@ def is_calendar_short(script, text, wanted):
                                                            split_at(untouched, LISTED)[1]))
 
 
+def is_archive_short(script, text, wanted):
+    """Whether a run of the archive answers want of memory, and leaves of its outputs prefixes."""
+    run = next(line for line in script.splitlines() if line.startswith('otsarchive '))
+    (before, found, after), (same, whole, rest) = split_at(text, run), split_at(wanted, run)
+    sizes = [{line.rpartition(' ')[0]: int(line.rpartition(' ')[2]) for line in lines if line.startswith('+ ')}
+             for lines in (found, whole)]
+    printed = [[line for line in lines[:-1] if not line.startswith('+ ')] for lines in (found, whole)]
+    return (before == same and found[-1].startswith('= 20') and is_text_cut(*printed) and after == rest
+            and all(size <= sizes[1].get(name, -1) for name, size in sizes[0].items()))
+
+
 LISTED = 'otsd j list'
 
 
@@ -238,16 +279,17 @@ def is_store_short(script, text, _):
 Form = collections.namedtuple('Form', 'crate scripts end model is_short places')
 FORMS = [Form('ots_client_rows', CLIENT, '', of_client, is_client_short, {}),
          Form('ots_calendar_rows', CALENDAR, f'\nkeep\n{LISTED}', of_calendar, is_calendar_short, CALENDAR_BYTES),
-         Form('ots_store_rows', STORE, '', of_store, is_store_short, STORE_BYTES)]
+         Form('ots_store_rows', STORE, '', of_store, is_store_short, STORE_BYTES),
+         Form('ots_archive_rows', ARCHIVE, '', of_archive, is_archive_short, {})]
 
 
 class Program:
     """The program of a crate of rows over the preloaded library."""
 
     def __init__(self, crate, library):
-        self.path, self.library = os.path.join(CRATES, crate, 'out', crate), library
+        self.path, self.library = os.path.join(TOP, 'build', crate), library
         if not os.path.exists(self.path):
-            sys.exit(f'{self.path} is not built')
+            sys.exit(f'{self.path} is not there: ./run {crate} < /dev/null builds it')
 
     def run(self, script, fails):
         """Its status, what it wrote, and how many allocations it made where none fails; this one fails, or none for 0."""
