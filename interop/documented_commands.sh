@@ -3,8 +3,9 @@
 #     interop/documented_commands.sh [PREFIX]
 # README.md, docs/GUIDE.md, docs/FORMAT.md, docs/HTTP.md, docs/OPERATOR.md: in a block between ``` a line that begins with "$ " is a command,
 # and the lines after it, up to the next one, are what it prints. A block of the language sh is one command;
-# its lines "# prints TEXT" are what it prints. Blocks that ask a node are left out. man/ots.1, man/otsd.1, man/otsmirror.1 and
-# man/otsgate.1: the same of their literal blocks. The programs have to be built (./run ots, otsd, otsmirror, otsgate); xxd, openssl and curl have to be there. It ends with 0 where
+# its lines "# prints TEXT" are what it prints. Blocks that ask a node are left out. man/ots.1, man/otsd.1, man/otsmirror.1,
+# man/otsgate.1 and man/otsarchive.1: the same of their literal blocks. The programs have to be built (./run ots, otsd, otsmirror,
+# otsgate, otsarchive); xxd, openssl and curl have to be there. It ends with 0 where
 # all is as written, with 1 on a difference, and with 70 where the program is not there.
 # Where PREFIX is given, as where a package was unpacked, the programs of PREFIX/bin run, by that path, the commands of the
 # man pages below PREFIX/share/man. The client there is gahopiki-ots: another program may be called ots.
@@ -19,7 +20,7 @@ file_of() {
     if [ -n "$prefix" ] && [ "$1" = ots ]; then echo gahopiki-ots; else echo "$1"; fi
 }
 
-for program in ots otsd otsmirror otsgate; do
+for program in ots otsd otsmirror otsgate otsarchive; do
     if [ ! -x "$bin/$(file_of $program)" ]; then
         echo "$bin/$(file_of $program) is not there: ./run $program builds build/$program" >&2
         exit 70
@@ -87,7 +88,7 @@ make_folder() {
     cp "$top/examples/headers" "$1/headers"
     cp "$top/examples/coinbase" "$1/file"
     cp "$top/examples/coinbase.ots" "$1/file.ots"
-    for program in ots otsd otsmirror otsgate; do
+    for program in ots otsd otsmirror otsgate otsarchive; do
         ln -s "$bin/$(file_of $program)" "$1/bin/$program"
     done
     for script in run install; do
@@ -133,7 +134,7 @@ try_page() {
 cd "$top" || exit 70
 if [ -n "$prefix" ]; then
     mkdir "$work/pages" || exit 70
-    for program in ots otsd otsmirror otsgate; do
+    for program in ots otsd otsmirror otsgate otsarchive; do
         gzip -dc "$prefix/share/man/man1/$(file_of $program).1.gz" >"$work/pages/$program.1" || exit 70
         try_page "$work/pages/$program.1" examples
     done
@@ -142,7 +143,7 @@ else
         [ $page = README ] || page=docs/$page
         try_page $page.md .
     done
-    for program in ots otsd otsmirror otsgate; do
+    for program in ots otsd otsmirror otsgate otsarchive; do
         try_page man/$program.1 examples
     done
 fi

@@ -297,10 +297,10 @@ check 'the vectors are those of the second reader' sh -c \
 
 # What each program names of the C library is there in the version that the package wants, and it names no other library.
 if command -v objdump > /dev/null; then
-    wanted=$(for program in gahopiki-ots otsd otsmirror otsgate; do objdump -T "$root/usr/bin/$program"; done |
+    wanted=$(for program in gahopiki-ots otsd otsmirror otsgate otsarchive; do objdump -T "$root/usr/bin/$program"; done |
         grep -o 'GLIBC_2[0-9.]*' | sed 's/GLIBC_//' | sort -V | tail -n 1)
     check 'Depends names the version of the C library' same "$(dpkg-deb -f "$deb" Depends)" "libc6 (>= $wanted)"
-    libraries=$(for program in gahopiki-ots otsd otsmirror otsgate; do objdump -p "$root/usr/bin/$program"; done |
+    libraries=$(for program in gahopiki-ots otsd otsmirror otsgate otsarchive; do objdump -p "$root/usr/bin/$program"; done |
         sed -n 's/^ *NEEDED *//p' | grep -v -x -e 'libc\.so\.6' -e 'libm\.so\.6' -e 'libpthread\.so\.0' -e 'libdl\.so\.2' \
             -e 'librt\.so\.1' -e 'ld-linux-x86-64\.so\.2')
     check 'no library of another package is needed' same "$libraries" ''
@@ -322,7 +322,7 @@ check 'its files are those of the package' same \
 part='a dead link'
 git clone -q "$top" "$work/clone" || exit 70
 mkdir "$work/clone/build"
-for program in ots otsd otsmirror otsgate; do
+for program in ots otsd otsmirror otsgate otsarchive; do
     echo GLIBC_2.34 > "$work/clone/build/$program"
     chmod 755 "$work/clone/build/$program"
 done
@@ -354,6 +354,7 @@ ots usage: ots info, canon, merge, prune
 otsd usage: otsd JOURNAL
 otsmirror usage: otsmirror JOURNAL ADDRESS
 otsgate usage: otsgate --calendars
+otsarchive usage: otsarchive draft, ask
 END
 names='bin/ots share/man/man1/ots.1 share/bash-completion/completions/ots share/fish/vendor_completions.d/ots.fish'
 

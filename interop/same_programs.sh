@@ -1,5 +1,5 @@
 #!/bin/sh
-# Whether the four programs are the same bytes wherever and whenever they are built:
+# Whether the five programs are the same bytes wherever and whenever they are built:
 #     interop/same_programs.sh                   proves and builds them from nothing in two clones of this commit, in folders
 #                                                whose names have different lengths, and compares the two
 #     interop/same_programs.sh --audit           the same in one clone, and compares with the table of docs/AUDIT.md
@@ -8,7 +8,7 @@
 # words, and with what `rt ci` ends with where that fails. From nothing it takes hours: each clone proves all that the
 # programs stand on.
 set -u
-programs='ots otsd otsmirror otsgate'
+programs='ots otsd otsmirror otsgate otsarchive'
 top=$(CDPATH='' cd -- "$(dirname -- "$0")/.." && pwd) || exit 70
 work=
 trap '[ -z "$work" ] || rm -rf "$work"' EXIT
