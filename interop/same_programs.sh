@@ -56,7 +56,7 @@ compare() {
     one=$1
     other=$2
     shift 2
-    [ "$(grep -c . "$one")" = 4 ] || { echo "there are no sums of all programs in $*" >&2; return 1; }
+    [ "$(grep -c . "$one")" = "$(echo $programs | wc -w)" ] || { echo "there are no sums of all programs in $*" >&2; return 1; }
     if cmp -s "$one" "$other"; then
         sed "s|\$| the same: $*|" "$one"
         return 0
